@@ -1,0 +1,5 @@
+pub mod Party
+pub mod Tags
+pub mod Lines
+pub mod Ring
+pub mod Keys

@@ -1,0 +1,2 @@
+mod key_files;
+mod tags;

@@ -1,0 +1,5 @@
+pub mod Grammar
+pub mod Reading
+pub mod Checking
+pub mod Framing
+pub mod Equality

@@ -1,0 +1,7 @@
+use Rattle.std.proofs.Common.{◌≡◌, true, take}
+use Rattle.proposal_validity.specs.Standing.{standing}
+use Rattle.proposal_validity.specs.Course.{all_fit, items_of}
+use Rattle.proposal_validity.proofs.Frontier.all_fit.Given as goal
+
+abbrev pub invariant-loop-i : goal.invariant-loop-i
+invariant-loop-i l = all_fit (standing l.self) (items_of (take l.i l.txs)) ≡ true

@@ -1,0 +1,139 @@
+//! Which value may be delivered next.
+//!
+//! A client numbers its transactions 1, 2, .. and may close, after which it sends none. A delivered
+//! list keeps the clients' order if each client's transactions stand in it in that order. What has to
+//! be remembered of such a list is a frontier: each client's next number, and whether it closed.
+#![tactic(auto)]
+
+ghost use Rattle.std.specs.Prelude.{◌≡◌, ◌≤◌, ◌+◌, ◌^◌, ◌++◌, ℕ, [], List, All, IfOk, OnErr, OnOk, length, true};
+ghost use Rattle.transactions.specs.Grammar.{IsTx, IsValue};
+ghost use Rattle.protocol.specs.Values.{Item, item, items, valid};
+ghost use Rattle.proposal_validity.specs.Standing.{Standing, standing, IsFrontierOf, IsStanding};
+ghost use Rattle.proposal_validity.specs.Course.{after, all_fit, items_of};
+ghost use Rattle.proposal_validity.specs.Laws.{FrontierLaw, ValidLaw};
+
+mod standing;
+
+use standing::{Standing, grow, pass, past_last};
+use std::alloc::{AllocError, Global};
+use std::marker::Model;
+use transactions::{Tx, Value};
+
+/// For each client the number of its next transaction, and whether it has closed.
+///
+/// It stands for the delivered list that left it behind, and answers without it. It takes memory for
+/// the clients up to the highest that was ever delivered.
+#[derive(Debug, Drop)]
+pub struct Frontier {
+    standings: Vec<Standing>,
+}
+
+impl Model for Frontier {
+    ghost use Rattle.std.specs.Prelude.{All};
+    ghost use Rattle.proposal_validity.specs.Standing.{Standings, IsStanding};
+
+    ghost Value = { Standings };
+
+    ghost view = { λ a. a.standings.items };
+
+    ghost invariant = { λ a. All IsStanding a.standings.items };
+}
+
+impl Frontier {
+    /// What is left behind where nothing is delivered. It takes no memory.
+    pub fn new(alloc: Global) -> Frontier
+        ensures { IsFrontierOf [] result }
+    {
+        Frontier {
+            standings: Vec::new(alloc),
+        }
+    }
+
+    /// The number of the client's next transaction, 1 to 2^48 + 1: 1 for a client that has none.
+    pub fn next(&self, client: u16) -> u64
+        ensures next { result ≡ (standing self.now client).next }
+        ensures small { result ≤ 2 ^ 48 + 1 }
+    {
+        self.standing(client).next
+    }
+
+    /// Whether the client's close is delivered.
+    pub fn is_closed(&self, client: u16) -> bool
+        ensures { result ≡ (standing self.now client).closed }
+    {
+        self.standing(client).closed
+    }
+
+    /// Whether the value may be delivered next: whether each of its transactions is its client's next,
+    /// after those delivered and those before it in the value.
+    ///
+    /// It takes no memory, and compares each transaction with those before it.
+    pub fn valid(&self, value: &Value) -> bool
+        requires { IsValue value.now }
+        ensures { (d : List Item) → IsFrontierOf d self.now → result ≡ valid d value.now }
+    {
+        self.all_fit(value.txs.as_slice())
+    }
+
+    /// Delivers a value that is valid.
+    ///
+    /// It takes memory only where the value has a client above all that were delivered. Refused for
+    /// want of memory, the frontier is as before.
+    pub fn extend(&mut self, value: &Value) -> Result<(), AllocError>
+        requires spelled { IsValue value.now }
+        requires valid { (d : List Item) → IsFrontierOf d self.old → valid d value.now ≡ true }
+        ensures ok { OnOk result ((d : List Item) → IsFrontierOf d self.old → IsFrontierOf (d ++ items value.now) self.new) }
+        ensures err { OnErr result (self.new ≡ self.old) }
+    {
+        let txs = value.txs.as_slice();
+        grow(&mut self.standings, past_last(txs))?;
+        pass(&mut self.standings, txs);
+        Ok(())
+    }
+
+    /// An equal frontier, or want of memory.
+    pub fn copy(&self, alloc: Global) -> Result<Frontier, AllocError>
+        ensures { IfOk result (λ copy. copy ≡ self.now) }
+    {
+        Ok(Frontier {
+            standings: Vec::from_slice(alloc, self.standings.as_slice())?,
+        })
+    }
+
+    #[tactic(auto, unfolding(crate::specs::Standing::standing))]
+    fn standing(&self, client: u16) -> Standing
+        ensures standing { result ≡ standing self.now client }
+        ensures small { IsStanding result }
+    {
+        self.standings
+            .get(client as usize)
+            .copied()
+            .unwrap_or(Standing::FRESH)
+    }
+
+    fn all_fit(&self, txs: &[Tx]) -> bool
+        requires { All IsTx txs.now }
+        ensures { result ≡ all_fit (standing self.now) (items_of txs.now) }
+    {
+        for (i, tx) in txs.iter().enumerate() {
+            let standing = self.standing(tx.client).after(&txs[..i], tx.client);
+            if !standing.admits(tx) {
+                return false;
+            }
+        }
+        true
+    }
+}
+
+/// A list goes on in the clients' order exactly where each further transaction is its client's next.
+pub fn valid_law()
+    ensures { ValidLaw }
+{}
+
+/// Lists that leave the same frontier behind admit the same values next.
+pub fn frontier_law()
+    ensures { FrontierLaw }
+{}
+
+#[cfg(test)]
+mod tests;

@@ -1,0 +1,87 @@
+-- What the searches for the lowest and the highest round find, and when they find nothing.
+use Rattle.std.proofs.Common.{◌≡◌, ℕ, ◌⊎◌, inl, inr, Bool, true, false, cond, ◌&&◌, List, [], ◌∷◌, refl, sym, ◌∙◌, subst, arith, Option, Some, None, max, fold, option_map}
+use Rattle.std.proofs.lemmas.Bool.{and_parts, and_from, cases_Bool, cond_both, cases_lt}
+use Rattle.protocol.specs.Messages.{◌∈◌, Proposal}
+use Rattle.protocol.specs.Order.{is_sooner, sooner, soonest, higher, highest}
+use Rattle.protocol.proofs.Membership.{Passes}
+
+pub none_some : {X : Type 0} (x : X) → None ≡ Some x → ⊥
+none_some x e = cc
+
+pub option_map_none : {X Y : Type 0} (f : X → Y) (o : Option X) → option_map f o ≡ None → o ≡ None
+option_map_none f None e = refl
+option_map_none f (Some x) e = absurd (none_some (f x) (sym e))
+
+-- ---- the lowest
+
+soonest_from : (test : Proposal → Bool) (best : Option Proposal) (qs : List Proposal) (q : Proposal) → fold (sooner test) best qs ≡ Some q → (best ≡ Some q) ⊎ Passes test qs q
+soonest_from test best [] q e = inl e
+soonest_from test best (x ∷ qs) q e = elim (soonest_from test (sooner test best x) qs q e) [
+  | inl k ↦ cond_both (test x && is_sooner x best) (Some x) best (λ o. o ≡ Some q → (best ≡ Some q) ⊎ Passes test (x ∷ qs) q)
+      (λ t l. let same : x ≡ q = cc in inr (record { there = inl (sym same); passes = subst (λ a. test a ≡ true) same (and_parts _ _ t).0 }))
+      (λ _ l. inl l) k
+  | inr k ↦ inr (record { there = inr k.there; passes = k.passes })
+]
+
+pub soonest_passes : (test : Proposal → Bool) (qs : List Proposal) (q : Proposal) → soonest test qs ≡ Some q → Passes test qs q
+soonest_passes test qs q e = elim (soonest_from test None qs q e) [ inl k ↦ absurd (none_some q k) | inr k ↦ k ]
+
+-- nothing was found before, and none of these passes
+record NoneFrom (test : Proposal → Bool) (best : Option Proposal) (qs : List Proposal) : Type 0 where
+  before : best ≡ None
+  each : (q : Proposal) → q ∈ qs → test q ≡ true → ⊥
+
+none_from : (test : Proposal → Bool) (best : Option Proposal) (qs : List Proposal) → fold (sooner test) best qs ≡ None → NoneFrom test best qs
+none_from test best [] e = record { before = e; each = λ q i. absurd i }
+none_from test best (x ∷ qs) e =
+    let k = none_from test (sooner test best x) qs e in
+    cond_both (test x && is_sooner x best) (Some x) best (λ o. o ≡ None → NoneFrom test best (x ∷ qs))
+    (λ _ l. absurd (none_some x (sym l)))
+    (λ t l. record {
+      before = l;
+      each = λ q i p. elim i [
+        | inl same ↦ (
+            let passes : test x ≡ true = subst (λ a. test a ≡ true) same p in
+            let first : is_sooner x best ≡ true = subst (λ o. is_sooner x o ≡ true) (sym l) refl in
+            let both = and_from (test x) (is_sooner x best) passes first in
+            let f : true ≡ false = sym both ∙ t in cc)
+        | inr j ↦ k.each q j p
+      ];
+    }) k.before
+
+pub soonest_none : (test : Proposal → Bool) (qs : List Proposal) → soonest test qs ≡ None → (q : Proposal) → q ∈ qs → test q ≡ true → ⊥
+soonest_none test qs e = (none_from test None qs e).each
+
+-- ---- the highest
+
+abbrev taking : (ℕ → Bool) → Option ℕ → ℕ → Option ℕ
+taking test best r = cond (test r) (Some (higher best r)) best
+
+abbrev IsGood : (ℕ → Bool) → Option ℕ → Type 0
+IsGood test None = Unit {0}
+IsGood test (Some r) = test r ≡ true
+
+either_max : (a b : ℕ) → (max a b ≡ a) ⊎ (max a b ≡ b)
+either_max a b = elim (cases_lt a b) [ inl k ↦ inr (omega arith) | inr k ↦ inl (omega arith) ]
+
+higher_good : (test : ℕ → Bool) (best : Option ℕ) (r : ℕ) → IsGood test best → test r ≡ true → test (higher best r) ≡ true
+higher_good test None r g t = t
+higher_good test (Some b) r g t = elim (either_max b r) [ inl e ↦ subst (λ n. test n ≡ true) (sym e) g | inr e ↦ subst (λ n. test n ≡ true) (sym e) t ]
+
+highest_good : (test : ℕ → Bool) (best : Option ℕ) (rs : List ℕ) → IsGood test best → IsGood test (fold (taking test) best rs)
+highest_good test best [] g = g
+highest_good test best (r ∷ rs) g = highest_good test (taking test best r) rs (cond_both (test r) (Some (higher best r)) best (IsGood test) (λ t. higher_good test best r g t) (λ _. g))
+
+pub highest_passes : (test : ℕ → Bool) (rs : List ℕ) (r : ℕ) → highest test rs ≡ Some r → test r ≡ true
+highest_passes test rs r e = subst (IsGood test) e (highest_good test None rs tt)
+
+some_stays : (test : ℕ → Bool) (b : ℕ) (rs : List ℕ) → fold (taking test) (Some b) rs ≡ None → ⊥
+some_stays test b [] e = none_some b (sym e)
+some_stays test b (r ∷ rs) e = cond_both (test r) (Some (higher (Some b) r)) (Some b) (λ o. fold (taking test) o rs ≡ None → ⊥) (λ _. some_stays test (higher (Some b) r) rs) (λ _. some_stays test b rs) e
+
+pub highest_none : (test : ℕ → Bool) (rs : List ℕ) → highest test rs ≡ None → (r : ℕ) → r ∈ rs → test r ≡ true → ⊥
+highest_none test [] e r i t = absurd i
+highest_none test (x ∷ rs) e r i t = cond_both (test x) (Some x) None (λ o. (o ≡ None → test x ≡ false) → fold (taking test) o rs ≡ None → ⊥)
+    (λ _ _ l. some_stays test x rs l)
+    (λ f _ l. elim i [ inl same ↦ (let p : test x ≡ true = subst (λ n. test n ≡ true) same t in let g : true ≡ false = sym p ∙ f in cc) | inr j ↦ highest_none test rs l r j t ])
+    (λ l. elim (cases_Bool (test x)) [ inl p ↦ absurd (let q : cond (test x) (Some x) None ≡ None = l in let s : Some x ≡ None = rw p at q in none_some x (sym s)) | inr p ↦ p ]) e

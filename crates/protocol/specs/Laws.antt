@@ -1,0 +1,153 @@
+-- The theorems.
+use Rattle.std.specs.Prelude.{◌≡◌, ℕ, suc, ◌+◌, ◌*◌, ◌^◌, ◌<◌, ◌≤◌, Ok, Bool, true, false, Option, Some, None, ◌⊎◌, ◌↔◌, List, [], ◌∷◌, ◌++◌, length, map, flat_map, reverse, ◌==◌}
+use Rattle.std.specs.List.{list_any}
+use Rattle.powers.specs.Power.{FewLie, IsQuorum}
+use Rattle.messages.specs.Grammar.{body_spelling, IsBody}
+use Rattle.messages.specs.Framing.{message_of, frame_spelling, IsMessage}
+use Rattle.protocol.specs.Values.{Id, id, Item, of, in_turn}
+use Rattle.protocol.specs.Tags.{Setting, right}
+use Rattle.protocol.specs.Messages.{◌∈◌, Body, sender_of, tagged, Bundle, Signed, Vote, OfVote, prevote, precommit, Step, Precommit, step_number, step_of, Record, Own, Decided}
+use Rattle.protocol.specs.Restart.{height_of, delivered_of, lock_of, last_place}
+use Rattle.protocol.specs.State.{State, Node, Rule, Timeout, DecideByBundle, TimedOut}
+use Rattle.protocol.specs.Rules.{holds}
+use Rattle.protocol.specs.Refusals.{Refusal, RoundLimit, answer, refusal_number, context, first_cause, judge_causes}
+use Rattle.protocol.specs.Calls.{timeout_answer}
+use Rattle.protocol.specs.Arrivals.{arrival, nothing}
+use Rattle.protocol.specs.World.{World, Event, Comes, Fires, beginning, run, tried, delivered}
+use Rattle.protocol.specs.History.{Input, Settle, Given, Due, after, replay}
+use Rattle.protocol.specs.Reports.{Told, Answered, bodies, by_event, tells, decisions_in, decisions, account, unreported, report}
+use Rattle.protocol.specs.Premises.{Honesty, Unforged, Distinct, IsCorrect, IsSaved, Begins}
+
+-- the place of a message within its height
+abbrev pub place : Step → ℕ → ℕ
+place step round = 3 * round + step_number step
+
+abbrev pub IsAfter : Option (ℕ × Step) → ℕ → Step → Type 0
+IsAfter None round step = Unit {0}
+IsAfter (Some last) round step = place last.1 last.0 < place step round
+
+-- Within each height the (round, step) pairs grow, and each record is of the height of the decisions before it.
+abbrev pub Grows : List Record → Type 0
+Grows [] = Unit {0}
+Grows (Own h r act ∷ rest) = (h ≡ height_of rest) × IsAfter (last_place rest) r (step_of act) × Grows rest
+Grows (Decided b ∷ rest) = (b.height ≡ height_of rest) × Grows rest
+
+abbrev pub OneVoteLaw : Type 0
+OneVoteLaw = (c : Setting) (events : List Event) (p : ℕ) → Grows ((run c (beginning c) events).nodes p).journal
+
+-- At every validator, after every run, the delivered list, the height and the lock are as its journal tells: the lock is its last own precommit for a value of this height.
+abbrev pub LockLaw : Type 0
+LockLaw = (c : Setting) (events : List Event) (p : ℕ) →
+    let n : Node = (run c (beginning c) events).nodes p in
+    (n.state.delivered ≡ delivered_of n.journal) × (n.state.height ≡ height_of n.journal) × (n.state.lock ≡ lock_of n.journal)
+
+-- some quorum, each correct member of which has saved this vote of its own
+pub record QuorumSaved (c : Setting) (h : Honesty) (w : World) (vote : ℕ → Vote) : Type 0 where
+  pub members : ℕ → Bool
+  pub enough : IsQuorum c.powers members
+  pub saved : (i : ℕ) → IsCorrect c h i → members i ≡ true → IsSaved i (OfVote (vote i)) (w.nodes i).journal
+
+-- Where a quorum precommitted x in a round of a height, no later round of the height has a quorum of prevotes for another id.
+abbrev pub NoLaterQuorumLaw : Type 0
+NoLaterQuorumLaw = (c : Setting) (h : Honesty) (events : List Event) → FewLie c.powers h.liars → Unforged c h (beginning c) events
+    → (height round later : ℕ) (x y : Id) → round < later
+    → QuorumSaved c h (run c (beginning c) events) (λ i. precommit height round i (Some x))
+    → QuorumSaved c h (run c (beginning c) events) (λ i. prevote height later i (Some y)) → x ≡ y
+
+abbrev pub Comparable : List Item → List Item → Type 0
+Comparable a b = Begins a b ⊎ Begins b a
+
+-- at two moments of one run
+abbrev pub AgreeLaw : Type 0
+AgreeLaw = (c : Setting) (h : Honesty) (early late : List Event) → FewLie c.powers h.liars → Unforged c h (beginning c) (early ++ late) → Distinct c h (early ++ late)
+    → (p q : ℕ) → IsCorrect c h p → IsCorrect c h q → Comparable (delivered (run c (beginning c) early) p) (delivered (run c (beginning c) (early ++ late)) q)
+
+-- a validator's earlier list begins its later one
+abbrev pub LastsLaw : Type 0
+LastsLaw = (c : Setting) (early late : List Event) (p : ℕ) → Begins (delivered (run c (beginning c) early) p) (delivered (run c (beginning c) (early ++ late)) p)
+
+-- a correct client's items begin what it sent
+abbrev pub SentLaw : Type 0
+SentLaw = (c : Setting) (h : Honesty) (events : List Event) → FewLie c.powers h.liars → Unforged c h (beginning c) events → Distinct c h events
+    → (p : ℕ) → IsCorrect c h p → (client : ℕ) → h.clients client ≡ true → Begins (of client (delivered (run c (beginning c) events) p)) ((run c (beginning c) events).sent client)
+
+abbrev pub FifoLaw : Type 0
+FifoLaw = (c : Setting) (events : List Event) (p client : ℕ) → in_turn 1 (of client (delivered (run c (beginning c) events) p)) ≡ true
+
+-- Whatever bytes liars with less than a third of the power send, whatever is lost, repeated or reordered, whichever timeouts fire and validators restart:
+-- of two correct validators' delivered lists one begins the other; in each, a client's transactions are its numbers from one, each once, nothing after its close;
+-- and a correct client's begin what it sent.
+abbrev pub BeginsLaw : Type 0
+BeginsLaw = (c : Setting) (h : Honesty) (early late : List Event) → FewLie c.powers h.liars → Unforged c h (beginning c) (early ++ late) → Distinct c h (early ++ late)
+    → (p : ℕ) → IsCorrect c h p →
+    Begins (delivered (run c (beginning c) early) p) (delivered (run c (beginning c) (early ++ late)) p)
+    × ((q : ℕ) → IsCorrect c h q → Comparable (delivered (run c (beginning c) early) p) (delivered (run c (beginning c) (early ++ late)) q))
+    × ((client : ℕ) → in_turn 1 (of client (delivered (run c (beginning c) (early ++ late)) p)) ≡ true)
+    × ((client : ℕ) → h.clients client ≡ true → Begins (of client (delivered (run c (beginning c) (early ++ late)) p)) ((run c (beginning c) (early ++ late)).sent client))
+
+-- Each decision's certificate is a quorum, and the id is its value's.
+abbrev pub CertificateLaw : Type 0
+CertificateLaw = (c : Setting) (events : List Event) (p : ℕ) (b : Bundle) → Decided b ∈ ((run c (beginning c) events).nodes p).journal
+    → (b.id ≡ id b.value) × IsQuorum c.powers (λ i. list_any (λ (s : Signed). s.sender == i) b.precommits)
+
+-- What is refused changes nothing and releases nothing.
+abbrev pub RefusedLaw : Type 0
+RefusedLaw = (c : Setting) (p : ℕ) (n : Node) (bytes : List ℕ) (r : Refusal) → answer c p n bytes ≡ Some r → arrival c p n bytes ≡ nothing n
+
+-- Nothing stands against a bundle of the present height exactly where its rule may fire.
+abbrev pub JudgeLaw : Type 0
+JudgeLaw = (c : Setting) (p : ℕ) (s : State) (b : Bundle) → s.height < 2 ^ 48 → b.height ≡ s.height
+    → (first_cause (judge_causes c p s.delivered b) ≡ None) ↔ (holds (context c p) s (DecideByBundle b) ≡ true)
+
+-- the event of what a call hands to a node
+abbrev pub events_of : ℕ → Input → List Event
+events_of p Settle = []
+events_of p (Given bytes) = Comes p bytes ∷ []
+events_of p (Due t) = Fires p (TimedOut t) ∷ []
+
+-- What a call does to a node is what its input's event, and then some firings, do to it in a run.
+abbrev pub HistoryLaw : Type 0
+HistoryLaw = (c : Setting) (w : World) (p : ℕ) (input : Input) (times : ℕ)
+    → (rules : List Rule) × ((run c w (events_of p input ++ map (Fires p) rules)).nodes p ≡ after c p (w.nodes p) input times)
+
+-- So the node of every history is one that a run leaves.
+abbrev pub ReplayLaw : Type 0
+ReplayLaw = (c : Setting) (w : World) (p : ℕ) (history : List (Input × ℕ)) → (events : List Event) × ((run c w events).nodes p ≡ replay c p (w.nodes p) history)
+
+-- the precommit timeout of the present height and round
+pub record IsRoundEnd (s : State) (t : Timeout) : Type 0 where
+  pub height : t.height ≡ s.height
+  pub round : t.round ≡ s.round
+  pub kind : t.kind ≡ Precommit
+  pub begun : s.begun ≡ true
+
+-- A timeout is refused, by the limit of rounds, exactly where it is the precommit timeout of the present round and its rule doesn't hold. Where its rule doesn't hold nothing happens.
+abbrev pub TimeoutLaw : Type 0
+TimeoutLaw = (c : Setting) (p : ℕ) (n : Node) (t : Timeout) →
+    ((r : Refusal) → timeout_answer n.state t ≡ Some r → (r ≡ RoundLimit) × IsRoundEnd n.state t × (holds (context c p) n.state (TimedOut t) ≡ false))
+    × (IsRoundEnd n.state t → holds (context c p) n.state (TimedOut t) ≡ false → timeout_answer n.state t ≡ Some RoundLimit)
+    × (holds (context c p) n.state (TimedOut t) ≡ false → tried c p n (TimedOut t) ≡ nothing n)
+
+-- Each refusal of bytes, or of a timeout, is told at its event and validator.
+abbrev pub RefusalsTold : Setting → Type 0
+RefusalsTold c = (early late : List Event) (p : ℕ) (r : Refusal) →
+    let n : Node = (run c (beginning c) early).nodes p in
+    let told : Told = record { event = suc (length early); validator = Some p; what = Answered (refusal_number r) } in
+    ((bytes : List ℕ) → answer c p n bytes ≡ Some r → told ∈ report c (beginning c) (early ++ Comes p bytes ∷ late))
+    × ((t : Timeout) → timeout_answer n.state t ≡ Some r → told ∈ report c (beginning c) (early ++ Fires p (TimedOut t) ∷ late))
+
+-- The bodies of a report are the world's released ones: in it the newest event's come first.
+-- A journal's decisions are, in order, those that the report tells of its validator, and those that a restart's cut added; so where no cut added one, they are those told.
+abbrev pub ReportLaw : Type 0
+ReportLaw = (c : Setting) (events : List Event) →
+    ((run c (beginning c) events).released ≡ flat_map bodies (reverse (by_event tells 1 c (beginning c) events)))
+    × ((p : ℕ) → decisions_in ((run c (beginning c) events).nodes p).journal ≡ decisions p (account c (beginning c) events))
+    × ((p : ℕ) → decisions p (unreported c (beginning c) events) ≡ [] → decisions_in ((run c (beginning c) events).nodes p).journal ≡ decisions p (report c (beginning c) events))
+    × RefusalsTold c
+
+-- A body whose fields are in range is a message with its tags, for 1 to 64 validators: its frame is read again, and each receiver finds its tag right.
+abbrev pub TaggedLaw : Type 0
+TaggedLaw = (c : Setting) (b : Body) → 1 ≤ length c.powers → length c.powers ≤ 64 → IsBody b →
+    IsMessage (tagged c b)
+    × (message_of (frame_spelling (tagged c b)) ≡ Ok (tagged c b))
+    × ((q : ℕ) → q < length c.powers → right c q (sender_of b) (body_spelling b) (tagged c b).tags ≡ true)

@@ -1,0 +1,4 @@
+pub mod Places
+pub mod Stages
+pub mod Soonest
+pub mod Holding

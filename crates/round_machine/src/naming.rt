@@ -1,0 +1,145 @@
+//! The first enabled rule: stages in a fixed order, each the first proposal that fits.
+
+ghost use Rattle.std.specs.Prelude.{◌≡◌, option_map, true, Some, None, IfSome};
+ghost use Rattle.std.specs.List.{position_from};
+ghost use Rattle.protocol.specs.State.{Context};
+ghost use Rattle.protocol.specs.Rules.{holds, stands_at, quorum_for};
+ghost use Rattle.protocol.specs.Messages.{step_eq, step_of_vote};
+ghost use Rattle.protocol.specs.Order as order;
+ghost use Rattle.round_machine.specs.Naming.{rule_of, enabled, IsPlaced};
+ghost use Rattle.round_machine.specs.Judging.{can_decide, can_lock};
+
+use crate::deciding::soonest_decidable;
+use crate::rule::Rule;
+use messages::Step as VoteStep;
+use protocol::Step;
+use round_states::{KeptProposal, State};
+use transactions::Id;
+
+/// This many heights are decided: the last is one below it.
+const MOST_HEIGHT: u64 = 1 << 48;
+
+/// The first enabled rule, which holds: in the order of beginning, deciding, prevoting, locking and
+/// precommitting nil. It takes no memory.
+pub fn enabled(state: &State) -> Option<Rule>
+    ensures rule { option_map (rule_of state.now.state) result ≡ enabled state.now.powers state.now.state }
+    ensures placed { IfSome result (λ rule. IsPlaced state.now.state rule) }
+    ensures holds { IfSome result (λ rule. (g : Context) → g.powers ≡ state.now.powers → holds g state.now.state (rule_of state.now.state rule) ≡ true) }
+{
+    first_named(state)
+}
+
+#[tactic(auto, unfolding(crate::specs::Naming::enabled))]
+fn first_named(state: &State) -> Option<Rule>
+    ensures rule { option_map (rule_of state.now.state) result ≡ enabled state.now.powers state.now.state }
+    ensures placed { IfSome result (λ rule. IsPlaced state.now.state rule) }
+{
+    if !state.has_begun() {
+        return Some(Rule::Start);
+    }
+    if let Some(rule) = deciding(state) {
+        return Some(rule);
+    }
+    if let Some(rule) = prevoting(state) {
+        return Some(rule);
+    }
+    if let Some(rule) = locking(state) {
+        return Some(rule);
+    }
+    giving_up(state)
+}
+
+fn deciding(state: &State) -> Option<Rule>
+    ensures rule { option_map (rule_of state.now.state) result ≡ order.deciding state.now.powers state.now.state }
+    ensures placed { IfSome result (λ rule. IsPlaced state.now.state rule) }
+{
+    if state.height() >= MOST_HEIGHT {
+        return None;
+    }
+    let place = soonest_decidable(state)?;
+    Some(Rule::Decide(place))
+}
+
+fn prevoting(state: &State) -> Option<Rule>
+    ensures rule { option_map (rule_of state.now.state) result ≡ order.prevoting state.now.powers state.now.state }
+    ensures placed { IfSome result (λ rule. IsPlaced state.now.state rule) }
+{
+    if !is_at(state, Step::Propose) {
+        return None;
+    }
+    let place = first_fresh(state, state.kept())?;
+    Some(Rule::PrevoteFresh(place))
+}
+
+fn first_fresh(state: &State, kept: &[KeptProposal]) -> Option<usize>
+    ensures { result ≡ position_from (λ k. order.is_fresh state.now.powers state.now.state k.proposal) 0 kept.now }
+{
+    kept.iter().position(|kept| is_fresh(state, kept))
+}
+
+fn locking(state: &State) -> Option<Rule>
+    ensures rule { option_map (rule_of state.now.state) result ≡ order.locking state.now.powers state.now.state }
+    ensures placed { IfSome result (λ rule. IsPlaced state.now.state rule) }
+{
+    if is_at(state, Step::Propose) || state.is_value_found() {
+        return None;
+    }
+    let place = first_lockable(state, state.kept())?;
+    Some(Rule::Lock(place))
+}
+
+fn first_lockable(state: &State, kept: &[KeptProposal]) -> Option<usize>
+    ensures { result ≡ position_from (can_lock state.now.powers state.now.state) 0 kept.now }
+{
+    kept.iter().position(|kept| can_lock(state, kept))
+}
+
+fn giving_up(state: &State) -> Option<Rule>
+    ensures rule { option_map (rule_of state.now.state) result ≡ order.giving_up state.now.powers state.now.state }
+    ensures placed { IfSome result (λ rule. IsPlaced state.now.state rule) }
+{
+    if is_at(state, Step::Prevote) && has_quorum(state, state.round(), VoteStep::Prevote, None) {
+        Some(Rule::PrecommitNil)
+    } else {
+        None
+    }
+}
+
+/// The present round is at this step.
+fn is_at(state: &State, step: Step) -> bool
+    ensures { result ≡ step_eq state.now.state.step step }
+{
+    state.step() == step
+}
+
+/// A quorum voted for this content.
+pub(crate) fn has_quorum(state: &State, round: u32, step: VoteStep, content: Option<Id>) -> bool
+    ensures { result ≡ quorum_for state.now.powers state.now.state round (step_of_vote step) content }
+{
+    state
+        .powers()
+        .is_quorum(state.tally().power_for(round, step, content))
+}
+
+/// The proposal is of this round, and from its proposer.
+pub(crate) fn stands_at(state: &State, kept: &KeptProposal, round: u32) -> bool
+    ensures { result ≡ stands_at state.now.powers state.now.state round kept.now.proposal }
+{
+    kept.proposal.round == round
+        && kept.proposal.sender == state.powers().proposer(state.height(), round)
+}
+
+fn is_fresh(state: &State, kept: &KeptProposal) -> bool
+    ensures { result ≡ order.is_fresh state.now.powers state.now.state kept.now.proposal }
+{
+    stands_at(state, kept, state.round()) && kept.proposal.valid_round.is_none()
+}
+
+fn can_lock(state: &State, kept: &KeptProposal) -> bool
+    ensures { result ≡ can_lock state.now.powers state.now.state kept.now }
+{
+    let round = state.round();
+    stands_at(state, kept, round)
+        && kept.is_valid
+        && has_quorum(state, round, VoteStep::Prevote, Some(kept.id))
+}

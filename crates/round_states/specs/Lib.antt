@@ -1,0 +1,6 @@
+pub mod Machine
+pub mod Pending
+pub mod Found
+pub mod Taking
+pub mod Seen
+pub mod Steps

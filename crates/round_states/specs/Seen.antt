@@ -1,0 +1,94 @@
+-- How the code's state and its parts are seen, and what holds of them.
+use Rattle.std.specs.Prelude.{◌≡◌, ℕ, ◌≤◌, ◌^◌, Bool, true, false, List, [], ◌∷◌, map, flat_map, All, IfSome}
+use Rattle.transactions.specs.Grammar.{IsValue}
+use Rattle.protocol.specs.Values.{Value, Item, items}
+use Rattle.protocol.specs.Messages.{Act, Proposing, Prevoting, Precommitting, Record, Own, Decided}
+use Rattle.protocol.specs.declared.types.Step.{Step}
+use Rattle.protocol.specs.declared.types.Step.TheVariants.{Propose, Prevote, Precommit}
+use Rattle.protocol.specs.State.{State}
+use Rattle.protocol.specs.declared.types.ValueAt.{ValueAt}
+use Rattle.proposal_validity.specs.Standing.{IsFrontierOf}
+use Rattle.round_states.specs.Machine.{Machine}
+use Rattle.round_states.specs.Pending.{Pending}
+use Rattle.round_states.specs.Found.{proposal_in, IsFound}
+use Rattle.round_states.specs.declared.state.KeptProposal.{KeptProposal}
+use Rattle.round_states.specs.declared.rounds.Stage.{Stage}
+use Rattle.round_states.specs.declared.rounds.Stage.TheVariants as stages
+use Rattle.round_states.specs.declared.unsaved.Entry.{Entry}
+use Rattle.round_states.specs.declared.unsaved.Entry.TheVariants as entries
+use Rattle.round_states.specs.declared.unsaved.Unsaved.TheInside.{Inside as UnsavedInside}
+use Rattle.round_states.specs.declared.state.State.TheInside.{Inside}
+
+-- ---- records that wait for their save
+
+abbrev pub record_of : ℕ → ℕ → Entry → Record
+record_of height round (entries.Proposal valid_round value) = Own height round (Proposing valid_round value)
+record_of height round (entries.Prevote content) = Own height round (Prevoting content)
+record_of height round (entries.Precommit choice) = Own height round (Precommitting choice)
+record_of height round (entries.Decision bundle) = Decided bundle
+
+abbrev pub pending : UnsavedInside → Pending
+pending a = record { sender = a.sender; entry = record_of a.height a.round a.entry }
+
+-- ---- where a height stands
+
+abbrev pub stage_begun : Stage → Bool
+stage_begun stages.Before = false
+stage_begun (stages.Propose r) = true
+stage_begun (stages.Prevote r) = true
+stage_begun (stages.Precommit r) = true
+
+abbrev pub stage_round : Stage → ℕ
+stage_round stages.Before = 0
+stage_round (stages.Propose r) = r.number
+stage_round (stages.Prevote r) = r.number
+stage_round (stages.Precommit r) = r.number
+
+abbrev pub stage_step : Stage → Step
+stage_step stages.Before = Propose
+stage_step (stages.Propose r) = Propose
+stage_step (stages.Prevote r) = Prevote
+stage_step (stages.Precommit r) = Precommit
+
+-- the round is one of this validator and height
+abbrev pub IsOf : ℕ → ℕ → Stage → Type 0
+IsOf me h stages.Before = Unit {0}
+IsOf me h (stages.Propose r) = (r.validator ≡ me) × (r.height ≡ h)
+IsOf me h (stages.Prevote r) = (r.validator ≡ me) × (r.height ≡ h)
+IsOf me h (stages.Precommit r) = (r.validator ≡ me) × (r.height ≡ h)
+
+-- ---- the state
+
+-- the items of the decided values
+abbrev pub delivered_by : List Value → List Item
+delivered_by values = flat_map items values
+
+abbrev pub seen : Inside → Machine
+seen a = record {
+  state = record {
+    delivered = delivered_by a.decided.items;
+    height = a.height;
+    begun = stage_begun a.stage;
+    round = stage_round a.stage;
+    step = stage_step a.stage;
+    lock = a.lock;
+    valid_value = a.valid_value;
+    proposals = map proposal_in a.kept.items;
+    votes = a.tally.votes;
+    stamps = a.stamps.items;
+    prevotes_awaited = a.prevotes_awaited;
+    value_found = a.value_found;
+    precommits_awaited = a.precommits_awaited;
+  };
+  powers = a.tally.powers;
+  me = a.tally.me;
+  genuine = map (λ (k : KeptProposal). k.is_genuine) a.kept.items;
+}
+
+pub record IsSound (a : Inside) : Type 0 where
+  pub proposals : a.tally.proposals ≡ map proposal_in a.kept.items
+  pub found : All (IsFound (delivered_by a.decided.items)) a.kept.items
+  pub frontier : IsFrontierOf (delivered_by a.decided.items) a.frontier
+  pub stage : IsOf a.tally.me a.height a.stage
+  pub height : a.height ≤ 2 ^ 48
+  pub valid_fits : IfSome a.valid_value (λ l. IsValue l.value)

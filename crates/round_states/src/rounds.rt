@@ -1,0 +1,162 @@
+//! A round in each of its steps (`step_p` of algorithm 1 of arXiv 1807.04938). A vote spends the step that allows it, so there is one in each.
+
+ghost use Rattle.std.specs.Prelude.{◌≡◌};
+ghost use Rattle.protocol.specs.Messages.{Own, Prevoting, Precommitting};
+
+use crate::unsaved::Unsaved;
+use transactions::{Id, Named};
+
+/// The step that waits for a proposal.
+#[derive(Drop)]
+pub struct Propose;
+
+/// The step after the own prevote.
+#[derive(Drop)]
+pub struct Prevote;
+
+/// The step after the own precommit.
+#[derive(Drop)]
+pub struct Precommit;
+
+/// A round of a height at a validator, in the step S.
+#[derive(Drop)]
+pub struct Round<S> {
+    validator: u16,
+    height: u64,
+    number: u32,
+    step: S,
+}
+
+impl Round<Propose> {
+    /// A round that begins.
+    pub(crate) fn new(validator: u16, height: u64, number: u32) -> Round<Propose>
+        ensures { result ≡ record { validator = validator; height = height; number = number; step = record {} } }
+    {
+        Round {
+            validator,
+            height,
+            number,
+            step: Propose,
+        }
+    }
+
+    /// The one prevote of this round: for an id, or for nil.
+    pub fn prevote(self, content: Option<Id>) -> (Round<Prevote>, Unsaved)
+        ensures round { (result.0.validator ≡ self.validator) × (result.0.height ≡ self.height) × (result.0.number ≡ self.number) }
+        ensures unsaved { result.1 ≡ record { sender = self.validator; entry = Own self.height self.number (Prevoting content) } }
+    {
+        let unsaved = Unsaved::prevote(self.validator, self.height, self.number, content);
+        (self.into_step(Prevote), unsaved)
+    }
+}
+
+impl Round<Prevote> {
+    /// The one precommit of this round: for a value, or for nil.
+    pub fn precommit(self, choice: Option<Named>) -> (Round<Precommit>, Unsaved)
+        ensures round { (result.0.validator ≡ self.validator) × (result.0.height ≡ self.height) × (result.0.number ≡ self.number) }
+        ensures unsaved { result.1 ≡ record { sender = self.validator; entry = Own self.height self.number (Precommitting choice) } }
+    {
+        let unsaved = Unsaved::precommit(self.validator, self.height, self.number, choice);
+        (self.into_step(Precommit), unsaved)
+    }
+
+    /// The state before the prevote, which is spent and never sent.
+    pub fn take_back(self, unsaved: Unsaved) -> Round<Propose>
+        ensures { (result.validator ≡ self.validator) × (result.height ≡ self.height) × (result.number ≡ self.number) }
+    {
+        unsaved.forget();
+        self.into_step(Propose)
+    }
+}
+
+impl Round<Precommit> {
+    /// The state before the precommit, which is spent and never sent.
+    pub fn take_back(self, unsaved: Unsaved) -> Round<Prevote>
+        ensures { (result.validator ≡ self.validator) × (result.height ≡ self.height) × (result.number ≡ self.number) }
+    {
+        unsaved.forget();
+        self.into_step(Prevote)
+    }
+}
+
+impl<S: Drop> Round<S> {
+    /// The number of the round.
+    pub fn number(&self) -> u32
+        ensures { result ≡ self.now.number }
+    {
+        self.number
+    }
+
+    /// A later round of the same height.
+    pub fn next(self, number: u32) -> Round<Propose>
+        ensures { (result.validator ≡ self.validator) × (result.height ≡ self.height) × (result.number ≡ number) }
+    {
+        let Round {
+            validator,
+            height,
+            number: _,
+            step: _,
+        } = self;
+        Round {
+            validator,
+            height,
+            number,
+            step: Propose,
+        }
+    }
+
+    fn into_step<T>(self, step: T) -> Round<T>
+        ensures { (result.validator ≡ self.validator) × (result.height ≡ self.height) × (result.number ≡ self.number) }
+    {
+        let Round {
+            validator,
+            height,
+            number,
+            step: _,
+        } = self;
+        Round {
+            validator,
+            height,
+            number,
+            step,
+        }
+    }
+}
+
+/// Where a height stands: no round has begun, or the present one is in one of its steps.
+#[derive(Drop)]
+pub(crate) enum Stage {
+    Before,
+    Propose(Round<Propose>),
+    Prevote(Round<Prevote>),
+    Precommit(Round<Precommit>),
+}
+
+impl Stage {
+    /// The same stage, for a copy of the whole state.
+    pub(crate) fn copy(&self) -> Stage
+        ensures { result ≡ self.now }
+    {
+        match self {
+            Stage::Before => Stage::Before,
+            Stage::Propose(round) => Stage::Propose(Round {
+                validator: round.validator,
+                height: round.height,
+                number: round.number,
+                step: Propose,
+            }),
+            Stage::Prevote(round) => Stage::Prevote(Round {
+                validator: round.validator,
+                height: round.height,
+                number: round.number,
+                step: Prevote,
+            }),
+            Stage::Precommit(round) => Stage::Precommit(Round {
+                validator: round.validator,
+                height: round.height,
+                number: round.number,
+                step: Precommit,
+            }),
+        }
+    }
+}

@@ -1,0 +1,231 @@
+//! The state: the variables of the algorithm at one validator. Line numbers are those of algorithm 1
+//! of arXiv 1807.04938.
+
+ghost use Rattle.std.specs.Prelude.{◌≡◌, ◌≤◌, ◌<◌, ◌^◌, IsTrue, IfOk, All, map, option_map, List, [], length};
+ghost use Rattle.std.specs.Option.{option_copied};
+ghost use Rattle.powers.specs.Power.{ArePowers};
+ghost use Rattle.protocol.specs.Restart.{restart};
+ghost use Rattle.round_states.specs.Found.{proposal_in, IsFound};
+ghost use Rattle.round_states.specs.Seen.{delivered_by};
+
+use crate::rounds::Stage;
+use messages::Proposal;
+use powers::Powers;
+use proposal_validity::Frontier;
+use protocol::{Stamp, Step, ValueAt};
+use std::alloc::{AllocError, Global};
+use std::marker::Model;
+use transactions::{Duplicate, Id, Value, copy_all};
+use vote_tally::Tally;
+
+/// A kept proposal, and what was found of it as it was kept.
+#[derive(Debug, Drop)]
+pub struct KeptProposal {
+    /// As it came, or as it was made here.
+    pub proposal: Proposal,
+    /// The id of its value.
+    pub id: Id,
+    /// Whether its value may be delivered next.
+    pub is_valid: bool,
+    /// Whether the own tags of its transactions are right, as the caller said. It is asked of a
+    /// proposal without a valid round alone; with one it is true.
+    pub is_genuine: bool,
+}
+
+impl Duplicate for KeptProposal {
+    fn copy(&self, alloc: Global) -> Result<KeptProposal, AllocError> {
+        Ok(KeptProposal {
+            proposal: self.proposal.copy(alloc)?,
+            id: self.id,
+            is_valid: self.is_valid,
+            is_genuine: self.is_genuine,
+        })
+    }
+}
+
+/// The variables of one validator. Contracts see them as the state of the definitions, beside the
+/// validators' powers, the own number, and the answers that were handed in.
+#[derive(Drop)]
+pub struct State {
+    pub(crate) alloc: Global,
+    pub(crate) tally: Tally,
+    pub(crate) height: u64,
+    pub(crate) stage: Stage,
+    pub(crate) lock: Option<ValueAt>,
+    pub(crate) valid_value: Option<ValueAt>,
+    pub(crate) kept: Vec<KeptProposal>,
+    pub(crate) stamps: Vec<Stamp>,
+    pub(crate) prevotes_awaited: bool,
+    pub(crate) value_found: bool,
+    pub(crate) precommits_awaited: bool,
+    pub(crate) decided: Vec<Value>,
+    pub(crate) frontier: Frontier,
+}
+
+impl Model for State {
+    ghost use Rattle.round_states.specs.Machine.{Machine};
+
+    ghost Value = { Machine };
+
+    ghost use Rattle.round_states.specs.Seen.{seen, IsSound};
+
+    ghost view = { seen };
+
+    ghost invariant = { IsSound };
+}
+
+impl State {
+    /// Validator `me` at height 0, where nothing has come and no round has begun.
+    #[tactic(auto, unfolding(protocol::specs::Restart::restart))]
+    pub fn new(alloc: Global, powers: Powers, me: u16) -> State
+        ensures { result ≡ record { state = restart me []; powers = powers; me = me; genuine = [] } }
+    {
+        State {
+            alloc,
+            tally: Tally::new(alloc, powers, me),
+            height: 0,
+            stage: Stage::Before,
+            lock: None,
+            valid_value: None,
+            kept: Vec::new(alloc),
+            stamps: Vec::new(alloc),
+            prevotes_awaited: false,
+            value_found: false,
+            precommits_awaited: false,
+            decided: Vec::new(alloc),
+            frontier: Frontier::new(alloc),
+        }
+    }
+
+    /// The own number.
+    pub fn me(&self) -> u16
+        ensures { result ≡ self.now.me }
+    {
+        self.tally.me()
+    }
+
+    /// The powers of the validators.
+    pub fn powers(&self) -> &Powers
+        ensures { result.now ≡ self.now.powers }
+    {
+        self.tally.powers()
+    }
+
+    /// The height that is being decided, `h_p`: from 0 to 2^48, which is never decided.
+    pub fn height(&self) -> u64
+        ensures height { result ≡ self.now.state.height }
+        ensures small { result ≤ 2 ^ 48 }
+    {
+        self.height
+    }
+
+    /// Whether a round of the height has begun.
+    pub fn has_begun(&self) -> bool
+        ensures { result ≡ self.now.state.begun }
+    {
+        match self.stage {
+            Stage::Before => false,
+            Stage::Propose(_) | Stage::Prevote(_) | Stage::Precommit(_) => true,
+        }
+    }
+
+    /// The present round, `round_p`; 0 where none has begun.
+    pub fn round(&self) -> u32
+        ensures { result ≡ self.now.state.round }
+    {
+        match &self.stage {
+            Stage::Before => 0,
+            Stage::Propose(round) => round.number(),
+            Stage::Prevote(round) => round.number(),
+            Stage::Precommit(round) => round.number(),
+        }
+    }
+
+    /// The step of the present round, `step_p`; that of proposals where none has begun.
+    pub fn step(&self) -> Step
+        ensures { result ≡ self.now.state.step }
+    {
+        match self.stage {
+            Stage::Before | Stage::Propose(_) => Step::Propose,
+            Stage::Prevote(_) => Step::Prevote,
+            Stage::Precommit(_) => Step::Precommit,
+        }
+    }
+
+    /// The locked value, and the round in which it was locked (line 38: `lockedValue_p` and
+    /// `lockedRound_p`). None stands for -1 and nil.
+    pub fn lock(&self) -> Option<&ValueAt>
+        ensures { option_copied result ≡ self.now.state.lock }
+    {
+        self.lock.as_ref()
+    }
+
+    /// The value that last had a quorum of prevotes, and the round of the quorum (line 42:
+    /// `validValue_p` and `validRound_p`).
+    pub fn valid_value(&self) -> Option<&ValueAt>
+        ensures { option_copied result ≡ self.now.state.valid_value }
+    {
+        self.valid_value.as_ref()
+    }
+
+    /// The kept proposals of the height, in order of arrival.
+    pub fn kept(&self) -> &[KeptProposal]
+        ensures proposals { map proposal_in result.now ≡ self.now.state.proposals }
+        ensures genuine { map (λ k. k.is_genuine) result.now ≡ self.now.genuine }
+        ensures found { All (IsFound self.now.state.delivered) result.now }
+    {
+        &self.kept
+    }
+
+    /// The kept messages of the height, and the power of their senders.
+    pub fn tally(&self) -> &Tally
+        ensures { result.now ≡ record { powers = self.now.powers; me = self.now.me; proposals = self.now.state.proposals; votes = self.now.state.votes } }
+    {
+        &self.tally
+    }
+
+    /// Whether a quorum of prevotes for a proposed value was met in this round: line 36 acts once
+    /// in a round.
+    pub fn is_value_found(&self) -> bool
+        ensures { result ≡ self.now.state.value_found }
+    {
+        self.value_found
+    }
+
+    /// The decided values, in order of height: together they are the delivered list.
+    pub fn decided(&self) -> &[Value]
+        ensures { delivered_by result.now ≡ self.now.state.delivered }
+    {
+        &self.decided
+    }
+
+    /// An equal state. Values are shared and not copied.
+    pub fn copy(&self) -> Result<State, AllocError>
+        ensures { IfOk result (λ copy. copy ≡ self.now) }
+    {
+        Ok(State {
+            alloc: self.alloc,
+            tally: self.tally.copy()?,
+            height: self.height,
+            stage: self.stage.copy(),
+            lock: copy_of(self.alloc, &self.lock)?,
+            valid_value: copy_of(self.alloc, &self.valid_value)?,
+            kept: copy_all(self.alloc, &self.kept)?,
+            stamps: copy_all(self.alloc, &self.stamps)?,
+            prevotes_awaited: self.prevotes_awaited,
+            value_found: self.value_found,
+            precommits_awaited: self.precommits_awaited,
+            decided: copy_all(self.alloc, &self.decided)?,
+            frontier: self.frontier.copy(self.alloc)?,
+        })
+    }
+}
+
+fn copy_of(alloc: Global, value: &Option<ValueAt>) -> Result<Option<ValueAt>, AllocError>
+    ensures { IfOk result (λ copy. copy ≡ value.now) }
+{
+    match value {
+        None => Ok(None),
+        Some(value) => Ok(Some(value.copy(alloc)?)),
+    }
+}

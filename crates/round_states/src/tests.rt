@@ -1,0 +1,305 @@
+ghost use Rattle.std.specs.Prelude.{◌≡◌, IfOk};
+ghost use Rattle.transactions.specs.Grammar.{IsValue};
+ghost use Rattle.round_states.specs.Taking.{IsKept};
+
+use super::*;
+use messages::{Body, Message, Proposal, Step as VoteStep, Vote};
+use powers::Powers;
+use protocol::Step;
+use std::alloc::Global;
+use std::test::Fail;
+use transactions::{Id, Seq, Value, read_value, value_id};
+
+/// The id of some value.
+const A: Id = [0xaa; 32];
+
+/// A validator's state among four of power 1.
+fn state_of(alloc: Global, me: u16) -> Result<State, Fail> {
+    let powers = Powers::new(vec![in alloc; 1, 1, 1, 1]?)?;
+    Ok(State::new(alloc, powers, me))
+}
+
+/// The one transaction of client 7 with this number, which asks for the byte 0x61 under zero tags.
+fn value_of(alloc: Global, number: u8) -> Result<Value, Fail>
+    ensures { IfOk result (λ value. IsValue value) }
+{
+    let mut bytes = [0, 1, 1, 0, 7, 0, 0, 0, 0, 0, 0, 0, number, 0, 0, 1, 0x61, 4].to_vec(alloc)?;
+    bytes.extend_from_slice(&[0u8; 128])?;
+    Ok(read_value(alloc, &bytes)?)
+}
+
+fn proposal(
+    alloc: Global,
+    height: u64,
+    round: u32,
+    sender: u16,
+    number: u8,
+) -> Result<Message, Fail>
+    ensures { IfOk result (λ message. IsKept message.body) }
+{
+    let body = Body::Proposal(Proposal {
+        height,
+        round,
+        sender,
+        valid_round: None,
+        value: value_of(alloc, number)?,
+    });
+    Ok(Message {
+        body,
+        tags: Seq::new(alloc),
+    })
+}
+
+fn vote(step: VoteStep, height: u64, round: u32, sender: u16, content: Option<Id>) -> Vote
+    ensures { result ≡ record { step = step; height = height; round = round; sender = sender; content = content } }
+{
+    Vote {
+        step,
+        height,
+        round,
+        sender,
+        content,
+    }
+}
+
+fn message(alloc: Global, vote: Vote) -> Message
+    ensures { IsKept result.body }
+{
+    Message {
+        body: Body::Vote(vote),
+        tags: Seq::new(alloc),
+    }
+}
+
+fn picked(alloc: Global, number: u8) -> Result<Picked, Fail>
+    ensures { IfOk result (λ picked. IsValue picked.value) }
+{
+    Ok(Picked {
+        value: value_of(alloc, number)?,
+        genuine: true,
+    })
+}
+
+fn vote_in(body: Body) -> Option<Vote> {
+    match body {
+        Body::Vote(vote) => Some(vote),
+        _ => None,
+    }
+}
+
+/// Lets go what a firing leaves.
+fn spend(fired: Fired) -> Option<Body> {
+    let Fired {
+        unsaved,
+        timeout: _,
+    } = fired;
+    match unsaved {
+        None => None,
+        Some(unsaved) => Some(release(unsaved)),
+    }
+}
+
+/// The answer to a fresh proposal.
+fn propose(
+    state: &mut State,
+    height: u64,
+    round: u32,
+    sender: u16,
+    number: u8,
+) -> Result<Result<(), Refusal>, Fail> {
+    let arrived = proposal(state.alloc, height, round, sender, number)?;
+    Ok(state.take_in(arrived, true))
+}
+
+/// The answer to a vote of validator 1.
+fn voted(
+    state: &mut State,
+    step: VoteStep,
+    height: u64,
+    round: u32,
+    content: Option<Id>,
+) -> Result<(), Refusal> {
+    let arrived = message(state.alloc, vote(step, height, round, 1, content));
+    state.take_in(arrived, true)
+}
+
+/// Begins a round, and gives what it lets go.
+fn begin(state: &mut State, round: u32) -> Result<Option<Body>, Fail> {
+    let handed = picked(state.alloc, 1)?;
+    Ok(spend(state.start_round(round, Some(handed))?))
+}
+
+/// The own prevote.
+fn prevote(state: &mut State, content: Option<Id>) -> Result<Option<Vote>, Fail> {
+    if !state.has_begun() || state.step() != Step::Propose {
+        return Ok(None);
+    }
+    Ok(vote_in(release(state.prevote(content)?)))
+}
+
+/// The own precommit for nil.
+fn precommit_nil(state: &mut State) -> Result<Option<Vote>, Fail> {
+    if !state.has_begun() || state.step() != Step::Prevote {
+        return Ok(None);
+    }
+    Ok(vote_in(release(state.precommit(None)?)))
+}
+
+#[test]
+fn proposals_refused(rt: HostRuntime) -> Result<(), Fail> {
+    let mut state = state_of(rt.alloc(), 3)?;
+    assert_eq!(rt; propose(&mut state, 1, 0, 1, 1)?, Err(Refusal::OtherHeight));
+    assert_eq!(rt;
+        propose(&mut state, 0, 1_000_001, 1, 1)?,
+        Err(Refusal::RoundLimit)
+    );
+    assert_eq!(rt;
+        propose(&mut state, 0, 1_000_000, 0, 1)?,
+        Err(Refusal::RoundAhead)
+    );
+    assert_eq!(rt; propose(&mut state, 0, 3, 3, 1)?, Err(Refusal::RoundAhead));
+    assert_eq!(rt;
+        propose(&mut state, 0, 0, 1, 1)?,
+        Err(Refusal::WrongProposer)
+    );
+    assert_eq!(rt; propose(&mut state, 0, 2, 2, 1)?, Ok(()));
+    Ok(())
+}
+
+#[test]
+fn proposals_of_a_round(rt: HostRuntime) -> Result<(), Fail> {
+    let mut state = state_of(rt.alloc(), 3)?;
+    assert_eq!(rt; propose(&mut state, 0, 0, 0, 1)?, Ok(()));
+    assert_eq!(rt; propose(&mut state, 0, 0, 0, 1)?, Err(Refusal::Repeat));
+    assert_eq!(rt; propose(&mut state, 0, 0, 0, 2)?, Ok(()));
+    assert_eq!(rt; propose(&mut state, 0, 0, 0, 3)?, Err(Refusal::VoterFull));
+    assert_eq!(rt; state.kept().len(), 2);
+    Ok(())
+}
+
+#[test]
+fn proposals_ahead(rt: HostRuntime) -> Result<(), Fail> {
+    let mut state = state_of(rt.alloc(), 3)?;
+    assert!(rt; begin(&mut state, 1)?.is_none());
+    assert_eq!(rt; propose(&mut state, 0, 4, 0, 1)?, Err(Refusal::RoundAhead));
+    assert_eq!(rt; propose(&mut state, 0, 3, 3, 1)?, Ok(()));
+    Ok(())
+}
+
+#[test]
+fn votes_refused(rt: HostRuntime) -> Result<(), Fail> {
+    let mut state = state_of(rt.alloc(), 3)?;
+    assert_eq!(rt;
+        voted(&mut state, VoteStep::Prevote, 1, 0, None),
+        Err(Refusal::OtherHeight)
+    );
+    assert_eq!(rt;
+        voted(&mut state, VoteStep::Prevote, 0, 1_000_001, None),
+        Err(Refusal::RoundLimit)
+    );
+    assert_eq!(rt;
+        voted(&mut state, VoteStep::Prevote, 0, 1_000_000, None),
+        Ok(())
+    );
+    assert_eq!(rt;
+        voted(&mut state, VoteStep::Prevote, 0, 1_000_000, None),
+        Err(Refusal::Repeat)
+    );
+    assert_eq!(rt;
+        voted(&mut state, VoteStep::Precommit, 0, 1_000_000, None),
+        Ok(())
+    );
+    assert_eq!(rt;
+        state
+            .tally()
+            .power_for(1_000_000, VoteStep::Precommit, None),
+        1
+    );
+    Ok(())
+}
+
+#[test]
+fn votes_of_a_round(rt: HostRuntime) -> Result<(), Fail> {
+    let mut state = state_of(rt.alloc(), 3)?;
+    assert!(rt; !state.has_begun());
+    assert!(rt; begin(&mut state, 0)?.is_none());
+    assert_eq!(rt; propose(&mut state, 0, 0, 0, 1)?, Ok(()));
+    assert_eq!(rt;
+        prevote(&mut state, Some(A))?,
+        Some(vote(VoteStep::Prevote, 0, 0, 3, Some(A)))
+    );
+    let before = state.copy()?;
+    assert_eq!(rt;
+        precommit_nil(&mut state)?,
+        Some(vote(VoteStep::Precommit, 0, 0, 3, None))
+    );
+    assert_eq!(rt; state.step(), Step::Precommit);
+    assert_eq!(rt; state.tally().power_for(0, VoteStep::Precommit, None), 1);
+    assert_eq!(rt; before.step(), Step::Prevote);
+    assert_eq!(rt; before.tally().power_for(0, VoteStep::Precommit, None), 0);
+    assert_eq!(rt; before.kept().len(), 1);
+    Ok(())
+}
+
+#[test]
+fn a_new_state(rt: HostRuntime) -> Result<(), Fail> {
+    let state = state_of(rt.alloc(), 3)?;
+    assert_eq!(rt; state.me(), 3);
+    assert_eq!(rt; state.height(), 0);
+    assert_eq!(rt; state.round(), 0);
+    assert_eq!(rt; state.powers().total(), 4);
+    assert_eq!(rt; state.decided().len(), 0);
+    assert!(rt; state.lock().is_none());
+    assert!(rt; state.valid_value().is_none());
+    assert!(rt; !state.is_value_found());
+    Ok(())
+}
+
+#[test]
+fn the_proposer_proposes(rt: HostRuntime) -> Result<(), Fail> {
+    let mut state = state_of(rt.alloc(), 0)?;
+    let wanted = value_of(rt.alloc(), 1)?;
+    let id = value_id(rt.alloc(), &wanted)?;
+    let fired = state.start_round(0, Some(picked(rt.alloc(), 1)?))?;
+    match spend(fired) {
+        Some(Body::Proposal(proposal)) => {
+            assert_eq!(rt; proposal.height, 0);
+            assert_eq!(rt; proposal.round, 0);
+            assert_eq!(rt; proposal.sender, 0);
+            assert_eq!(rt; proposal.valid_round, None);
+            assert!(rt; proposal.value == wanted);
+        }
+        _ => return Err(Fail::new("no proposal")),
+    }
+    match state.kept().first() {
+        Some(kept) => {
+            assert_eq!(rt; kept.id, id);
+            assert!(rt; kept.is_valid);
+            assert!(rt; kept.is_genuine);
+        }
+        None => return Err(Fail::new("nothing is kept")),
+    }
+    Ok(())
+}
+
+#[test]
+fn a_vote_taken_back(rt: HostRuntime) -> Result<(), Fail> {
+    let round = Round::new(3, 5, 2);
+    let (round, unsaved) = round.prevote(None);
+    let round = round.take_back(unsaved);
+    let (round, unsaved) = round.prevote(Some(A));
+    assert_eq!(rt;
+        vote_in(release(unsaved)),
+        Some(vote(VoteStep::Prevote, 5, 2, 3, Some(A)))
+    );
+    let (round, unsaved) = round.precommit(None);
+    let round = round.take_back(unsaved);
+    let (round, unsaved) = round.precommit(None);
+    assert_eq!(rt;
+        vote_in(release(unsaved)),
+        Some(vote(VoteStep::Precommit, 5, 2, 3, None))
+    );
+    let round = round.next(3);
+    assert_eq!(rt; round.number(), 3);
+    Ok(())
+}

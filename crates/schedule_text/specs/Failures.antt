@@ -1,0 +1,13 @@
+-- How the program ends.
+use Rattle.std.specs.Prelude.{ℕ}
+use Rattle.schedule_text.specs.declared.fault.Failure.{Failure}
+use Rattle.schedule_text.specs.declared.fault.Failure.TheVariants.{Usage, CannotRead, BadLine, Event, OutOfMemory, CannotWrite}
+
+-- the exit status of a failure
+abbrev pub status_of : Failure → ℕ
+status_of Usage = 2
+status_of (CannotRead name) = 2
+status_of (BadLine line) = 2
+status_of (Event event fault) = 3
+status_of OutOfMemory = 4
+status_of CannotWrite = 5

@@ -1,0 +1,5 @@
+pub mod Failures
+pub mod Numbers
+pub mod Names
+pub mod Events
+pub mod Driving

@@ -1,0 +1,130 @@
+//! Why a schedule isn't read, or its run ends early.
+
+use std::alloc::{AllocError, AllocFailed};
+use std::fmt;
+use thiserror::Error;
+
+/// Why a line isn't one of a schedule.
+#[derive(Clone, Copy, Debug, Error, PartialEq, Eq)]
+pub(crate) enum LineFault {
+    /// It is of no form, stands where none of its form may, or names what it may not.
+    #[error("a bad line")]
+    BadLine,
+    #[error("out of memory")]
+    OutOfMemory,
+}
+
+impl From<AllocError> for LineFault {
+    fn from(_e: AllocError) -> LineFault {
+        LineFault::OutOfMemory
+    }
+}
+
+impl<T: Drop> From<AllocFailed<T>> for LineFault {
+    fn from(_e: AllocFailed<T>) -> LineFault {
+        LineFault::OutOfMemory
+    }
+}
+
+/// Why a text isn't a schedule.
+#[derive(Clone, Copy, Debug, Error, PartialEq, Eq)]
+pub(crate) enum ReadFault {
+    /// The first bad line, from 1 on; one more than there are, where the text ends too early.
+    #[error("line {0}")]
+    BadLine(usize),
+    #[error("out of memory")]
+    OutOfMemory,
+}
+
+/// Why an event can't happen, and its number in a report.
+#[derive(Clone, Copy, Debug, Error, PartialEq, Eq)]
+pub enum EventFault {
+    /// It names no validator.
+    #[error("no such validator")]
+    NoSuchParty = 2,
+    /// What it is about has no spelling.
+    #[error("it cannot be spelled")]
+    TooLong = 4,
+    #[error("out of memory")]
+    OutOfMemory = 5,
+}
+
+impl From<AllocError> for EventFault {
+    ghost use Rattle.std.specs.Prelude.{◌≡◌};
+    ghost use Rattle.schedule_text.specs.declared.fault.EventFault.TheVariants.{OutOfMemory};
+
+    ghost from_gives = { λ _ e. e ≡ OutOfMemory };
+
+    fn from(_e: AllocError) -> EventFault {
+        EventFault::OutOfMemory
+    }
+}
+
+impl<T: Drop> From<AllocFailed<T>> for EventFault {
+    ghost use Rattle.std.specs.Prelude.{◌≡◌};
+    ghost use Rattle.schedule_text.specs.declared.fault.EventFault.TheVariants.{OutOfMemory};
+
+    ghost from_gives = { λ _ e. e ≡ OutOfMemory };
+
+    fn from(_e: AllocFailed<T>) -> EventFault {
+        EventFault::OutOfMemory
+    }
+}
+
+/// Why the program ends early: the text that it tells on standard error, and its exit status.
+#[derive(Clone, Copy, Debug, PartialEq, Eq)]
+pub enum Failure<'a> {
+    /// It was called with other than one argument.
+    Usage,
+    /// The file of this name can't be opened, or be read to its end.
+    CannotRead(&'a str),
+    /// The first bad line, from 1 on.
+    BadLine(usize),
+    /// The event, of the executed lines from 1 on, and why it can't happen.
+    Event(usize, EventFault),
+    OutOfMemory,
+    /// A write failed.
+    CannotWrite,
+}
+
+impl Failure<'_> {
+    ghost use Rattle.std.specs.Prelude.{◌≡◌};
+    ghost use Rattle.schedule_text.specs.Failures.{status_of};
+
+    /// The exit status.
+    pub fn status(self) -> u8
+        ensures { result ≡ status_of self.entry }
+    {
+        match self {
+            Failure::Usage | Failure::CannotRead(_) | Failure::BadLine(_) => 2,
+            Failure::Event(..) => 3,
+            Failure::OutOfMemory => 4,
+            Failure::CannotWrite => 5,
+        }
+    }
+}
+
+impl fmt::Display for Failure<'_> {
+    fn fmt<W: fmt::Write>(&self, f: &mut fmt::Formatter<W>) -> fmt::Result {
+        match self {
+            Failure::Usage => write!(f, "tmsim: usage: tmsim FILE"),
+            Failure::CannotRead(name) => write!(f, "tmsim: cannot read {name}"),
+            Failure::BadLine(line) => write!(f, "tmsim: line {line}"),
+            Failure::Event(event, fault) => {
+                let number = *fault as u8;
+                write!(f, "tmsim: event {event}: fault {number}")
+            }
+            Failure::OutOfMemory => write!(f, "tmsim: out of memory"),
+            Failure::CannotWrite => write!(f, "tmsim: cannot write"),
+        }
+    }
+}
+
+impl From<ReadFault> for Failure<'_> {
+    fn from(fault: ReadFault) -> Self {
+        match fault {
+            ReadFault::BadLine(line) => Failure::BadLine(line),
+            ReadFault::OutOfMemory => Failure::OutOfMemory,
+        }
+    }
+}

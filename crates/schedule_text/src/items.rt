@@ -1,0 +1,74 @@
+//! Names, bytes and items as words.
+
+ghost use Rattle.std.specs.Prelude.{◌≡◌, IfSome, is_some};
+ghost use Rattle.std.specs.List.{list_all};
+ghost use Rattle.std.specs.Char.{is_ascii_uppercase};
+ghost use Rattle.schedule_text.specs.Names.{is_name};
+
+use crate::fault::LineFault;
+use crate::numbers::number_in;
+use std::alloc::{AllocError, Global};
+use transactions::{Item, Op, Seq};
+
+/// The greatest number of bytes in an item.
+const MOST_BYTES: usize = 1024;
+
+/// The greatest number of letters in a name.
+const MOST_LETTERS: usize = 8;
+
+/// The name that the word is: one to eight letters A to Z.
+#[tactic(auto, using(crate::proofs::Letters::letters_are_text))]
+pub(crate) fn name_in(word: &[u8]) -> Option<&str>
+    ensures name { is_some result ≡ is_name word.now }
+    ensures same { IfSome result (λ name. name.now ≡ word.now) }
+{
+    if word.is_empty() || word.len() > MOST_LETTERS || !all_letters(word) {
+        return None;
+    }
+    str::from_utf8(word).ok()
+}
+
+fn all_letters(word: &[u8]) -> bool
+    ensures { result ≡ list_all is_ascii_uppercase word.now }
+{
+    word.iter().all(|byte| byte.is_ascii_uppercase())
+}
+
+/// The item that the word is.
+pub(crate) fn item_in(alloc: Global, word: &[u8]) -> Result<Item, LineFault> {
+    let parts: Vec<&[u8]> = word.split(|byte| *byte == b':').collect(alloc)?;
+    let [client, number, op] = parts.as_slice() else {
+        return Err(LineFault::BadLine);
+    };
+    let client = number_in(client).ok_or(LineFault::BadLine)?;
+    let client = u16::try_from(client).map_err(|_| LineFault::BadLine)?;
+    let number = number_in(number).ok_or(LineFault::BadLine)?;
+    let op = op_in(alloc, op)?;
+    Ok(Item { client, number, op })
+}
+
+/// What an item asks for: bytes, or a close.
+fn op_in(alloc: Global, word: &[u8]) -> Result<Op, LineFault> {
+    match word {
+        b"close" => Ok(Op::Close),
+        b"-" => Ok(Op::Bytes(Seq::new(alloc))),
+        _ => Ok(Op::Bytes(Seq::from_vec(bytes_in(alloc, word)?))),
+    }
+}
+
+/// The bytes that the digits are, one at least.
+fn bytes_in(alloc: Global, word: &[u8]) -> Result<Vec<u8>, LineFault> {
+    if word.is_empty() || word.len() > 2 * MOST_BYTES || !word.iter().all(|byte| is_digit(*byte)) {
+        return Err(LineFault::BadLine);
+    }
+    match hex::decode(alloc, word) {
+        Ok(bytes) => Ok(bytes),
+        Err(hex::FromHexError::OutOfMemory) => Err(LineFault::OutOfMemory),
+        Err(_) => Err(LineFault::BadLine),
+    }
+}
+
+/// A hexadecimal digit in lower case.
+fn is_digit(byte: u8) -> bool {
+    matches!(byte, b'0'..=b'9' | b'a'..=b'f')
+}

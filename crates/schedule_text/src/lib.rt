@@ -1,0 +1,42 @@
+//! Schedules as texts: what comes to the validators of a world, line by line, and the report of the
+//! run.
+//!
+//! A schedule is a text of lines, each ended by a line feed; the last may lack it. An empty line
+//! and one that begins with `#` are skipped. Any other line is words with single spaces between
+//! them. Numbers are decimal without leading zeros, and bytes are lower case hexadecimal, `-` for
+//! none. Setup lines come first, in this order:
+//!
+//! - `powers P P ..`, once: the power of each validator, from number 0 on.
+//! - `clients N`, once: clients 0 to N - 1, N from 1 to 1,024.
+//! - `liars V V ..`, at most once: the validators that lie; all others are correct.
+//! - `value NAME ITEM ..`, any number: a value by name, one to eight letters A to Z, each name
+//!   once. An item is `CLIENT:NUMBER:BYTES` or `CLIENT:NUMBER:close`; with no item it is the empty
+//!   value.
+//!
+//! Then the world begins, and the executed lines follow:
+//!
+//! - `propose S P H R VR NAME`: liar S's proposal of height H and round R comes to the correct
+//!   validator P. VR, the valid round, is -1 for none.
+//! - `vote S P KIND H R CONTENT`: liar S's vote comes to P. KIND is `prevote` or `precommit`, and
+//!   CONTENT a name or `nil`.
+//!
+//! One correct validator is wanted so far: while there isn't exactly one, no line after the first
+//! three is taken.
+#![tactic(auto)]
+
+mod driving;
+mod fault;
+mod items;
+mod lines;
+mod numbers;
+mod program;
+mod report;
+mod running;
+mod schedule;
+mod values;
+
+pub use fault::{EventFault, Failure};
+pub use program::{HELP, simulate};
+
+#[cfg(test)]
+mod tests;

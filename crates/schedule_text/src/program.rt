@@ -1,0 +1,112 @@
+//! The program, after its file was opened.
+
+ghost use Rattle.std.specs.Prelude.{◌≡◌, ◌≢◌, ◌≤◌, ◌⊎◌, IfErr};
+ghost use Rattle.schedule_text.specs.Failures.{status_of};
+
+use crate::fault::Failure;
+use crate::report::{ReportLine, Told, write_end};
+use crate::running::Run;
+use crate::schedule::Schedule;
+use crate::values::Values;
+use std::alloc::Global;
+use std::io::{BufRead, ErrorKind, Write};
+
+/// What the program is for, and how it is called.
+pub const HELP: &str = "\
+tmsim reads a schedule of what comes to a validator, and prints the report of its run.
+
+usage: tmsim FILE
+";
+
+/// Reads a schedule to its end, runs it, and writes its report. Answers the exit status: 0, or that
+/// of the failure that is told on `err`. `name` is the file's. Nothing is written of a text that is
+/// no schedule.
+pub fn simulate<R: BufRead, W: Write, E: Write>(
+    alloc: Global,
+    name: &str,
+    reader: &mut R,
+    out: &mut W,
+    err: &mut E,
+) -> u8
+    ensures status { (result ≡ 0) ⊎ ((2 ≤ result) × (result ≤ 5)) }
+    ensures quiet { result ≡ 2 → out.new ≡ out.old }
+{
+    match report(alloc, name, reader, out) {
+        Ok(()) => 0,
+        Err(failure) => failure.tell(err),
+    }
+}
+
+impl Failure<'_> {
+    /// Writes what is to be told of it, and answers the exit status.
+    pub fn tell<E: Write>(self, err: &mut E) -> u8
+        ensures { (result ≡ status_of self.entry) ⊎ (result ≡ 5) }
+    {
+        if self == Failure::CannotWrite {
+            return self.status();
+        }
+        match writeln!(err, "{self}") {
+            Ok(()) => self.status(),
+            Err(_) => Failure::CannotWrite.status(),
+        }
+    }
+}
+
+fn report<'a, R: BufRead, W: Write>(
+    alloc: Global,
+    name: &'a str,
+    reader: &mut R,
+    out: &mut W,
+) -> Result<(), Failure<'a>>
+    ensures { IfErr result (λ failure. status_of failure ≡ 2 → out.new ≡ out.old) }
+{
+    let text = read_text(alloc, name, reader)?;
+    let schedule = Schedule::read(alloc, &text)?;
+    let result = run(alloc, &schedule, out);
+    if out.flush().is_err() {
+        return Err(Failure::CannotWrite);
+    }
+    result
+}
+
+/// The whole text of the file.
+fn read_text<'a, R: BufRead>(
+    alloc: Global,
+    name: &'a str,
+    reader: &mut R,
+) -> Result<Vec<u8>, Failure<'a>> {
+    let mut text = Vec::new(alloc);
+    match reader.read_to_end(&mut text) {
+        Ok(_) => Ok(text),
+        Err(error) if error.kind() == ErrorKind::OutOfMemory => Err(Failure::OutOfMemory),
+        Err(_) => Err(Failure::CannotRead(name)),
+    }
+}
+
+/// Runs a schedule, and writes its report line by line.
+fn run<'a, W: Write>(alloc: Global, schedule: &Schedule, out: &mut W) -> Result<(), Failure<'a>>
+    ensures { IfErr result (λ failure. status_of failure ≢ 2) }
+{
+    let mut run = Run::new(alloc, schedule).map_err(|_| Failure::OutOfMemory)?;
+    let told = run.begin().map_err(|fault| Failure::Event(0, fault))?;
+    write_all(&told, &schedule.values, out)?;
+    for (before, event) in schedule.events.iter().enumerate() {
+        let told = run
+            .happen(event)
+            .map_err(|fault| Failure::Event(before + 1, fault))?;
+        write_all(&told, &schedule.values, out)?;
+    }
+    write_end(run.state(), out).map_err(|_| Failure::CannotWrite)
+}
+
+fn write_all<'a, W: Write>(told: &[Told], values: &Values, out: &mut W) -> Result<(), Failure<'a>>
+    ensures { IfErr result (λ failure. status_of failure ≢ 2) }
+{
+    for told in told {
+        let line = ReportLine { told, values };
+        if writeln!(out, "{line}").is_err() {
+            return Err(Failure::CannotWrite);
+        }
+    }
+    Ok(())
+}

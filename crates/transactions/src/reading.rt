@@ -1,0 +1,250 @@
+//! Transactions and values from bytes.
+//!
+//! A reader whose name ends in `_of` or `_front` reads the front of the bytes, and gives the bytes
+//! that are left too. The first field that isn't right tells the fault.
+
+ghost use Rattle.std.specs.Prelude.{true, IfOk, Ok};
+ghost use Rattle.transactions.specs.Fields.{Gives, bytes_at, repeat};
+ghost use Rattle.transactions.specs.declared.tx.Tx.{Tx};
+ghost use Rattle.transactions.specs.declared.tx.Value.{Value};
+ghost use Rattle.transactions.specs.Grammar.{SpellsTx, SpellsValue};
+ghost use Rattle.transactions.specs.Reading.{data_at, client_at, tx_number_at, op_at, tx_body_at, tx_fields_at, tag_count_at, tags_at, tx_at, is_within, value_at, tx_of, value_of};
+
+use crate::fault::Fault;
+use crate::fields::{array_at, mark_of, slice_at, u8_at, u16_at, u64_at};
+use crate::sequence::{Seq, Shared};
+use crate::tx::{Op, Tx, Value};
+use std::alloc::Global;
+
+#[tactic(auto, unfolding(crate::specs::Reading::data_at, crate::specs::Fields::limited))]
+fn data_of(alloc: Global, bytes: &[u8]) -> Result<(Seq<u8>, &[u8]), Fault>
+    ensures { Gives (λ x. (x.0, x.1.now)) result (data_at bytes.now) }
+{
+    let (len, rest) = u16_at(bytes)?;
+    if len > 1024 {
+        return Err(Fault::TooLong);
+    }
+    let (contents, rest) = slice_at(rest, len as usize)?;
+    Ok((Seq::from_vec(Vec::from_slice(alloc, contents)?), rest))
+}
+
+#[tactic(auto, unfolding(crate::specs::Reading::op_at, crate::specs::Reading::op_after))]
+fn op_of(alloc: Global, bytes: &[u8]) -> Result<(Op, &[u8]), Fault>
+    ensures { Gives (λ x. (x.0, x.1.now)) result (op_at bytes.now) }
+{
+    let (kind, rest) = u8_at(bytes)?;
+    match kind {
+        0 => {
+            let (contents, rest) = data_of(alloc, rest)?;
+            Ok((Op::Bytes(contents), rest))
+        }
+        1 => Ok((Op::Close, rest)),
+        _ => Err(Fault::BadSpelling),
+    }
+}
+
+#[tactic(auto, unfolding(crate::specs::Fields::ranged))]
+fn client_of(bytes: &[u8]) -> Result<(u16, &[u8]), Fault>
+    ensures { Gives (λ x. (x.0, x.1.now)) result (client_at bytes.now) }
+{
+    let (client, rest) = u16_at(bytes)?;
+    if client > 1023 {
+        return Err(Fault::BadSpelling);
+    }
+    Ok((client, rest))
+}
+
+#[tactic(auto, unfolding(crate::specs::Fields::ranged))]
+fn number_of(bytes: &[u8]) -> Result<(u64, &[u8]), Fault>
+    ensures { Gives (λ x. (x.0, x.1.now)) result (tx_number_at bytes.now) }
+{
+    let (number, rest) = u64_at(bytes)?;
+    if number == 0 || number > 0x1_0000_0000_0000 {
+        return Err(Fault::BadSpelling);
+    }
+    Ok((number, rest))
+}
+
+/// A transaction without its tags, behind the byte of its kind.
+///
+/// Faults: `Truncated` (1); `TooLong` (2) for a length above 1,024; `BadSpelling` (3) for a client
+/// above 1,023, a number of 0 or above 2^48, and an operation other than 00 and 01; `OutOfMemory`
+/// (4).
+#[tactic(auto, unfolding(crate::specs::Reading::tx_fields_at))]
+pub fn tx_fields_of(alloc: Global, bytes: &[u8]) -> Result<(Tx, &[u8]), Fault>
+    ensures { Gives (λ x. (x.0, x.1.now)) result (tx_fields_at bytes.now) }
+{
+    let (client, rest) = client_of(bytes)?;
+    let (number, rest) = number_of(rest)?;
+    let (op, rest) = op_of(alloc, rest)?;
+    let tags = Seq::new(alloc);
+    Ok((
+        Tx {
+            client,
+            number,
+            op,
+            tags,
+        },
+        rest,
+    ))
+}
+
+/// A transaction without its tags.
+#[tactic(auto, unfolding(crate::specs::Reading::tx_body_at))]
+fn tx_body_of(alloc: Global, bytes: &[u8]) -> Result<(Tx, &[u8]), Fault>
+    ensures { Gives (λ x. (x.0, x.1.now)) result (tx_body_at bytes.now) }
+{
+    let (_, rest) = mark_of(1, bytes)?;
+    tx_fields_of(alloc, rest)
+}
+
+#[tactic(auto, unfolding(crate::specs::Reading::tag_count_at, crate::specs::Fields::limited, crate::specs::Fields::ranged))]
+fn tag_count_of(bytes: &[u8]) -> Result<(u8, &[u8]), Fault>
+    ensures { Gives (λ x. (x.0, x.1.now)) result (tag_count_at bytes.now) }
+{
+    let (count, rest) = u8_at(bytes)?;
+    if count > 64 {
+        return Err(Fault::TooLong);
+    }
+    if count == 0 {
+        return Err(Fault::BadSpelling);
+    }
+    Ok((count, rest))
+}
+
+fn tag_list_of(alloc: Global, count: u8, bytes: &[u8]) -> Result<(Vec<[u8; 32]>, &[u8]), Fault>
+    ensures { Gives (λ x. (x.0.items, x.1.now)) result (repeat (bytes_at 32) (λ _. true) count bytes.now) }
+{
+    let mut tags = Vec::new(alloc);
+    let mut rest = bytes;
+    for _ in 0..count {
+        let (tag, after) = array_at(rest)?;
+        tags.push(tag)?;
+        rest = after;
+    }
+    Ok((tags, rest))
+}
+
+/// The tags behind a body.
+///
+/// Faults: `Truncated` (1); `TooLong` (2) for a count above 64; `BadSpelling` (3) for a count of 0;
+/// `OutOfMemory` (4).
+#[tactic(auto, unfolding(crate::specs::Reading::tags_at))]
+pub fn tags_of(alloc: Global, bytes: &[u8]) -> Result<(Seq<[u8; 32]>, &[u8]), Fault>
+    ensures { Gives (λ x. (x.0, x.1.now)) result (tags_at bytes.now) }
+{
+    let (count, rest) = tag_count_of(bytes)?;
+    let (tags, rest) = tag_list_of(alloc, count, rest)?;
+    Ok((Seq::from_vec(tags), rest))
+}
+
+/// A transaction with its tags.
+#[tactic(auto, unfolding(crate::specs::Reading::tx_at))]
+fn tx_front(alloc: Global, bytes: &[u8]) -> Result<(Tx, &[u8]), Fault>
+    ensures { Gives (λ x. (x.0, x.1.now)) result (tx_at bytes.now) }
+{
+    let (body, rest) = tx_body_of(alloc, bytes)?;
+    let (tags, rest) = tags_of(alloc, rest)?;
+    let Tx {
+        client,
+        number,
+        op,
+        tags: _,
+    } = body;
+    Ok((
+        Tx {
+            client,
+            number,
+            op,
+            tags,
+        },
+        rest,
+    ))
+}
+
+fn txs_of(alloc: Global, count: u16, len: usize, bytes: &[u8]) -> Result<(Vec<Tx>, &[u8]), Fault>
+    ensures { Gives (λ x. (x.0.items, x.1.now)) result (repeat tx_at (is_within len) count bytes.now) }
+{
+    let mut txs = Vec::new(alloc);
+    let mut rest = bytes;
+    for _ in 0..count {
+        let (tx, after) = tx_front(alloc, rest)?;
+        if len.saturating_sub(after.len()) > 500_000 {
+            return Err(Fault::TooLong);
+        }
+        txs.push(tx)?;
+        rest = after;
+    }
+    Ok((txs, rest))
+}
+
+/// A value.
+///
+/// Faults: those of its transactions, in their order; `BadSpelling` (3) for a transaction whose kind
+/// isn't 01; `TooLong` (2) for more than 256 transactions, and, told after the transaction that
+/// passes the limit, for more than 500,000 bytes.
+#[tactic(auto, unfolding(crate::specs::Reading::value_at, crate::specs::Fields::limited))]
+pub fn value_front(alloc: Global, bytes: &[u8]) -> Result<(Value, &[u8]), Fault>
+    ensures { Gives (λ x. (x.0, x.1.now)) result (value_at bytes.now) }
+{
+    let (count, rest) = u16_at(bytes)?;
+    if 256 < count {
+        return Err(Fault::TooLong);
+    }
+    let (txs, rest) = txs_of(alloc, count, bytes.len(), rest)?;
+    Ok((
+        Value {
+            txs: Shared::from_vec(alloc, txs)?,
+        },
+        rest,
+    ))
+}
+
+#[tactic(auto, unfolding(crate::specs::Fields::whole))]
+fn whole_tx(alloc: Global, bytes: &[u8]) -> Result<Tx, Fault>
+    ensures { Gives (λ x. x) result (tx_of bytes.now) }
+{
+    let (tx, rest) = tx_front(alloc, bytes)?;
+    if !rest.is_empty() {
+        return Err(Fault::BadSpelling);
+    }
+    Ok(tx)
+}
+
+#[tactic(auto, unfolding(crate::specs::Fields::whole))]
+fn whole_value(alloc: Global, bytes: &[u8]) -> Result<Value, Fault>
+    ensures { Gives (λ x. x) result (value_of bytes.now) }
+{
+    let (value, rest) = value_front(alloc, bytes)?;
+    if !rest.is_empty() {
+        return Err(Fault::BadSpelling);
+    }
+    Ok(value)
+}
+
+/// The transaction that the bytes spell, all of the bytes.
+///
+/// Faults: `Truncated` (1), `TooLong` (2), `BadSpelling` (3) and `OutOfMemory` (4), each as its field
+/// has it; bytes after the end are `BadSpelling` too.
+pub fn read_tx(alloc: Global, bytes: &[u8]) -> Result<Tx, Fault>
+    // What is read is spelled so.
+    ensures found { IfOk result (λ tx. SpellsTx bytes.now tx) }
+    // What is spelled so is read, unless memory runs out.
+    ensures only { (tx : Tx) → SpellsTx bytes.now tx → Gives (λ x. x) result (Ok tx) }
+    // Which fault it is.
+    ensures exact { Gives (λ x. x) result (tx_of bytes.now) }
+{
+    whole_tx(alloc, bytes)
+}
+
+/// The value that the bytes spell, all of the bytes.
+///
+/// Faults: `Truncated` (1), `TooLong` (2), `BadSpelling` (3) and `OutOfMemory` (4), each as its field
+/// has it; bytes after the end are `BadSpelling` too.
+pub fn read_value(alloc: Global, bytes: &[u8]) -> Result<Value, Fault>
+    ensures found { IfOk result (λ value. SpellsValue bytes.now value) }
+    ensures only { (value : Value) → SpellsValue bytes.now value → Gives (λ x. x) result (Ok value) }
+    ensures exact { Gives (λ x. x) result (value_of bytes.now) }
+{
+    whole_value(alloc, bytes)
+}

@@ -1,0 +1,28 @@
+-- What a tally is: the validators' powers, the own number, and the messages of one height that were kept, in order of arrival.
+use Rattle.std.specs.Prelude.{◌≡◌, ℕ, ◌<◌, ◌≤◌, ◌++◌, ◌∷◌, [], List, length, All, Option}
+use Rattle.protocol.specs.Values.{Id}
+use Rattle.protocol.specs.Messages.{Proposal, Vote}
+use Rattle.protocol.specs.declared.types.Step.{Step}
+use Rattle.protocol.specs.Tally as tally
+
+pub record Kept : Type 0 where
+  pub powers : List ℕ
+  pub me : ℕ
+  pub proposals : List Proposal
+  pub votes : List Vote
+
+abbrev pub power_for : Kept → ℕ → Step → Option Id → ℕ
+power_for k round step content = tally.power_for k.powers k.votes round step content
+
+abbrev pub power_any : Kept → ℕ → Step → ℕ
+power_any k round step = tally.power_any k.powers k.votes round step
+
+abbrev pub power_above : Kept → ℕ → ℕ
+power_above k round = tally.power_above k.powers k.proposals k.votes round
+
+-- the vote is kept
+abbrev pub with_vote : Kept → Vote → Kept
+with_vote k v = record k { votes = k.votes ++ v ∷ [] }
+
+abbrev pub with_proposal : Kept → Proposal → Kept
+with_proposal k q = record k { proposals = k.proposals ++ q ∷ [] }
