@@ -1,5 +1,5 @@
 -- The empty value can be spelled.
-use Rattle.std.proofs.Common.{◌≡◌, ℕ, List, [], lit≤}
+use Rattle.std.proofs.Common.{◌≡◌, List, [], lit≤}
 use Rattle.transactions.specs.declared.tx.Tx.{Tx}
 use Rattle.transactions.specs.Fields.{number_bytes}
 use Rattle.transactions.specs.Grammar.{IsValue, value_spelling}

@@ -1,5 +1,5 @@
 -- Why firing ends: each firing leaves less of the heights, and of the steps of a height.
-use Rattle.std.proofs.Common.{◌≡◌, ℕ, ◌+◌, ◌-◌, ◌*◌, ◌<◌, ◌^◌, suc, Bool, true, false, cond, not, ◌&&◌, Option, Some, None, refl, arith, ltb-true}
+use Rattle.std.proofs.Common.{◌≡◌, ℕ, ◌+◌, ◌-◌, ◌*◌, ◌<◌, ◌^◌, Bool, true, false, cond, not, ◌&&◌, Option, Some, None, refl, arith, ltb-true}
 use Rattle.std.specs.Prelude.{nat_lt}
 use Rattle.std.proofs.lemmas.Bool.{and_parts}
 use Rattle.protocol.specs.Values.{Value}
@@ -8,7 +8,7 @@ use Rattle.messages.specs.declared.body.Body.TheVariants.{Tx as OfTx, Proposal a
 use Rattle.protocol.specs.declared.types.Step.{Step}
 use Rattle.protocol.specs.declared.types.Step.TheVariants.{Propose, Prevote, Precommit}
 use Rattle.protocol.specs.Messages.{step_eq}
-use Rattle.protocol.specs.State.{Context, State, Rule, Start, PrevoteFresh, Lock, PrecommitNil, Decide}
+use Rattle.protocol.specs.State.{Context, State}
 use Rattle.protocol.specs.Rules.{holds, keeping_own, changed, fired, released_by, saved}
 use Rattle.round_machine.specs.Naming.{rule_of}
 use Rattle.round_machine.specs.declared.rule.Rule.{Rule as Name}

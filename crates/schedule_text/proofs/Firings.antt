@@ -1,6 +1,6 @@
 -- A run by one more firing.
-use Rattle.std.proofs.Common.{◌≡◌, ℕ, zero, suc, Some, refl, sym, ap, ◌∙◌}
-use Rattle.protocol.specs.State.{Context, State, Rule}
+use Rattle.std.proofs.Common.{◌≡◌, zero, suc, Some, refl, sym, ap, ◌∙◌}
+use Rattle.protocol.specs.State.{Rule}
 use Rattle.protocol.specs.Rules.{fired}
 use Rattle.round_states.specs.Machine.{Machine}
 use Rattle.round_machine.specs.Naming.{enabled}

@@ -1,7 +1,7 @@
 -- What comes by an executed line.
-use Rattle.std.specs.Prelude.{◌≡◌, ℕ, Option, is_some}
+use Rattle.std.specs.Prelude.{◌≡◌, ℕ, is_some}
 use Rattle.transactions.specs.Grammar.{IsValue}
-use Rattle.protocol.specs.Messages.{Proposal, Vote, Body, OfTx, OfProposal, OfVote, OfAsk, OfBundle}
+use Rattle.protocol.specs.Messages.{Proposal, Vote, Body, OfProposal, OfVote}
 use Rattle.schedule_text.specs.declared.schedule.Proposing.{Proposing}
 use Rattle.schedule_text.specs.declared.schedule.Voting.{Voting}
 use Rattle.schedule_text.specs.declared.schedule.Event.{Event}
