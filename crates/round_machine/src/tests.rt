@@ -1,6 +1,6 @@
-ghost use Rattle.std.specs.Prelude.{◌≡◌, false, IfOk};
+ghost use Rattle.std.specs.Prelude.{◌≡◌, false, true, cond, map, is_none, IfOk};
 ghost use Rattle.transactions.specs.Grammar.{IsValue};
-ghost use Rattle.round_states.specs.Machine.{Agrees};
+ghost use Rattle.protocol.specs.State.{Context};
 ghost use Rattle.round_states.specs.Taking.{IsKept};
 
 use super::*;
@@ -19,7 +19,7 @@ struct Validator {
     state: State,
     genuine: bool,
     own_tags: Seq<[u8; 32]>,
-    ghost agrees: { Agrees (record { powers = state.powers; me = state.me; genuine = λ _. genuine; vouches = λ _ _. false; own_tags = λ _ _ _. own_tags }) state },
+    ghost told: { state.genuine ≡ map (λ q. cond (is_none q.valid_round) genuine true) state.state.proposals },
 }
 
 impl Validator {
@@ -44,7 +44,10 @@ impl Validator {
     }
 
     /// Fires the first enabled rule.
-    fn step(&mut self) -> Result<Option<Fired>, Fail> {
+    fn step(&mut self) -> Result<Option<Fired>, Fail>
+        ghost g: { Context }
+        requires { g ≡ record { powers = self.old.state.powers; me = self.old.state.me; genuine = λ _. self.old.genuine; vouches = λ _ _. false; own_tags = λ _ _ _. self.old.own_tags } }
+    {
         let rule = match enabled(&self.state) {
             None => return Ok(None),
             Some(rule) => rule,
@@ -134,23 +137,6 @@ fn vote(step: VoteStep, round: u32, sender: u16, content: Option<Id>) -> Vote {
     }
 }
 
-/// Votes of round 0 from these senders are heard.
-fn hear_votes(
-    validator: &mut Validator,
-    step: VoteStep,
-    senders: &[u16],
-    content: Option<Id>,
-) -> Result<(), Fail> {
-    for sender in senders {
-        let message = Message {
-            body: Body::Vote(vote(step, 0, *sender, content)),
-            tags: Seq::new(validator.alloc),
-        };
-        validator.hear(message)?;
-    }
-    Ok(())
-}
-
 /// The one vote that was let go.
 fn only_vote(mut bodies: Vec<Body>) -> Option<Vote> {
     match (bodies.pop(), bodies.pop()) {
@@ -159,56 +145,90 @@ fn only_vote(mut bodies: Vec<Body>) -> Option<Vote> {
     }
 }
 
+/// Hears votes of validators 0 and 1 in round 0.
+fn hear_votes(validator: &mut Validator, step: VoteStep, content: Option<Id>) -> Result<(), Fail> {
+    for sender in 0..2 {
+        let message = Message {
+            body: Body::Vote(vote(step, 0, sender, content)),
+            tags: Seq::new(validator.alloc),
+        };
+        validator.hear(message)?;
+    }
+    Ok(())
+}
+
+/// The vote on a fresh proposal of height 0, in which validators propose in order of number.
+fn vote_on(
+    validator: &mut Validator,
+    round: u16,
+    number: u8,
+    byte: u8,
+) -> Result<Option<Vote>, Fail> {
+    let value = value_of(validator.alloc, number, byte)?;
+    validator.hear(proposal(validator.alloc, u32::from(round), round, value))?;
+    Ok(only_vote(validator.settle()?))
+}
+
+/// The vote after prevotes of validators 0 and 1.
+fn vote_after_prevotes(
+    validator: &mut Validator,
+    content: Option<Id>,
+) -> Result<Option<Vote>, Fail> {
+    hear_votes(validator, VoteStep::Prevote, content)?;
+    Ok(only_vote(validator.settle()?))
+}
+
+/// The sender of a decision at height 0 and round 0 after precommits of validators 0 and 1, and
+/// how many precommits are in it.
+fn decision_after_precommits(
+    validator: &mut Validator,
+    content: Option<Id>,
+) -> Result<Option<(u16, usize)>, Fail> {
+    hear_votes(validator, VoteStep::Precommit, content)?;
+    match validator.settle()?.pop() {
+        Some(Body::Bundle(bundle)) if bundle.height == 0 && bundle.round == 0 => {
+            Ok(Some((bundle.sender, bundle.precommits.len())))
+        }
+        _ => Ok(None),
+    }
+}
+
+/// The id of the value with this byte.
+fn id_of(alloc: Global, byte: u8) -> Result<Option<Id>, Fail> {
+    let value = value_of(alloc, 1, byte)?;
+    Ok(Some(value_id(alloc, &value)?))
+}
+
 #[test]
 fn decides(rt: HostRuntime) -> Result<(), Fail> {
-    let value = value_of(rt.alloc(), 1, b'a')?;
-    let id = Some(value_id(rt.alloc(), &value)?);
+    let id = id_of(rt.alloc(), b'a')?;
     let mut validator = Validator::new(rt.alloc(), 3, true)?;
-    assert_eq!(rt; validator.settle()?.len(), 0);
-    validator.hear(proposal(rt.alloc(), 0, 0, value))?;
+    let prevote = Some(vote(VoteStep::Prevote, 0, 3, id));
+    assert_eq!(rt; vote_on(&mut validator, 0, 1, b'a')?, prevote);
+    let precommit = Some(vote(VoteStep::Precommit, 0, 3, id));
+    assert_eq!(rt; vote_after_prevotes(&mut validator, id)?, precommit);
     assert_eq!(rt;
-        only_vote(validator.settle()?),
-        Some(vote(VoteStep::Prevote, 0, 3, id))
+        decision_after_precommits(&mut validator, id)?,
+        Some((3, 3))
     );
-    hear_votes(&mut validator, VoteStep::Prevote, &[0, 1], id)?;
-    assert_eq!(rt;
-        only_vote(validator.settle()?),
-        Some(vote(VoteStep::Precommit, 0, 3, id))
-    );
-    hear_votes(&mut validator, VoteStep::Precommit, &[0], id)?;
     assert_eq!(rt; validator.settle()?.len(), 0);
-    hear_votes(&mut validator, VoteStep::Precommit, &[1], id)?;
-    match validator.settle()?.pop() {
-        Some(Body::Bundle(bundle)) => {
-            assert_eq!(rt; bundle.height, 0);
-            assert_eq!(rt; bundle.round, 0);
-            assert_eq!(rt; bundle.sender, 3);
-            assert_eq!(rt; Some(bundle.id), id);
-            assert_eq!(rt; bundle.precommits.len(), 3);
-        }
-        _ => return Err(Fail::new("no decision")),
-    }
     assert_eq!(rt; validator.state.height(), 1);
-    assert!(rt; validator.state.has_begun());
     assert_eq!(rt; validator.state.round(), 0);
     assert_eq!(rt; validator.state.step(), Step::Propose);
     assert_eq!(rt; validator.state.decided().len(), 1);
     assert!(rt; validator.state.lock().is_none());
-    assert_eq!(rt; validator.settle()?.len(), 0);
     Ok(())
 }
 
 #[test]
 fn proposes(rt: HostRuntime) -> Result<(), Fail> {
-    let picked = value_of(rt.alloc(), 1, b'p')?;
-    let id = Some(value_id(rt.alloc(), &picked)?);
+    let id = id_of(rt.alloc(), b'p')?;
     let mut validator = Validator::new(rt.alloc(), 0, true)?;
     let mut bodies = validator.settle()?;
-    assert_eq!(rt; bodies.len(), 2);
     match (bodies.pop(), bodies.pop()) {
         (Some(Body::Vote(last)), Some(Body::Proposal(first))) => {
             assert_eq!(rt; last, vote(VoteStep::Prevote, 0, 0, id));
-            assert!(rt; first.value == picked);
+            assert_eq!(rt; Some(value_id(rt.alloc(), &first.value)?), id);
             assert_eq!(rt; first.round, 0);
             assert_eq!(rt; first.valid_round, None);
         }
@@ -218,22 +238,12 @@ fn proposes(rt: HostRuntime) -> Result<(), Fail> {
 }
 
 #[test]
-fn precommits_nil(rt: HostRuntime) -> Result<(), Fail> {
+fn a_value_that_is_not_next(rt: HostRuntime) -> Result<(), Fail> {
     let mut validator = Validator::new(rt.alloc(), 3, true)?;
-    validator.settle()?;
-    let third = value_of(rt.alloc(), 3, b'a')?;
-    validator.hear(proposal(rt.alloc(), 0, 0, third))?;
-    assert_eq!(rt;
-        only_vote(validator.settle()?),
-        Some(vote(VoteStep::Prevote, 0, 3, None))
-    );
-    hear_votes(&mut validator, VoteStep::Prevote, &[0], None)?;
-    assert_eq!(rt; validator.settle()?.len(), 0);
-    hear_votes(&mut validator, VoteStep::Prevote, &[1], None)?;
-    assert_eq!(rt;
-        only_vote(validator.settle()?),
-        Some(vote(VoteStep::Precommit, 0, 3, None))
-    );
+    let prevote = Some(vote(VoteStep::Prevote, 0, 3, None));
+    assert_eq!(rt; vote_on(&mut validator, 0, 3, b'a')?, prevote);
+    let precommit = Some(vote(VoteStep::Precommit, 0, 3, None));
+    assert_eq!(rt; vote_after_prevotes(&mut validator, None)?, precommit);
     assert!(rt; validator.state.lock().is_none());
     assert_eq!(rt; validator.state.height(), 0);
     Ok(())
@@ -241,39 +251,39 @@ fn precommits_nil(rt: HostRuntime) -> Result<(), Fail> {
 
 #[test]
 fn a_value_with_wrong_tags(rt: HostRuntime) -> Result<(), Fail> {
-    let value = value_of(rt.alloc(), 1, b'a')?;
-    let id = Some(value_id(rt.alloc(), &value)?);
-    let mut validator = Validator::new(rt.alloc(), 3, false)?;
-    validator.settle()?;
-    validator.hear(proposal(rt.alloc(), 0, 0, value))?;
+    let id = id_of(rt.alloc(), b'a')?;
+    let mut validator = Validator::new(rt.alloc(), 2, false)?;
+    let prevote = Some(vote(VoteStep::Prevote, 0, 2, None));
+    assert_eq!(rt; vote_on(&mut validator, 0, 1, b'a')?, prevote);
+    let third = Message {
+        body: Body::Vote(vote(VoteStep::Precommit, 0, 3, id)),
+        tags: Seq::new(rt.alloc()),
+    };
+    validator.hear(third)?;
     assert_eq!(rt;
-        only_vote(validator.settle()?),
-        Some(vote(VoteStep::Prevote, 0, 3, None))
+        decision_after_precommits(&mut validator, id)?,
+        Some((2, 3))
     );
-    hear_votes(&mut validator, VoteStep::Precommit, &[0, 1, 2], id)?;
-    validator.settle()?;
     assert_eq!(rt; validator.state.height(), 1);
-    assert_eq!(rt; validator.state.decided().len(), 1);
     Ok(())
+}
+
+/// The prevote of round 1 for the value with this byte, after a lock on the one with byte a.
+fn vote_under_lock(alloc: Global, byte: u8) -> Result<Option<Vote>, Fail> {
+    let id = id_of(alloc, b'a')?;
+    let mut validator = Validator::new(alloc, 3, true)?;
+    vote_on(&mut validator, 0, 1, b'a')?;
+    vote_after_prevotes(&mut validator, id)?;
+    validator.start_next_round()?;
+    vote_on(&mut validator, 1, 1, byte)
 }
 
 #[test]
 fn a_lock_forbids_another_value(rt: HostRuntime) -> Result<(), Fail> {
-    let locked = value_of(rt.alloc(), 1, b'a')?;
-    let id = Some(value_id(rt.alloc(), &locked)?);
-    for (byte, content) in [(b'a', id), (b'b', None)] {
-        let mut validator = Validator::new(rt.alloc(), 3, true)?;
-        validator.settle()?;
-        validator.hear(proposal(rt.alloc(), 0, 0, value_of(rt.alloc(), 1, b'a')?))?;
-        hear_votes(&mut validator, VoteStep::Prevote, &[0, 1], id)?;
-        assert_eq!(rt; validator.settle()?.len(), 2);
-        assert!(rt; validator.state.lock().is_some());
-        validator.start_next_round()?;
-        validator.hear(proposal(rt.alloc(), 1, 1, value_of(rt.alloc(), 1, byte)?))?;
-        assert_eq!(rt;
-            only_vote(validator.settle()?),
-            Some(vote(VoteStep::Prevote, 1, 3, content))
-        );
-    }
+    let id = id_of(rt.alloc(), b'a')?;
+    let same = Some(vote(VoteStep::Prevote, 1, 3, id));
+    assert_eq!(rt; vote_under_lock(rt.alloc(), b'a')?, same);
+    let nil = Some(vote(VoteStep::Prevote, 1, 3, None));
+    assert_eq!(rt; vote_under_lock(rt.alloc(), b'b')?, nil);
     Ok(())
 }
