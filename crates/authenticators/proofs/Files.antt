@@ -1,7 +1,9 @@
 -- Key files line by line, and keys in turn.
-use Rattle.std.proofs.Common.{◌≡◌, ℕ, zero, suc, ◌+◌, ◌<◌, List, [], ◌∷◌, ◌++◌, length, map, drop, get_or, Option, Some, None, Result, Ok, Err, refl, sym, ap, subst, ◌∙◌, arith}
-use Rattle.std.specs.List.{range_with_len, slice_split}
+use Rattle.std.proofs.Common.{◌≡◌, ℕ, zero, suc, ◌+◌, ◌<◌, List, [], ◌∷◌, ◌++◌, length, map, drop, get_or, Option, Some, None, Result, Ok, Err, inl, inr, refl, sym, ap, subst, ◌∙◌, arith}
+use Rattle.std.specs.List.{range_with_len, slice_get, slice_split}
+use Rattle.std.proofs.lemmas.Bool.{cases_lt}
 use Rattle.std.proofs.lemmas.List.{at_drop_more, drop_all, map_push}
+use Rattle.std.proofs.lemmas.Option.{slice_get_past}
 use Rattle.std.proofs.lemmas.List.FromFn.{map-range_with_len_more, length-map-range_with_len, get_or-map-range_with_len}
 use Rattle.authenticators.specs.Keys.{◌>>=◌, Fails, with_line, with_lines, every_key, keys_from, key_between, is_line_feed, ring_with, ring_of}
 use Rattle.authenticators.specs.Ring.{sender_count}
@@ -119,13 +121,50 @@ unfolding ring_of
 no_lines me count text e fault = Fails-then e (with_lines me count [] (slice_split is_line_feed text)) _ fault
 
 -- the keys to all validators, and from those that send
-pub ring_lengths : (me : Party) (count : ℕ) (lines : List KeyLine) (to_validators from_validators : List (List ℕ))
+ring_lengths : (me : Party) (count : ℕ) (lines : List KeyLine) (to_validators from_validators : List (List ℕ))
     → every_key (map (λ number. key_between lines me number) (range_with_len 0 count)) ≡ Ok to_validators → every_key (keys_from lines me Validator count) ≡ Ok from_validators
     → (length to_validators ≡ count) × (length from_validators ≡ sender_count me count)
 ring_lengths me count lines to_validators from_validators to from = (
   length-every_key (to_each lines me count) to_validators to ∙ length-map-range_with_len (λ number. key_between lines me number) 0 count,
   length-every_key (keys_from lines me Validator count) from_validators from ∙ length-keys_from lines me Validator count,
 )
+
+-- the key at a place
+slice_get-every_key : (found : List (Option (List ℕ))) (keys : List (List ℕ)) (i : ℕ) → every_key found ≡ Ok keys → slice_get keys i ≡ get_or found i None
+unfolding every_key
+slice_get-every_key [] keys i e = let nothing : keys ≡ [] = cc in rw nothing refl
+slice_get-every_key (None ∷ others) keys i e = absurd (cc)
+slice_get-every_key (Some key ∷ others) keys zero e = rw (bind_key key (every_key others) keys e).2 refl
+slice_get-every_key (Some key ∷ others) keys (suc i) e =
+    let parts = bind_key key (every_key others) keys e in
+    rw parts.2 (slice_get-every_key others parts.0 i parts.1)
+
+key_at : (key : ℕ → Option (List ℕ)) (count i : ℕ) (keys : List (List ℕ)) → i < count → every_key (map key (range_with_len 0 count)) ≡ Ok keys → slice_get keys i ≡ key i
+key_at key count i keys below e = slice_get-every_key _ keys i e ∙ get_or-map-range_with_len key 0 count i i None below (omega arith)
+
+-- a validator's key for itself is one key, if it is among those that there are
+own_key : (number count : ℕ) (lines : List KeyLine) (to_validators from_validators : List (List ℕ))
+    → every_key (map (λ other. key_between lines (Validator number) other) (range_with_len 0 count)) ≡ Ok to_validators
+    → every_key (keys_from lines (Validator number) Validator count) ≡ Ok from_validators
+    → slice_get from_validators number ≡ slice_get to_validators number
+unfolding keys_from
+own_key number count lines to_validators from_validators to from =
+    let lengths = ring_lengths (Validator number) count lines to_validators from_validators to from in
+    elim (cases_lt number count) [
+      | inl below ↦
+          key_at (λ other. key_between lines (Validator other) number) count number from_validators below from
+          ∙ sym (key_at (λ other. key_between lines (Validator number) other) count number to_validators below to)
+      | inr past ↦ slice_get_past from_validators number (omega (arith, lengths.1)) ∙ sym (slice_get_past to_validators number (omega (arith, lengths.0)))
+    ]
+
+-- what the keys of a ring keep
+pub ring_keeps : (me : Party) (count : ℕ) (lines : List KeyLine) (to_validators from_validators : List (List ℕ))
+    → every_key (map (λ number. key_between lines me number) (range_with_len 0 count)) ≡ Ok to_validators → every_key (keys_from lines me Validator count) ≡ Ok from_validators
+    → (length to_validators ≡ count) × (length from_validators ≡ sender_count me count)
+    × ((number : ℕ) → me ≡ Validator number → slice_get from_validators number ≡ slice_get to_validators number)
+ring_keeps me count lines to_validators from_validators to from =
+    let lengths = ring_lengths me count lines to_validators from_validators to from in
+    (lengths.0, lengths.1, λ number is. own_key number count lines to_validators from_validators (rw is at to) (rw is at from))
 
 -- the lines of the file say it all
 pub ring_of-lines : (me : Party) (count : ℕ) (text : List ℕ) (lines : List KeyLine) → with_lines me count [] (slice_split is_line_feed text) ≡ Ok lines → ring_of me count text ≡ ring_with me count lines

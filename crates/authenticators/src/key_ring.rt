@@ -1,6 +1,6 @@
 //! The keys of one party, by the other party's number.
 
-ghost use Rattle.std.specs.Prelude.{◌≡◌, IfOk};
+ghost use Rattle.std.specs.Prelude.{◌≡◌, length, IfOk};
 ghost use Rattle.std.specs.Option.{option_copied};
 ghost use Rattle.authenticators.specs.Keys.{Gives, ring_of, ring_with};
 ghost use Rattle.authenticators.specs.Ring.{incoming, outgoing, tags_of, IsWhole};
@@ -24,8 +24,9 @@ pub struct KeyRing {
 }
 
 impl Model for KeyRing {
-    ghost use Rattle.std.specs.Prelude.{◌≡◌, length};
+    ghost use Rattle.std.specs.Prelude.{◌≡◌, ℕ, length, slice_get};
     ghost use Rattle.authenticators.specs.Ring.{Ring, sender_count};
+    ghost use Rattle.authenticators.specs.declared.party.Party.TheVariants.{Validator};
 
     ghost Value = { Ring };
 
@@ -38,7 +39,8 @@ impl Model for KeyRing {
     } };
 
     ghost invariant = { λ a. (length a.to_validators.items ≡ a.count)
-        × (length a.from_validators.items ≡ sender_count a.me a.count) };
+        × (length a.from_validators.items ≡ sender_count a.me a.count)
+        × ((me : ℕ) → a.me ≡ Validator me → slice_get a.from_validators.items me ≡ slice_get a.to_validators.items me) };
 }
 
 impl KeyRing {
@@ -93,7 +95,8 @@ impl KeyRing {
         self.me
     }
 
-    /// How many validators there are. No key with one of them is absent.
+    /// How many validators there are. No key with one of them is absent, and none is there of any further one; for itself
+    /// a validator has one key.
     pub fn count(&self) -> u16
         ensures count { result ≡ self.now.count }
         ensures whole { IsWhole self.now }
@@ -124,7 +127,8 @@ impl KeyRing {
 
 /// The tags of a body that the ring's party sends, for each validator in turn.
 pub fn tag_all(alloc: Global, ring: &KeyRing, body: &[u8]) -> Result<Vec<[u8; 32]>, AllocError>
-    ensures { IfOk result (λ tags. tags.items ≡ tags_of ring.now body.now) }
+    ensures tags { IfOk result (λ tags. tags.items ≡ tags_of ring.now body.now) }
+    ensures count { IfOk result (λ tags. length tags.items ≡ ring.now.count) }
 {
     let mut tags = Vec::with_capacity(alloc, ring.to_validators.len())?;
     for key in &ring.to_validators {

@@ -8,7 +8,7 @@ use Rattle.std.proofs.lemmas.List.{drop_more, drop_all}
 use Rattle.transactions.specs.declared.fault.Fault.{Fault}
 use Rattle.transactions.specs.declared.tx.Tx.{Tx}
 use Rattle.transactions.specs.Fields.{◌>>=◌, Gives}
-use Rattle.transactions.specs.Grammar.{tx_body_spelling, IsTxBody}
+use Rattle.transactions.specs.Grammar.{tx_body_spelling, value_spelling, tags_spelling, IsTxBody}
 use Rattle.transactions.proofs.Formats.{length-number_bytes, bind_ok, ok_is}
 use Rattle.transactions.proofs.Lengths.{tags_have_length, value_has_length, tx_body_has_length}
 use Rattle.messages.specs.declared.body.Proposal.{Proposal}
@@ -63,28 +63,37 @@ bare_tx_has_length : (tx : Tx) → IsTxBody tx × (tx.tags ≡ []) → bare_tx_l
 unfolding bare_tx_len
 bare_tx_has_length tx h = rw (tx_body_has_length tx h.0, h.1) refl
 
+pub proposal_length : (p : Proposal) → length (proposal_spelling p) ≡ 18 + length (value_spelling p.value)
+unfolding proposal_spelling
+proposal_length p = simp length-append (omega (arith, length-number_bytes 8 p.height, length-number_bytes 4 p.round, length-number_bytes 2 p.sender, length-number_bytes 4 (valid_round_code p.valid_round)))
+
 proposal_has_length : (p : Proposal) → IsProposal p → proposal_len p ≡ Ok (length (proposal_spelling p))
-unfolding proposal_len proposal_spelling
-proposal_has_length p h =
-    rw (lt-ltb _ _ h.valid_round, value_has_length p.value h.value)
-    (ap (λ (n : ℕ). Ok n) (simp length-append (omega (arith, length-number_bytes 8 p.height, length-number_bytes 4 p.round, length-number_bytes 2 p.sender, length-number_bytes 4 (valid_round_code p.valid_round)))))
+unfolding proposal_len
+proposal_has_length p h = rw (lt-ltb _ _ h.valid_round, value_has_length p.value h.value) (ap (λ (n : ℕ). Ok n) (sym (proposal_length p)))
+
+pub content_small : (content : Option (List ℕ)) → content_len content ≤ 33
+content_small None = omega arith
+content_small (Some id) = omega arith
 
 content_length : (content : Option (List ℕ)) → IsContent content → content_len content ≡ length (content_spelling content)
 content_length None h = refl
 content_length (Some id) h = omega (arith, h)
 
-vote_length : (v : Vote) → IsContent v.content → 14 + content_len v.content ≡ length (vote_spelling v)
+pub vote_length : (v : Vote) → IsContent v.content → 14 + content_len v.content ≡ length (vote_spelling v)
 unfolding vote_spelling
 vote_length v h = simp length-append (omega (arith, content_length v.content h, length-number_bytes 8 v.height, length-number_bytes 4 v.round, length-number_bytes 2 v.sender))
 
-ask_length : (a : Ask) → 10 ≡ length (ask_spelling a)
+pub ask_length : (a : Ask) → 10 ≡ length (ask_spelling a)
 unfolding ask_spelling
 ask_length a = simp length-append (omega (arith, length-number_bytes 8 a.height, length-number_bytes 2 a.sender))
 
+pub precommit_length : (p : Precommit) → length (precommit_spelling p) ≡ 2 + length (tags_spelling p.tags)
+unfolding precommit_spelling
+precommit_length p = simp length-append (omega (arith, length-number_bytes 2 p.sender))
+
 precommit_has_length : (p : Precommit) → IsPrecommit p → precommit_len p ≡ Ok (length (precommit_spelling p))
-unfolding precommit_len precommit_spelling
-precommit_has_length p h =
-    rw (tags_have_length p.tags h.tags) (ap (λ (n : ℕ). Ok n) (simp length-append (omega (arith, length-number_bytes 2 p.sender))))
+unfolding precommit_len
+precommit_has_length p h = rw (tags_have_length p.tags h.tags) (ap (λ (n : ℕ). Ok n) (sym (precommit_length p)))
 
 precommits_have_length : (ps : List Precommit) → AllByRecursion IsPrecommit ps → precommits_len ps ≡ Ok (length (flat_map precommit_spelling ps))
 unfolding precommits_len
@@ -92,11 +101,14 @@ precommits_have_length [] h = refl
 precommits_have_length (p ∷ ps) h =
     rw (precommit_has_length p h.0, precommits_have_length ps h.1) (ap (λ (n : ℕ). Ok n) (sym (length-append (precommit_spelling p) (flat_map precommit_spelling ps))))
 
+pub bundle_length : (b : Bundle) → length b.id ≡ 32 → length (bundle_spelling b) ≡ 47 + length (value_spelling b.value) + length (flat_map precommit_spelling b.precommits)
+unfolding bundle_spelling bundle_head_spelling precommits_spelling
+bundle_length b h = simp length-append (omega (arith, h, length-number_bytes 8 b.height, length-number_bytes 2 b.sender, length-number_bytes 4 b.round))
+
 bundle_has_length : (b : Bundle) → IsBundle b → bundle_len b ≡ Ok (length (bundle_spelling b))
-unfolding bundle_len bundle_spelling bundle_head_spelling precommits_spelling
+unfolding bundle_len
 bundle_has_length b h =
-    rw (value_has_length b.value h.value, le-leb _ _ h.few, precommits_have_length b.precommits h.each)
-    (ap (λ (n : ℕ). Ok n) (simp length-append (omega (arith, h.id, length-number_bytes 8 b.height, length-number_bytes 2 b.sender, length-number_bytes 4 b.round))))
+    rw (value_has_length b.value h.value, le-leb _ _ h.few, precommits_have_length b.precommits h.each) (ap (λ (n : ℕ). Ok n) (sym (bundle_length b h.id)))
 
 pub body_has_length : (body : Body) → IsBody body → body_len body ≡ Ok (length (body_spelling body))
 unfolding body_len

@@ -3,4 +3,7 @@ pub mod Choice
 pub mod BodyFormats
 pub mod Spelled
 pub mod Lengths
+pub mod Sizes
+pub mod FrameSpelling
 pub mod MessageFormats
+pub mod ReplyFormats

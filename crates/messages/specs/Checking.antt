@@ -10,7 +10,9 @@ use Rattle.messages.specs.declared.body.Precommit.{Precommit}
 use Rattle.messages.specs.declared.body.Bundle.{Bundle}
 use Rattle.messages.specs.declared.body.Body.{Body}
 use Rattle.messages.specs.declared.body.Body.TheVariants as kinds
+use Rattle.messages.specs.declared.body.Message.{Message}
 use Rattle.messages.specs.Grammar.{valid_round_code, body_spelling}
+use Rattle.messages.specs.Framing.{frame_spelling}
 
 -- a transaction that is a body has no tags: they stand behind it
 unfoldable pub bare_tx_len : Tx → Result ℕ Fault
@@ -67,3 +69,16 @@ unfoldable pub body_spelled : Body → Result (List ℕ) Fault
 body_spelled body = do
   len ← body_len body
   Ok (body_spelling body)
+
+-- what stands behind the length of a frame: a body, then its tags
+unfoldable pub message_len : Message → Result ℕ Fault
+message_len m = do
+  body ← body_len m.body
+  tags ← tags_len m.tags
+  ask (nat_le (body + tags) 1048576) TooLong
+  Ok (body + tags)
+
+unfoldable pub frame_spelled : Message → Result (List ℕ) Fault
+frame_spelled m = do
+  len ← message_len m
+  Ok (frame_spelling m)

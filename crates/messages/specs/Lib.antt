@@ -2,4 +2,5 @@ pub mod Grammar
 pub mod Reading
 pub mod Checking
 pub mod Framing
+pub mod Replies
 pub mod Equality

@@ -1,7 +1,7 @@
-//! Messages, and the bytes that spell their bodies.
+//! Messages and replies, and the frames that spell them.
 //!
-//! Numbers are big-endian, and fields stand in order with nothing between them. The first byte of a
-//! body is its kind.
+//! Numbers are big-endian, and fields stand in order with nothing between them. A message is a body
+//! and the tags behind it. The first byte of a body is its kind.
 //!
 //! - 01, a transaction without its tags, as `transactions` spells it.
 //! - 10, a proposal: height, eight bytes; round, four; sender, two; valid round, four, which are 0
@@ -12,18 +12,27 @@
 //! - 14, a bundle: height, eight bytes; sender, two; round, four; id, 32; value; the count of its
 //!   precommits, one byte, at most 64, and for each its sender, two bytes, and its tags.
 //!
-//! Each body has one spelling at most, and bytes spell one body at most.
+//! What goes from one party to another is a frame: the length of its content, four bytes, at most
+//! 1,048,576, and that much content. It is measured before anything in it is read. The content is a
+//! message, its tags as `transactions` spells them; or, to a client alone, a reply: the kind 20, a
+//! code, one byte, and an inner number, one byte.
+//!
+//! Each body, message and reply has one spelling at most, and bytes spell one of a sort at most.
 #![tactic(auto)]
 
 mod body;
+mod framing;
 mod measuring;
 mod reading;
+mod replies;
 mod writing;
 
 pub use body::{
     Ask, Body, Bundle, Message, Precommit, Proposal, Step, Vote, same_proposal, same_vote,
 };
+pub use framing::{body_in, frame_of, read, spell};
 pub use reading::read_body;
+pub use replies::{Reply, read_reply, spell_reply};
 pub use writing::spell_body;
 
 #[cfg(test)]

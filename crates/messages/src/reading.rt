@@ -182,7 +182,7 @@ fn body_behind(alloc: Global, kind: u8, bytes: &[u8]) -> Result<(Body, &[u8]), F
 }
 
 #[tactic(auto, unfolding(crate::specs::Reading::body_at))]
-fn body_front(alloc: Global, bytes: &[u8]) -> Result<(Body, &[u8]), Fault>
+pub(crate) fn body_front(alloc: Global, bytes: &[u8]) -> Result<(Body, &[u8]), Fault>
     ensures { Gives (λ x. (x.0, x.1.now)) result (body_at bytes.now) }
 {
     let (kind, rest) = u8_at(bytes)?;

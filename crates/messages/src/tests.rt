@@ -1,5 +1,7 @@
 mod equality;
 mod faults;
+mod frames;
+mod replies;
 
 use super::*;
 use std::alloc::{AllocError, Global};

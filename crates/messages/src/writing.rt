@@ -112,7 +112,7 @@ fn put_bundle(out: &mut Vec<u8>, bundle: &Bundle) -> Result<(), AllocError>
     put_precommits(out, bundle.precommits.as_slice())
 }
 
-fn put_body(out: &mut Vec<u8>, body: &Body) -> Result<(), AllocError>
+pub(crate) fn put_body(out: &mut Vec<u8>, body: &Body) -> Result<(), AllocError>
     requires { IsBody body.now }
     ensures { OnOk result (out.new.items ≡ out.old.items ++ body_spelling body.now) }
 {
@@ -163,6 +163,8 @@ pub fn spell_body(alloc: Global, body: &Body) -> Result<Vec<u8>, Fault>
     ensures only { (bytes : List ℕ) → SpellsBody bytes body.now → Gives (λ v. v.items) result (Ok bytes) }
     // Which fault it is.
     ensures exact { Gives (λ v. v.items) result (body_spelled body.now) }
+    // The longest is a bundle of 500,000 bytes of value and 64 precommits with 64 tags each.
+    ensures short { IfOk result (λ bytes. length bytes.items ≤ 631312) }
 {
     bytes_of_body(alloc, body)
 }

@@ -16,7 +16,7 @@ use Rattle.protocol.specs.State.{Context, State, Node, ValueAt, Stamp, Rule, Sta
 use Rattle.protocol.specs.Rules.{holds, saved, keeping, keeping_own, released_by, starts, proposal_of, saved_by_timeout, certificate, signed_by, is_stamp, changed, changed_by_timeout}
 use Rattle.protocol.specs.Restart.{restart, opened, own_since, votes_in}
 use Rattle.protocol.specs.Queues.{pick, is_closed}
-use Rattle.protocol.specs.Refusals.{context, bundle_senders}
+use Rattle.protocol.specs.Refusals.{context, bundle_senders, is_vouching, certified}
 use Rattle.protocol.specs.Arrivals.{taken_in, firing, kept_message, stamp_of}
 use Rattle.protocol.specs.World.{World, Event, Sends, Comes, Fires, Asks, Resends, Restarts, happens, run, beginning, cut_record, moved}
 use Rattle.protocol.specs.Laws.{CertificateLaw}
@@ -99,10 +99,17 @@ timed_certified c g picked s Propose = tt
 timed_certified c g picked s Prevote = tt
 timed_certified c g picked s Precommit = starts_certified c g s (suc s.round) picked
 
-bundle_certified : (c : Setting) (p : ℕ) (b : Bundle) → IsQuorum c.powers (bundle_senders c p b) → IsQuorum c.powers (λ i. list_any (λ (z : Signed). z.sender == i) b.precommits)
-unfolding bundle_senders
-bundle_certified c p b q = quorum_more c.powers (bundle_senders c p b) (λ i. list_any (λ (z : Signed). z.sender == i) b.precommits)
-    (λ i l e. let f = any_found _ b.precommits e in any_in (λ (z : Signed). z.sender == i) f.0 b.precommits f.1 (and_parts _ _ f.2).0) q
+vouching_certified : (c : Setting) (p : ℕ) (b : Bundle) (i : ℕ) → i < length c.powers → bundle_senders c p b i ≡ true → list_any (λ (z : Signed). z.sender == i) (certified c p b) ≡ true
+unfolding bundle_senders certified
+vouching_certified c p b i l e =
+    let f = any_found (is_vouching c p b i) b.precommits e in
+    let z = find_in (is_vouching c p b i) f.0 b.precommits f.1 f.2 in
+    let there : z.0 ∈ option_to_list (find (is_vouching c p b i) b.precommits) = rw z.1 (inl refl) in
+    let is = (found_in (is_vouching c p b i) b.precommits z.0 z.1).passes in
+    any_in (λ (y : Signed). y.sender == i) z.0 _ (flat_map_in (λ j. option_to_list (find (is_vouching c p b j) b.precommits)) z.0 i (below (length c.powers)) (in_below i (length c.powers) l) there) (and_parts _ _ is).0
+
+bundle_certified : (c : Setting) (p : ℕ) (b : Bundle) → IsQuorum c.powers (bundle_senders c p b) → IsQuorum c.powers (λ i. list_any (λ (z : Signed). z.sender == i) (certified c p b))
+bundle_certified c p b q = quorum_more c.powers (bundle_senders c p b) (λ i. list_any (λ (z : Signed). z.sender == i) (certified c p b)) (vouching_certified c p b) q
 
 saved_certified : (c : Setting) (p : ℕ) (picked : Value) (s : State) → Stamped p s.votes s.stamps → (k : Rule) → holds (context c p) s k ≡ true → OptionCertified c (saved (context c p) picked s k)
 saved_certified c p picked s st Start h = starts_certified c (context c p) s 0 picked

@@ -131,7 +131,7 @@ changed_tied c p picked s j (Lock v) w h = locks_tied s j v w (asked (context c 
 changed_tied c p picked s j PrecommitNil w h = votes_tied s (changed s PrecommitNil) j Prevote (Precommitting None) w (record { height = refl; delivered = refl }) refl refl (asked (context c p) s PrecommitNil h).at (omega arith) refl refl
 changed_tied c p picked s j AwaitPrecommits w h = stays s (changed s AwaitPrecommits) j w (record { height = refl; delivered = refl }) refl w.last
 changed_tied c p picked s j (Decide r v) w h = decides_tied s j (record { height = s.height; sender = p; round = r; id = id v; value = v; precommits = certificate (context c p) s r (id v) }) w refl
-changed_tied c p picked s j (DecideByBundle b) w h = decides_tied s j (record b { sender = p }) w (asked (context c p) s (DecideByBundle b) h).height
+changed_tied c p picked s j (DecideByBundle b) w h = decides_tied s j (record b { sender = p; precommits = (context c p).certified b }) w (asked (context c p) s (DecideByBundle b) h).height
 changed_tied c p picked s j (SkipRound r) w h =
     let k = asked (context c p) s (SkipRound r) h in
     let above : s.round < r = k.above in

@@ -154,7 +154,7 @@ module _ (f : ℕ → List ℕ) where
         | inr e ↦ parts ∙ get_or_append_left front (f n ∷ []) [] q (omega arith) ∙ tag_at n q (omega arith)
       ]
 
-tagged_tags : (c : Setting) (b : Body) → 1 ≤ length c.powers → length c.powers ≤ 64 → AreTags (tagged c b).tags
+pub tagged_tags : (c : Setting) (b : Body) → 1 ≤ length c.powers → length c.powers ≤ 64 → AreTags (tagged c b).tags
 unfolding tagged
 tagged_tags c b one few =
     let f : ℕ → List ℕ = λ q. hmac (c.key (sender_of b) q) (body_spelling b) in

@@ -8,10 +8,12 @@ pub mod Order
 pub mod Restart
 pub mod Queues
 pub mod Refusals
+pub mod Rings
 pub mod Calls
 pub mod Arrivals
 pub mod World
 pub mod History
+pub mod Effects
 pub mod Premises
 pub mod Reports
 pub mod Laws

@@ -1,5 +1,5 @@
 -- Why what comes to a validator is refused: every cause, in the order in which they are tested.
-use Rattle.std.specs.Prelude.{ℕ, suc, ◌+◌, ◌^◌, Bool, false, cond, not, ◌&&◌, ◌||◌, Option, Some, None, List, [], ◌∷◌, ◌++◌, length, map, ◌==◌, nat_lt, nat_le, count_by, is_none, Result, Ok, Err}
+use Rattle.std.specs.Prelude.{ℕ, suc, ◌+◌, ◌^◌, Bool, false, cond, not, ◌&&◌, ◌||◌, Option, Some, None, List, [], ◌∷◌, ◌++◌, length, map, ◌==◌, nat_lt, nat_le, count_by, is_none, flat_map, find, option_to_list, Result, Ok, Err}
 use Rattle.std.specs.List.{list_any}
 use Rattle.std.specs.Str.{bytes_eq}
 use Rattle.transactions.specs.declared.fault.Fault.{Fault}
@@ -9,15 +9,23 @@ use Rattle.messages.specs.Framing.{message_of}
 use Rattle.powers.specs.Power.{power, is_quorum, proposer}
 use Rattle.protocol.specs.Values.{Tx, Op, Bytes, Close, Item, item, id, valid, of}
 use Rattle.protocol.specs.Tags.{Setting, Party, Validator, Client, right, tx_is_right, genuine}
-use Rattle.protocol.specs.Messages.{precommit, Signed, Proposal, Vote, Ask, Bundle, Body, OfTx, OfProposal, OfVote, OfAsk, OfBundle, Message, proposal_eq, vote_eq, sender_of, tagged}
+use Rattle.protocol.specs.Messages.{precommit, Signed, Proposal, Vote, Ask, Bundle, Body, OfTx, OfProposal, OfVote, OfAsk, OfBundle, Message, proposal_eq, vote_eq, sender_of, tagged, below}
 use Rattle.protocol.specs.State.{Context, State, Queue, Node}
 use Rattle.protocol.specs.Queues.{is_closed, waiting_of}
 
 -- ---- what a validator knows
 
--- the distinct senders of right precommits for the bundle's id at its height and round
+-- the precommit in the bundle is validator i's, for its id at its height and round, and its tag for p is right
+abbrev pub is_vouching : Setting → ℕ → Bundle → ℕ → Signed → Bool
+is_vouching c p b i s = (s.sender == i) && right c p (Validator i) (body_spelling (OfVote (precommit b.height b.round i (Some b.id)))) s.tags
+
+-- the distinct senders of right precommits
 unfoldable pub bundle_senders : Setting → ℕ → Bundle → ℕ → Bool
-bundle_senders c p b i = list_any (λ (s : Signed). (s.sender == i) && right c p (Validator i) (body_spelling (OfVote (precommit b.height b.round i (Some b.id)))) s.tags) b.precommits
+bundle_senders c p b i = list_any (is_vouching c p b i) b.precommits
+
+-- the right precommits, the first of each validator, in order of validator
+unfoldable pub certified : Setting → ℕ → Bundle → List Signed
+certified c p b = flat_map (λ i. option_to_list (find (is_vouching c p b i) b.precommits)) (below (length c.powers))
 
 abbrev pub context : Setting → ℕ → Context
 context c p = record {
@@ -25,6 +33,7 @@ context c p = record {
   me = p;
   genuine = genuine c p;
   vouches = bundle_senders c p;
+  certified = certified c p;
   own_tags = λ height round x. (tagged c (OfVote (precommit height round p (Some x)))).tags;
 }
 

@@ -123,7 +123,7 @@ saved g picked s (Lock v) = cond (step_eq s.step Prevote) (Some (Own s.height s.
 saved g picked s PrecommitNil = Some (Own s.height s.round (Precommitting None))
 saved g picked s AwaitPrecommits = None
 saved g picked s (Decide r v) = Some (Decided (record { height = s.height; sender = g.me; round = r; id = id v; value = v; precommits = certificate g s r (id v) }))
-saved g picked s (DecideByBundle b) = Some (Decided (record b { sender = g.me }))
+saved g picked s (DecideByBundle b) = Some (Decided (record b { sender = g.me; precommits = g.certified b }))
 saved g picked s (SkipRound r) = starts g s r picked
 saved g picked s (TimedOut t) = saved_by_timeout g picked s t.kind
 

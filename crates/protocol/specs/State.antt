@@ -1,7 +1,7 @@
 -- A validator's state, and the names of its rules.
 use Rattle.std.specs.Prelude.{ℕ, Bool, Option, List}
 use Rattle.protocol.specs.Values.{Tx, Value, Item, Id}
-use Rattle.protocol.specs.Messages.{Step, Bundle, Proposal, Vote, Record}
+use Rattle.protocol.specs.Messages.{Step, Bundle, Signed, Proposal, Vote, Record}
 pub use Rattle.protocol.specs.declared.types.ValueAt.{ValueAt}
 pub use Rattle.protocol.specs.declared.types.Stamp.{Stamp}
 pub use Rattle.protocol.specs.declared.types.Timeout.{Timeout}
@@ -12,6 +12,7 @@ pub record Context : Type 0 where
   pub me : ℕ
   pub genuine : Value → Bool  -- the own tags of the value's transactions are right
   pub vouches : Bundle → ℕ → Bool  -- the distinct senders of the bundle's right precommits
+  pub certified : Bundle → List Signed  -- those precommits, the first of each sender, in order of sender
   pub own_tags : ℕ → ℕ → Id → List (List ℕ)  -- the tags of the own precommit of a height and round for an id
 
 -- the variables of the algorithm

@@ -1,4 +1,6 @@
 pub mod Places
 pub mod Stages
 pub mod Soonest
+pub mod Highest
 pub mod Holding
+pub mod Ending

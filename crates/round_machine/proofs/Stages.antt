@@ -1,19 +1,22 @@
 -- Each stage of the order of firing, by places.
-use Rattle.std.proofs.Common.{◌≡◌, ℕ, ◌<◌, Bool, true, false, not, ◌&&◌, cond, List, [], length, get_or, map, All, Option, Some, None, IfSome, option_map, is_none, refl, sym, ap, subst, ◌∙◌, arith}
+use Rattle.std.proofs.Common.{◌≡◌, ℕ, ◌<◌, Bool, true, false, ◌&&◌, List, [], length, get_or, map, All, Option, Some, None, option_map, find, is_none, refl, sym, ap, subst, ◌∙◌}
+use Rattle.std.specs.Prelude.{IsSome}
 use Rattle.std.specs.List.{position_from}
 use Rattle.std.proofs.lemmas.List.{length-map, get_or-map}
 use Rattle.std.proofs.lemmas.Bool.{and_parts}
 use Rattle.protocol.specs.Messages.{Proposal, step_eq}
 use Rattle.protocol.specs.declared.types.Step.TheVariants.{Propose}
-use Rattle.protocol.specs.Values.{id, valid}
-use Rattle.protocol.specs.State.{Context, State, Rule, PrevoteFresh, Lock}
-use Rattle.protocol.specs.Rules.{stands_at, quorum_for, lock_is}
+use Rattle.protocol.specs.Values.{Value, id, valid}
+use Rattle.protocol.specs.State.{Context, State, PrevoteFresh, Lock}
+use Rattle.protocol.specs.Rules.{lock_is}
 use Rattle.round_states.specs.Machine.{Machine, Agrees, genuine_of}
-use Rattle.protocol.specs.Order.{prevoting, locking, is_fresh, is_lockable, is_decidable}
+use Rattle.protocol.specs.Order.{prevoting, is_backed, is_again, again, again_of, prevoting_again, locking, is_fresh, is_lockable, is_decidable}
+use Rattle.protocol.proofs.Membership.{found_in}
 use Rattle.round_states.specs.Found.{proposal_in, IsFound}
 use Rattle.round_states.specs.Steps.{nowhere, proposal_at}
 use Rattle.round_states.specs.declared.state.KeptProposal.{KeptProposal}
-use Rattle.round_machine.specs.Judging.{can_lock, can_decide}
+use Rattle.round_machine.specs.Naming.{prevote_again}
+use Rattle.round_machine.specs.Judging.{can_lock, can_decide, can_prevote_again, has_backing}
 use Rattle.round_machine.proofs.Places.{Agree, placed, there}
 
 -- a kept proposal is some one
@@ -38,6 +41,40 @@ fresh_there powers s ks i same e =
     let t = there (λ (k : KeptProposal). is_fresh powers s k.proposal) ks some_kept i e in
     let at : get_or (map proposal_in ks) i nowhere ≡ proposal_in (get_or ks i some_kept) = get_or-map proposal_in ks i some_kept nowhere t.0 in
     (rw (← same, length-map) t.0, rw (← same, at) (none_of _ (and_parts _ _ t.1).1))
+
+backing_is : (powers : List ℕ) (s : State) (v : Value) (r : Option ℕ) → has_backing powers s (id v) r ≡ is_backed powers s v r
+backing_is powers s v None = refl
+backing_is powers s v (Some r) = refl
+
+again_agrees : (powers : List ℕ) (s : State) (ks : List KeptProposal) → All (IsFound s.delivered) ks → Agree (can_prevote_again powers s) (is_again powers s) ks
+again_agrees powers s ks all i d lt =
+    let k = get_or ks i d in
+    let f = all i d lt in
+    rw (f.id, backing_is powers s k.proposal.value k.proposal.valid_round) refl
+
+backed : (powers : List ℕ) (s : State) (q : Proposal) (r : Option ℕ) → q.valid_round ≡ r → is_backed powers s q.value r ≡ true → Some (prevote_again q) ≡ again q r
+backed powers s q None e b = absurd (let f : false ≡ true = b in cc)
+backed powers s q (Some r) e b = rw e refl
+
+found_again : (powers : List ℕ) (s : State) (qs : List Proposal) (o : Option Proposal) → find (is_again powers s) qs ≡ o → option_map prevote_again o ≡ again_of o
+found_again powers s qs None e = refl
+found_again powers s qs (Some q) e = backed powers s q q.valid_round refl (and_parts _ _ (found_in (is_again powers s) qs q e).passes).1
+
+pub prevoting_again_is : (powers : List ℕ) (s : State) (ks : List KeptProposal) (o : Option ℕ) → map proposal_in ks ≡ s.proposals → All (IsFound s.delivered) ks → o ≡ position_from (can_prevote_again powers s) 0 ks → step_eq s.step Propose ≡ true
+    → option_map (λ i. prevote_again (proposal_at s i)) o ≡ prevoting_again powers s
+prevoting_again_is powers s ks o same all e step =
+    rw (e, step, ← same) (placed (can_prevote_again powers s) (is_again powers s) prevote_again ks (again_agrees powers s ks all) ∙ found_again powers s (map proposal_in ks) (find (is_again powers s) (map proposal_in ks)) refl)
+
+some_round : (powers : List ℕ) (s : State) (x : List ℕ) (r : Option ℕ) → has_backing powers s x r ≡ true → IsSome r
+some_round powers s x None e = absurd (let f : false ≡ true = e in cc)
+some_round powers s x (Some r) e = refl
+
+pub again_there : (powers : List ℕ) (s : State) (ks : List KeptProposal) (i : ℕ) → map proposal_in ks ≡ s.proposals → position_from (can_prevote_again powers s) 0 ks ≡ Some i
+    → (i < length s.proposals) × IsSome (proposal_at s i).valid_round
+again_there powers s ks i same e =
+    let t = there (can_prevote_again powers s) ks some_kept i e in
+    let at : get_or (map proposal_in ks) i nowhere ≡ proposal_in (get_or ks i some_kept) = get_or-map proposal_in ks i some_kept nowhere t.0 in
+    (rw (← same, length-map) t.0, rw (← same, at) (some_round powers s _ _ (and_parts _ _ t.1).1))
 
 pub locking_is : (powers : List ℕ) (s : State) (ks : List KeptProposal) (o : Option ℕ) → map proposal_in ks ≡ s.proposals → All (IsFound s.delivered) ks → o ≡ position_from (can_lock powers s) 0 ks → step_eq s.step Propose ≡ false → s.value_found ≡ false
     → option_map (λ i. Lock (proposal_at s i).value) o ≡ locking powers s

@@ -1,8 +1,8 @@
--- What a stage asks of a kept proposal, by what was found of it.
-use Rattle.std.specs.Prelude.{ℕ, Bool, true, ◌&&◌, Option, Some, None, List, nat_lt}
+-- What a stage asks of a kept proposal, by what was found of it, and of a round.
+use Rattle.std.specs.Prelude.{ℕ, Bool, true, false, cond, ◌&&◌, Option, Some, None, List, nat_lt, unwrap_or}
 use Rattle.protocol.specs.declared.types.Step.TheVariants.{Prevote, Precommit}
 use Rattle.protocol.specs.State.{State}
-use Rattle.protocol.specs.Rules.{stands_at, quorum_for}
+use Rattle.protocol.specs.Rules.{stands_at, quorum_for, weak_at}
 use Rattle.round_states.specs.declared.state.KeptProposal.{KeptProposal}
 use Rattle.round_machine.specs.declared.deciding.Place.{Place}
 
@@ -12,7 +12,19 @@ can_decide powers s k = stands_at powers s k.proposal.round k.proposal && k.is_v
 abbrev pub can_lock : List ℕ → State → KeptProposal → Bool
 can_lock powers s k = stands_at powers s s.round k.proposal && k.is_valid && quorum_for powers s s.round Prevote (Some k.id)
 
+-- its valid round is an earlier one, and has a quorum for its value
+abbrev pub has_backing : List ℕ → State → List ℕ → Option ℕ → Bool
+has_backing powers s x None = false
+has_backing powers s x (Some r) = nat_lt r s.round && quorum_for powers s r Prevote (Some x)
+
+abbrev pub can_prevote_again : List ℕ → State → KeptProposal → Bool
+can_prevote_again powers s k = stands_at powers s s.round k.proposal && has_backing powers s k.id k.proposal.valid_round
+
 -- a place of a lower round than the best so far
 abbrev pub is_sooner_than : Place → Option Place → Bool
 is_sooner_than place None = true
 is_sooner_than place (Some best) = nat_lt place.round best.round
+
+-- the best round after one more: only one above the best so far, or else the own one, is asked about
+abbrev pub higher_weak : List ℕ → State → Option ℕ → ℕ → Option ℕ
+higher_weak powers s best r = cond (nat_lt (unwrap_or best s.round) r && weak_at powers s r) (Some r) best

@@ -1,2 +1,4 @@
 pub mod Naming
 pub mod Judging
+pub mod Timing
+pub mod Bundling

@@ -1,21 +1,26 @@
 //! The firing of a rule.
 
-ghost use Rattle.std.specs.Prelude.{◌≡◌, ◌<◌, ◌&&◌, true, Some, None, IfOk, OnOk, OnErr, length};
-ghost use Rattle.std.specs.Option.{option_copied};
-ghost use Rattle.protocol.specs.Values.{Value as Handed, valid};
+ghost use Rattle.std.specs.Prelude.{◌≡◌, ◌<◌, ℕ, suc, true, Some, None, IfOk, OnOk, OnErr, length, option_map};
+ghost use Rattle.transactions.specs.Grammar.{IsValue};
+ghost use Rattle.protocol.specs.Values.{id as name_of, Value as Handed};
+ghost use Rattle.protocol.specs.Messages.{Own, Prevoting, Precommitting, OfVote, prevote, precommit};
+ghost use Rattle.protocol.specs.declared.types.Step.TheVariants as steps;
 ghost use Rattle.protocol.specs.State.{Context};
 ghost use Rattle.protocol.specs.State as rules;
-ghost use Rattle.protocol.specs.Rules.{holds, saved, fired, scheduled, lock_is, content_if};
+ghost use Rattle.protocol.specs.Rules.{holds, saved, fired, scheduled, starts, started, start_timeout, keeping, keeping_own, released_by};
 ghost use Rattle.round_states.specs.Machine.{Agrees};
 ghost use Rattle.round_states.specs.Pending.{pending_of};
-ghost use Rattle.round_states.specs.Steps.{picked_value, proposal_at};
-ghost use Rattle.round_machine.specs.Naming.{rule_of, IsPlaced, Serves, pick_in};
+ghost use Rattle.round_states.specs.Steps.{at, picked_value, proposal_at};
+ghost use Rattle.round_machine.specs.Naming.{rule_of, IsPlaced, Serves, ServesRound, ServesTimeout, pick_in};
+ghost use Rattle.round_machine.specs.Bundling.{Came};
 
+use crate::content::{again_content, fresh_content};
 use crate::rule::{Input, Rule};
-use protocol::ValueAt;
-use round_states::{Fired, KeptProposal, State};
+use messages::Bundle;
+use protocol::{Step, Timeout};
+use round_states::{Fired, State, Unsaved};
 use std::alloc::AllocError;
-use transactions::{Id, Value, same_value};
+use transactions::Id;
 
 /// Fires a rule that holds. Refused for want of memory, the state is unchanged.
 ///
@@ -34,26 +39,82 @@ pub fn fire(state: &mut State, rule: Rule, input: Input) -> Result<Fired, AllocE
     ensures err { OnErr result (state.new ≡ state.old) }
 {
     match rule {
-        Rule::Start => start(state, input),
+        Rule::Start => start_round(state, 0, input),
         Rule::Decide(place) => decide(state, place, input),
-        Rule::PrevoteFresh(place) => prevote_fresh(state, place),
+        Rule::SkipRound(round) => start_round(state, round, input),
+        Rule::PrevoteFresh(place) => {
+            let content = fresh_content(state, place);
+            prevote(state, content)
+        }
+        Rule::PrevoteAgain(place) => {
+            let content = again_content(state, place);
+            prevote(state, content)
+        }
         Rule::Lock(place) => lock(state, place),
         Rule::PrecommitNil => precommit_nil(state),
+        Rule::AwaitPrevotes => Ok(await_prevotes(state)),
+        Rule::AwaitPrecommits => Ok(await_precommits(state)),
+        Rule::TimedOut(timeout) => time_out(state, timeout, input),
     }
 }
 
-/// The beginning of round 0.
-fn start(state: &mut State, input: Input) -> Result<Fired, AllocError>
+/// Fires line 49 by a bundle that another validator collected. Refused for want of memory, the state is
+/// unchanged.
+///
+/// The handed bundle is the one that came, with its precommits cut down to the right ones, the first of
+/// each sender in order of sender: so it is kept as the decision's certificate, from the own number.
+pub fn decide_by_bundle(state: &mut State, bundle: Bundle) -> Result<Fired, AllocError>
+    ghost came: { Came }
+    requires agrees { Agrees came.context state.old }
+    requires holds { holds came.context state.old.state (rules.DecideByBundle came.bundle) ≡ true }
+    requires certified { bundle ≡ record came.bundle { precommits = came.context.certified came.bundle } }
+    requires fits { IsValue bundle.value }
+    ensures state { OnOk result ((picked : Handed) → state.new.state ≡ fired came.context picked state.old.state (rules.DecideByBundle came.bundle)) }
+    ensures unsaved { IfOk result (λ f. (picked : Handed) → f.unsaved ≡ pending_of state.old.me (saved came.context picked state.old.state (rules.DecideByBundle came.bundle))) }
+    ensures timeout { IfOk result (λ f. f.timeout ≡ None) }
+    ensures agrees { OnOk result (Agrees came.context state.new) }
+    ensures err { OnErr result (state.new ≡ state.old) }
+{
+    Ok(only_saved(state.decide_by_bundle(bundle)?))
+}
+
+/// What is to be saved, and no timeout.
+fn only_saved(unsaved: Unsaved) -> Fired
+    ensures { result ≡ record { unsaved = Some unsaved; timeout = None } }
+{
+    Fired {
+        unsaved: Some(unsaved),
+        timeout: None,
+    }
+}
+
+/// A timeout of this step in the present round, and nothing to be saved.
+fn only_scheduled(state: &State, kind: Step) -> Fired
+    ensures { result ≡ record { unsaved = None; timeout = Some (record { kind = kind; height = state.now.state.height; round = state.now.state.round }) } }
+{
+    Fired {
+        unsaved: None,
+        timeout: Some(Timeout {
+            kind,
+            height: state.height(),
+            round: state.round(),
+        }),
+    }
+}
+
+/// The beginning of a later round (lines 11 to 21).
+fn start_round(state: &mut State, round: u32, input: Input) -> Result<Fired, AllocError>
     ghost g: { Context }
     requires agrees { Agrees g state.old }
-    requires serves { Serves g state.old Rule.Start input }
-    ensures state { OnOk result (state.new.state ≡ fired g (picked_value (pick_in input)) state.old.state rules.Start) }
-    ensures unsaved { IfOk result (λ f. f.unsaved ≡ pending_of state.old.me (saved g (picked_value (pick_in input)) state.old.state rules.Start)) }
-    ensures timeout { IfOk result (λ f. f.timeout ≡ scheduled g state.old.state rules.Start) }
+    requires later { state.old.state.begun ≡ true → state.old.state.round < round }
+    requires serves { ServesRound g state.old round input }
+    ensures state { OnOk result (state.new.state ≡ keeping_own (started state.old.state round) (released_by g.me (starts g state.old.state round (picked_value (pick_in input))))) }
+    ensures unsaved { IfOk result (λ f. f.unsaved ≡ pending_of state.old.me (starts g state.old.state round (picked_value (pick_in input)))) }
+    ensures timeout { IfOk result (λ f. f.timeout ≡ start_timeout g state.old.state round) }
     ensures agrees { OnOk result (Agrees g state.new) }
     ensures err { OnErr result (state.new ≡ state.old) }
 {
-    state.start_round(0, input.into_picked())
+    state.start_round(round, input.into_picked())
 }
 
 /// Line 49.
@@ -69,64 +130,22 @@ fn decide(state: &mut State, place: usize, input: Input) -> Result<Fired, AllocE
     ensures agrees { OnOk result (Agrees g state.new) }
     ensures err { OnErr result (state.new ≡ state.old) }
 {
-    let unsaved = state.decide(place, input.own_tags())?;
-    Ok(Fired {
-        unsaved: Some(unsaved),
-        timeout: None,
-    })
+    Ok(only_saved(state.decide(place, input.own_tags())?))
 }
 
-/// Line 22.
-fn prevote_fresh(state: &mut State, place: usize) -> Result<Fired, AllocError>
+/// The own prevote (lines 22 to 33, 59 and 60).
+fn prevote(state: &mut State, content: Option<Id>) -> Result<Fired, AllocError>
     ghost g: { Context }
     requires agrees { Agrees g state.old }
-    requires placed { place < length state.old.state.proposals }
-    requires holds { holds g state.old.state (rule_of state.old.state (Rule.PrevoteFresh place)) ≡ true }
-    requires fresh { (proposal_at state.old.state place).valid_round ≡ None }
-    ensures state { OnOk result ((picked : Handed) → state.new.state ≡ fired g picked state.old.state (rule_of state.old.state (Rule.PrevoteFresh place))) }
-    ensures unsaved { IfOk result (λ f. (picked : Handed) → f.unsaved ≡ pending_of state.old.me (saved g picked state.old.state (rule_of state.old.state (Rule.PrevoteFresh place)))) }
+    requires begun { state.old.state.begun ≡ true }
+    requires step { state.old.state.step ≡ steps.Propose }
+    ensures state { let s = state.old.state in OnOk result (state.new.state ≡ keeping (record s { step = steps.Prevote }) (OfVote (prevote s.height s.round g.me content))) }
+    ensures unsaved { let s = state.old.state in IfOk result (λ f. f.unsaved ≡ pending_of state.old.me (Some (Own s.height s.round (Prevoting content)))) }
     ensures timeout { IfOk result (λ f. f.timeout ≡ None) }
     ensures agrees { OnOk result (Agrees g state.new) }
     ensures err { OnErr result (state.new ≡ state.old) }
 {
-    let content = fresh_content(state, place);
-    let unsaved = state.prevote(content)?;
-    Ok(Fired {
-        unsaved: Some(unsaved),
-        timeout: None,
-    })
-}
-
-/// What a prevote for a fresh proposal says: its id, if it is valid and genuine and no lock forbids it.
-fn fresh_content(state: &State, place: usize) -> Option<Id>
-    ghost g: { Context }
-    requires agrees { Agrees g state.now }
-    requires placed { place < length state.now.state.proposals }
-    requires fresh { (proposal_at state.now.state place).valid_round ≡ None }
-    ensures { let s = state.now.state in let v = (proposal_at s place).value in result ≡ content_if (valid s.delivered v && g.genuine v && lock_is s.lock v) v }
-{
-    let kept = &state.kept()[place];
-    if is_fit(kept, state.lock()) {
-        Some(kept.id)
-    } else {
-        None
-    }
-}
-
-fn is_fit(kept: &KeptProposal, lock: Option<&ValueAt>) -> bool
-    ensures { result ≡ (kept.now.is_valid && kept.now.is_genuine && lock_is (option_copied lock.entry) kept.now.proposal.value) }
-{
-    kept.is_valid && kept.is_genuine && lock_is(lock, &kept.proposal.value)
-}
-
-/// No lock, or one on this value.
-fn lock_is(lock: Option<&ValueAt>, value: &Value) -> bool
-    ensures { result ≡ lock_is (option_copied lock.entry) value.now }
-{
-    match lock {
-        None => true,
-        Some(lock) => same_value(lock.value.value(), value),
-    }
+    Ok(only_saved(state.prevote(content)?))
 }
 
 /// Line 36.
@@ -148,20 +167,57 @@ fn lock(state: &mut State, place: usize) -> Result<Fired, AllocError>
     })
 }
 
-/// Line 44.
+/// The own precommit for nil (lines 45, 46, 63 and 64).
 fn precommit_nil(state: &mut State) -> Result<Fired, AllocError>
     ghost g: { Context }
     requires agrees { Agrees g state.old }
-    requires holds { holds g state.old.state rules.PrecommitNil ≡ true }
-    ensures state { OnOk result ((picked : Handed) → state.new.state ≡ fired g picked state.old.state rules.PrecommitNil) }
-    ensures unsaved { IfOk result (λ f. (picked : Handed) → f.unsaved ≡ pending_of state.old.me (saved g picked state.old.state rules.PrecommitNil)) }
+    requires begun { state.old.state.begun ≡ true }
+    requires step { state.old.state.step ≡ steps.Prevote }
+    ensures state { let s = state.old.state in OnOk result (state.new.state ≡ keeping (record s { step = steps.Precommit }) (OfVote (precommit s.height s.round g.me None))) }
+    ensures unsaved { let s = state.old.state in IfOk result (λ f. f.unsaved ≡ pending_of state.old.me (Some (Own s.height s.round (Precommitting None)))) }
     ensures timeout { IfOk result (λ f. f.timeout ≡ None) }
     ensures agrees { OnOk result (Agrees g state.new) }
     ensures err { OnErr result (state.new ≡ state.old) }
 {
-    let unsaved = state.precommit(None)?;
-    Ok(Fired {
-        unsaved: Some(unsaved),
-        timeout: None,
-    })
+    Ok(only_saved(state.precommit(None)?))
+}
+
+/// Line 34.
+fn await_prevotes(state: &mut State) -> Fired
+    ensures state { state.new ≡ at state.old (record state.old.state { prevotes_awaited = true }) }
+    ensures fired { result ≡ record { unsaved = None; timeout = Some (record { kind = steps.Prevote; height = state.old.state.height; round = state.old.state.round }) } }
+{
+    state.await_prevotes();
+    only_scheduled(state, Step::Prevote)
+}
+
+/// Line 47.
+fn await_precommits(state: &mut State) -> Fired
+    ensures state { state.new ≡ at state.old (record state.old.state { precommits_awaited = true }) }
+    ensures fired { result ≡ record { unsaved = None; timeout = Some (record { kind = steps.Precommit; height = state.old.state.height; round = state.old.state.round }) } }
+{
+    state.await_precommits();
+    only_scheduled(state, Step::Precommit)
+}
+
+/// Lines 57, 61 and 65.
+fn time_out(state: &mut State, timeout: Timeout, input: Input) -> Result<Fired, AllocError>
+    ghost g: { Context }
+    requires agrees { Agrees g state.old }
+    requires holds { holds g state.old.state (rules.TimedOut timeout) ≡ true }
+    requires serves { ServesTimeout g state.old timeout.kind input }
+    ensures state { OnOk result (state.new.state ≡ fired g (picked_value (pick_in input)) state.old.state (rules.TimedOut timeout)) }
+    ensures unsaved { IfOk result (λ f. f.unsaved ≡ pending_of state.old.me (saved g (picked_value (pick_in input)) state.old.state (rules.TimedOut timeout))) }
+    ensures timeout { IfOk result (λ f. f.timeout ≡ scheduled g state.old.state (rules.TimedOut timeout)) }
+    ensures agrees { OnOk result (Agrees g state.new) }
+    ensures err { OnErr result (state.new ≡ state.old) }
+{
+    match timeout.kind {
+        Step::Propose => prevote(state, None),
+        Step::Prevote => precommit_nil(state),
+        Step::Precommit => {
+            let next = state.round() + 1;
+            start_round(state, next, input)
+        }
+    }
 }

@@ -1,16 +1,21 @@
-ghost use Rattle.std.specs.Prelude.{◌≡◌, false, true, cond, map, is_none, IfOk};
+ghost use Rattle.std.specs.Prelude.{◌≡◌, false, true, [], cond, map, is_none, IsSome, IfSome, IfOk};
 ghost use Rattle.transactions.specs.Grammar.{IsValue};
 ghost use Rattle.protocol.specs.State.{Context};
 ghost use Rattle.round_states.specs.Taking.{IsKept};
+ghost use Rattle.round_machine.specs.Naming.{pick_in};
 
 use super::*;
 use messages::{Body, Message, Proposal, Step as VoteStep, Vote};
 use powers::Powers;
-use protocol::Step;
+use protocol::{Step, Timeout};
 use round_states::{Fired, Picked, Refusal, State, release};
 use std::alloc::Global;
+use std::process::Abort;
 use std::test::Fail;
 use transactions::{Duplicate, Id, Seq, Value, read_value, value_id};
+
+mod scenes;
+mod single;
 
 /// A validator among four of power 1, to which every value's own tags are right, or none's are.
 #[derive(Drop)]
@@ -43,61 +48,73 @@ impl Validator {
         self.state.take_in(message, self.genuine)
     }
 
+    /// What it picks of its clients' queues.
+    fn pick(&self) -> Result<Input, Fail>
+        ensures { IfOk result (λ input. IfSome (pick_in input) (λ p. IsValue p.value × (p.genuine ≡ self.now.genuine)) × IsSome (pick_in input)) }
+    {
+        Ok(Input::Picked(Picked {
+            value: value_of(self.alloc, 1, b'p')?,
+            genuine: self.genuine,
+        }))
+    }
+
     /// Fires the first enabled rule.
     fn step(&mut self) -> Result<Option<Fired>, Fail>
         ghost g: { Context }
-        requires { g ≡ record { powers = self.old.state.powers; me = self.old.state.me; genuine = λ _. self.old.genuine; vouches = λ _ _. false; own_tags = λ _ _ _. self.old.own_tags } }
+        requires { g ≡ record { powers = self.old.state.powers; me = self.old.state.me; genuine = λ _. self.old.genuine; vouches = λ _ _. false; certified = λ _. []; own_tags = λ _ _ _. self.old.own_tags } }
     {
         let rule = match enabled(&self.state) {
             None => return Ok(None),
             Some(rule) => rule,
         };
         let input = match rule {
-            Rule::Start => Input::Picked(Picked {
-                value: value_of(self.alloc, 1, b'p')?,
-                genuine: self.genuine,
-            }),
+            Rule::Start | Rule::SkipRound(_) => self.pick()?,
             Rule::Decide(_) => Input::OwnTags(self.own_tags.copy(self.alloc)?),
             _ => Input::Nothing,
         };
         Ok(Some(fire(&mut self.state, rule, input)?))
     }
 
-    /// Begins round 1, as where the timeout of round 0 is over.
-    fn start_next_round(&mut self) -> Result<(), Fail> {
-        let picked = Picked {
-            value: value_of(self.alloc, 1, b'p')?,
-            genuine: self.genuine,
+    /// Fires the rule of a timeout of the present height and round, if it holds.
+    fn time_out(&mut self, kind: Step) -> Result<Option<Fired>, Fail>
+        ghost g: { Context }
+        requires { g ≡ record { powers = self.old.state.powers; me = self.old.state.me; genuine = λ _. self.old.genuine; vouches = λ _ _. false; certified = λ _. []; own_tags = λ _ _ _. self.old.own_tags } }
+    {
+        let timeout = Timeout {
+            kind,
+            height: self.state.height(),
+            round: self.state.round(),
         };
-        let Fired {
-            unsaved,
-            timeout: _,
-        } = self.state.start_round(1, Some(picked))?;
-        if let Some(unsaved) = unsaved {
-            release(unsaved);
+        if !holds_timeout(&self.state, timeout) {
+            return Ok(None);
         }
-        Ok(())
+        let input = self.pick()?;
+        Ok(Some(fire(&mut self.state, Rule::TimedOut(timeout), input)?))
     }
 
-    /// Fires until no rule is enabled, and gives what was let go.
-    fn settle(&mut self) -> Result<Vec<Body>, Fail> {
-        let mut bodies = Vec::new(self.alloc);
+    /// Fires until no rule is enabled. What is let go joins these bodies.
+    fn settle(&mut self, bodies: &mut Vec<Body>) -> Result<(), Fail> {
         for _ in 0..100 {
             match self.step()? {
-                None => return Ok(bodies),
-                Some(fired) => {
-                    let Fired {
-                        unsaved,
-                        timeout: _,
-                    } = fired;
-                    if let Some(unsaved) = unsaved {
-                        bodies.push(release(unsaved))?;
-                    }
-                }
+                None => return Ok(()),
+                Some(fired) => let_go(fired, bodies)?,
             }
         }
         Err(Fail::new("it never settles"))
     }
+}
+
+/// Lets go what a firing leaves.
+fn let_go(fired: Fired, bodies: &mut Vec<Body>) -> Result<(), Fail> {
+    let Fired {
+        unsaved,
+        timeout: _,
+    } = fired;
+    match unsaved {
+        None => {}
+        Some(unsaved) => bodies.push(release(unsaved))?,
+    }
+    Ok(())
 }
 
 /// The one transaction of client 7 with this number, which asks for this byte under zero tags.
@@ -109,24 +126,15 @@ fn value_of(alloc: Global, number: u8, byte: u8) -> Result<Value, Fail>
     Ok(read_value(alloc, &bytes)?)
 }
 
-/// A fresh proposal of height 0.
-fn proposal(alloc: Global, round: u32, sender: u16, value: Value) -> Message
-    requires { IsValue value }
-    ensures { IsKept result.body }
-{
-    let body = Body::Proposal(Proposal {
-        height: 0,
-        round,
-        sender,
-        valid_round: None,
-        value,
-    });
-    Message {
-        body,
-        tags: Seq::new(alloc),
+/// The id of the value with this byte, or nil.
+fn id_of(alloc: Global, byte: Option<u8>) -> Result<Option<Id>, Fail> {
+    match byte {
+        None => Ok(None),
+        Some(byte) => Ok(Some(value_id(alloc, &value_of(alloc, 1, byte)?)?)),
     }
 }
 
+/// A vote of height 0.
 fn vote(step: VoteStep, round: u32, sender: u16, content: Option<Id>) -> Vote {
     Vote {
         step,
@@ -137,153 +145,39 @@ fn vote(step: VoteStep, round: u32, sender: u16, content: Option<Id>) -> Vote {
     }
 }
 
-/// The one vote that was let go.
-fn only_vote(mut bodies: Vec<Body>) -> Option<Vote> {
-    match (bodies.pop(), bodies.pop()) {
-        (Some(Body::Vote(vote)), None) => Some(vote),
-        _ => None,
-    }
-}
-
-/// Hears votes of validators 0 and 1 in round 0.
-fn hear_votes(validator: &mut Validator, step: VoteStep, content: Option<Id>) -> Result<(), Fail> {
-    for sender in 0..2 {
-        let message = Message {
-            body: Body::Vote(vote(step, 0, sender, content)),
-            tags: Seq::new(validator.alloc),
-        };
-        validator.hear(message)?;
-    }
+/// Hears the proposal of a round at height 0.
+fn hear_proposal(
+    validator: &mut Validator,
+    round: u32,
+    value: Value,
+    valid_round: Option<u32>,
+) -> Result<(), Fail>
+    requires { IsValue value }
+{
+    let body = Body::Proposal(Proposal {
+        height: 0,
+        round,
+        sender: validator.state.powers().proposer(0, round),
+        valid_round,
+        value,
+    });
+    let tags = Seq::new(validator.alloc);
+    validator.hear(Message { body, tags })?;
     Ok(())
 }
 
-/// The vote on a fresh proposal of height 0, in which validators propose in order of number.
-fn vote_on(
+/// Hears votes of the validators from one up to another at height 0.
+fn hear_votes(
     validator: &mut Validator,
-    round: u16,
-    number: u8,
-    byte: u8,
-) -> Result<Option<Vote>, Fail> {
-    let value = value_of(validator.alloc, number, byte)?;
-    validator.hear(proposal(validator.alloc, u32::from(round), round, value))?;
-    Ok(only_vote(validator.settle()?))
-}
-
-/// The vote after prevotes of validators 0 and 1.
-fn vote_after_prevotes(
-    validator: &mut Validator,
+    step: VoteStep,
+    round: u32,
+    senders: (u16, u16),
     content: Option<Id>,
-) -> Result<Option<Vote>, Fail> {
-    hear_votes(validator, VoteStep::Prevote, content)?;
-    Ok(only_vote(validator.settle()?))
-}
-
-/// The sender of a decision at height 0 and round 0 after precommits of validators 0 and 1, and
-/// how many precommits are in it.
-fn decision_after_precommits(
-    validator: &mut Validator,
-    content: Option<Id>,
-) -> Result<Option<(u16, usize)>, Fail> {
-    hear_votes(validator, VoteStep::Precommit, content)?;
-    match validator.settle()?.pop() {
-        Some(Body::Bundle(bundle)) if bundle.height == 0 && bundle.round == 0 => {
-            Ok(Some((bundle.sender, bundle.precommits.len())))
-        }
-        _ => Ok(None),
+) -> Result<(), Fail> {
+    for sender in senders.0..senders.1 {
+        let body = Body::Vote(vote(step, round, sender, content));
+        let tags = Seq::new(validator.alloc);
+        validator.hear(Message { body, tags })?;
     }
-}
-
-/// The id of the value with this byte.
-fn id_of(alloc: Global, byte: u8) -> Result<Option<Id>, Fail> {
-    let value = value_of(alloc, 1, byte)?;
-    Ok(Some(value_id(alloc, &value)?))
-}
-
-#[test]
-fn decides(rt: HostRuntime) -> Result<(), Fail> {
-    let id = id_of(rt.alloc(), b'a')?;
-    let mut validator = Validator::new(rt.alloc(), 3, true)?;
-    let prevote = Some(vote(VoteStep::Prevote, 0, 3, id));
-    assert_eq!(rt; vote_on(&mut validator, 0, 1, b'a')?, prevote);
-    let precommit = Some(vote(VoteStep::Precommit, 0, 3, id));
-    assert_eq!(rt; vote_after_prevotes(&mut validator, id)?, precommit);
-    assert_eq!(rt;
-        decision_after_precommits(&mut validator, id)?,
-        Some((3, 3))
-    );
-    assert_eq!(rt; validator.settle()?.len(), 0);
-    assert_eq!(rt; validator.state.height(), 1);
-    assert_eq!(rt; validator.state.round(), 0);
-    assert_eq!(rt; validator.state.step(), Step::Propose);
-    assert_eq!(rt; validator.state.decided().len(), 1);
-    assert!(rt; validator.state.lock().is_none());
-    Ok(())
-}
-
-#[test]
-fn proposes(rt: HostRuntime) -> Result<(), Fail> {
-    let id = id_of(rt.alloc(), b'p')?;
-    let mut validator = Validator::new(rt.alloc(), 0, true)?;
-    let mut bodies = validator.settle()?;
-    match (bodies.pop(), bodies.pop()) {
-        (Some(Body::Vote(last)), Some(Body::Proposal(first))) => {
-            assert_eq!(rt; last, vote(VoteStep::Prevote, 0, 0, id));
-            assert_eq!(rt; Some(value_id(rt.alloc(), &first.value)?), id);
-            assert_eq!(rt; first.round, 0);
-            assert_eq!(rt; first.valid_round, None);
-        }
-        _ => return Err(Fail::new("no proposal and prevote")),
-    }
-    Ok(())
-}
-
-#[test]
-fn a_value_that_is_not_next(rt: HostRuntime) -> Result<(), Fail> {
-    let mut validator = Validator::new(rt.alloc(), 3, true)?;
-    let prevote = Some(vote(VoteStep::Prevote, 0, 3, None));
-    assert_eq!(rt; vote_on(&mut validator, 0, 3, b'a')?, prevote);
-    let precommit = Some(vote(VoteStep::Precommit, 0, 3, None));
-    assert_eq!(rt; vote_after_prevotes(&mut validator, None)?, precommit);
-    assert!(rt; validator.state.lock().is_none());
-    assert_eq!(rt; validator.state.height(), 0);
-    Ok(())
-}
-
-#[test]
-fn a_value_with_wrong_tags(rt: HostRuntime) -> Result<(), Fail> {
-    let id = id_of(rt.alloc(), b'a')?;
-    let mut validator = Validator::new(rt.alloc(), 2, false)?;
-    let prevote = Some(vote(VoteStep::Prevote, 0, 2, None));
-    assert_eq!(rt; vote_on(&mut validator, 0, 1, b'a')?, prevote);
-    let third = Message {
-        body: Body::Vote(vote(VoteStep::Precommit, 0, 3, id)),
-        tags: Seq::new(rt.alloc()),
-    };
-    validator.hear(third)?;
-    assert_eq!(rt;
-        decision_after_precommits(&mut validator, id)?,
-        Some((2, 3))
-    );
-    assert_eq!(rt; validator.state.height(), 1);
-    Ok(())
-}
-
-/// The prevote of round 1 for the value with this byte, after a lock on the one with byte a.
-fn vote_under_lock(alloc: Global, byte: u8) -> Result<Option<Vote>, Fail> {
-    let id = id_of(alloc, b'a')?;
-    let mut validator = Validator::new(alloc, 3, true)?;
-    vote_on(&mut validator, 0, 1, b'a')?;
-    vote_after_prevotes(&mut validator, id)?;
-    validator.start_next_round()?;
-    vote_on(&mut validator, 1, 1, byte)
-}
-
-#[test]
-fn a_lock_forbids_another_value(rt: HostRuntime) -> Result<(), Fail> {
-    let id = id_of(rt.alloc(), b'a')?;
-    let same = Some(vote(VoteStep::Prevote, 1, 3, id));
-    assert_eq!(rt; vote_under_lock(rt.alloc(), b'a')?, same);
-    let nil = Some(vote(VoteStep::Prevote, 1, 3, None));
-    assert_eq!(rt; vote_under_lock(rt.alloc(), b'b')?, nil);
     Ok(())
 }

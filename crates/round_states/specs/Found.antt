@@ -1,5 +1,5 @@
 -- What was found of a kept proposal.
-use Rattle.std.specs.Prelude.{◌≡◌, ℕ, List}
+use Rattle.std.specs.Prelude.{◌≡◌, List}
 use Rattle.transactions.specs.Grammar.{IsValue}
 use Rattle.protocol.specs.Values.{Item, id, valid}
 use Rattle.protocol.specs.Messages.{Proposal}

@@ -1,11 +1,10 @@
 -- How the code's state and its parts are seen, and what holds of them.
-use Rattle.std.specs.Prelude.{◌≡◌, ℕ, ◌≤◌, ◌^◌, Bool, true, false, List, [], ◌∷◌, map, flat_map, All, IfSome}
+use Rattle.std.specs.Prelude.{◌≡◌, ℕ, ◌≤◌, ◌^◌, Bool, true, false, List, map, flat_map, All, IfSome}
 use Rattle.transactions.specs.Grammar.{IsValue}
 use Rattle.protocol.specs.Values.{Value, Item, items}
-use Rattle.protocol.specs.Messages.{Act, Proposing, Prevoting, Precommitting, Record, Own, Decided}
+use Rattle.protocol.specs.Messages.{Proposing, Prevoting, Precommitting, Record, Own, Decided}
 use Rattle.protocol.specs.declared.types.Step.{Step}
 use Rattle.protocol.specs.declared.types.Step.TheVariants.{Propose, Prevote, Precommit}
-use Rattle.protocol.specs.State.{State}
 use Rattle.protocol.specs.declared.types.ValueAt.{ValueAt}
 use Rattle.proposal_validity.specs.Standing.{IsFrontierOf}
 use Rattle.round_states.specs.Machine.{Machine}
@@ -57,6 +56,12 @@ IsOf me h (stages.Propose r) = (r.validator ≡ me) × (r.height ≡ h)
 IsOf me h (stages.Prevote r) = (r.validator ≡ me) × (r.height ≡ h)
 IsOf me h (stages.Precommit r) = (r.validator ≡ me) × (r.height ≡ h)
 
+-- the value has a spelling, and was found valid in a round up to the present one
+pub record IsFoundBy (stage : Stage) (l : ValueAt) : Type 0 where
+  pub fits : IsValue l.value
+  pub begun : stage_begun stage ≡ true
+  pub round : l.round ≤ stage_round stage
+
 -- ---- the state
 
 -- the items of the decided values
@@ -91,4 +96,4 @@ pub record IsSound (a : Inside) : Type 0 where
   pub frontier : IsFrontierOf (delivered_by a.decided.items) a.frontier
   pub stage : IsOf a.tally.me a.height a.stage
   pub height : a.height ≤ 2 ^ 48
-  pub valid_fits : IfSome a.valid_value (λ l. IsValue l.value)
+  pub valid_value : IfSome a.valid_value (IsFoundBy a.stage)

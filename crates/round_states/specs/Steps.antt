@@ -1,10 +1,9 @@
 -- The steps that rules are made of.
-use Rattle.std.specs.Prelude.{◌≡◌, ℕ, Bool, cond, List, [], ◌∷◌, Option, Some, None, IfSome, ◌==◌, length, map, flat_map, find, option_to_list, slice_index_or}
+use Rattle.std.specs.Prelude.{◌≡◌, ℕ, cond, List, [], ◌∷◌, Option, Some, None, IfSome, ◌==◌, length, map, flat_map, find, option_to_list, slice_index_or}
 use Rattle.powers.specs.Power.{proposer}
 use Rattle.transactions.specs.Grammar.{IsValue}
 use Rattle.protocol.specs.Values.{Id, Value}
 use Rattle.protocol.specs.declared.types.Step.TheVariants.{Propose, Precommit}
-use Rattle.protocol.specs.declared.types.ValueAt.{ValueAt}
 use Rattle.protocol.specs.declared.types.Stamp.{Stamp}
 use Rattle.protocol.specs.declared.types.Timeout.{Timeout}
 use Rattle.protocol.specs.Messages.{Signed, Proposal, Record, below}

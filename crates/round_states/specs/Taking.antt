@@ -2,7 +2,7 @@
 use Rattle.std.specs.Prelude.{◌≡◌, ℕ, ◌+◌, Bool, ◌||◌, not, ◌++◌, ◌∷◌, [], List, Option, Some, None, Result, Ok, Err, is_some, nat_lt, ◌==◌, if◌then◌else◌}
 use Rattle.transactions.specs.Grammar.{IsValue}
 use Rattle.powers.specs.Power.{proposer}
-use Rattle.protocol.specs.Messages.{step_of_vote, Proposal, Vote, Body, OfTx, OfProposal, OfVote, OfAsk, OfBundle, Message}
+use Rattle.protocol.specs.Messages.{step_of_vote, Proposal, Vote, Body, OfTx, OfProposal, OfVote, OfAsk, OfBundle}
 use Rattle.protocol.specs.Rules.{keeping}
 use Rattle.protocol.specs.Arrivals.{stamp_of}
 use Rattle.protocol.specs.State.{Context, State}

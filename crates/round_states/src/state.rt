@@ -1,9 +1,10 @@
 //! The state: the variables of the algorithm at one validator. Line numbers are those of algorithm 1
 //! of arXiv 1807.04938.
 
-ghost use Rattle.std.specs.Prelude.{◌≡◌, ◌≤◌, ◌<◌, ◌^◌, IsTrue, IfOk, All, map, option_map, List, [], length};
+ghost use Rattle.std.specs.Prelude.{◌≡◌, ◌≤◌, ◌^◌, false, None, IfOk, All, map, [], length};
 ghost use Rattle.std.specs.Option.{option_copied};
-ghost use Rattle.powers.specs.Power.{ArePowers};
+ghost use Rattle.proposal_validity.specs.Standing.{IsFrontierOf};
+ghost use Rattle.protocol.specs.declared.types.Step.TheVariants as at_steps;
 ghost use Rattle.protocol.specs.Restart.{restart};
 ghost use Rattle.round_states.specs.Found.{proposal_in, IsFound};
 ghost use Rattle.round_states.specs.Seen.{delivered_by};
@@ -119,9 +120,11 @@ impl State {
         self.height
     }
 
-    /// Whether a round of the height has begun.
+    /// Whether a round of the height has begun. Before, the round is 0, its step that of proposals, and
+    /// no value was found valid.
     pub fn has_begun(&self) -> bool
-        ensures { result ≡ self.now.state.begun }
+        ensures begun { result ≡ self.now.state.begun }
+        ensures before { self.now.state.begun ≡ false → (self.now.state.round ≡ 0) × (self.now.state.step ≡ at_steps.Propose) × (self.now.state.valid_value ≡ None) }
     {
         match self.stage {
             Stage::Before => false,
@@ -184,12 +187,33 @@ impl State {
         &self.tally
     }
 
+    /// Whether the timeout of prevotes was scheduled in this round: line 34 acts once in a round.
+    pub fn are_prevotes_awaited(&self) -> bool
+        ensures { result ≡ self.now.state.prevotes_awaited }
+    {
+        self.prevotes_awaited
+    }
+
     /// Whether a quorum of prevotes for a proposed value was met in this round: line 36 acts once
     /// in a round.
     pub fn is_value_found(&self) -> bool
         ensures { result ≡ self.now.state.value_found }
     {
         self.value_found
+    }
+
+    /// Whether the timeout of precommits was scheduled in this round: line 47 acts once in a round.
+    pub fn are_precommits_awaited(&self) -> bool
+        ensures { result ≡ self.now.state.precommits_awaited }
+    {
+        self.precommits_awaited
+    }
+
+    /// What the delivered list leaves behind: each client's next number, and whether it closed.
+    pub fn frontier(&self) -> &Frontier
+        ensures { IsFrontierOf self.now.state.delivered result.now }
+    {
+        &self.frontier
     }
 
     /// The decided values, in order of height: together they are the delivered list.

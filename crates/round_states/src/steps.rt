@@ -1,11 +1,14 @@
 //! The steps that rules are made of. Each makes its growths first: refused, nothing has changed.
 //! Line numbers are those of algorithm 1 of arXiv 1807.04938.
 
-ghost use Rattle.std.specs.Prelude.{◌≡◌, ◌<◌, ◌^◌, ◌==◌, ◌||◌, ℕ, [], true, false, Option, Some, None, IsTrue, IsSome, IfOk, OnOk, OnErr, length, option_map, cond, is_some, is_none};
+ghost use Rattle.std.specs.Prelude.{◌≡◌, ◌<◌, ◌^◌, ◌≤◌, ℕ, [], true, false, Some, None, IsTrue, IsSome, IfSome, IfOk, OnOk, OnErr, length, option_map, cond};
+ghost use Rattle.std.specs.Option.{option_copied};
 ghost use Rattle.powers.specs.Power.{proposer};
 ghost use Rattle.transactions.specs.Grammar.{IsValue};
+ghost use Rattle.messages.specs.Grammar.{IsProposal, IsVote};
 ghost use Rattle.protocol.specs.Values.{id, valid};
-ghost use Rattle.protocol.specs.Messages.{OfVote, prevote, precommit, step_eq, Own, Proposing, Prevoting, Precommitting, Decided};
+ghost use Rattle.protocol.specs.Values.{id as name_of};
+ghost use Rattle.protocol.specs.Messages.{OfProposal, OfVote, prevote, precommit, step_eq, Own, Proposing, Prevoting, Precommitting, Decided};
 ghost use Rattle.protocol.specs.declared.types.Step.TheVariants as at_steps;
 ghost use Rattle.protocol.specs.State.{Context, Lock, Decide};
 ghost use Rattle.protocol.specs.Rules.{proposal_of, keeping, keeping_own, released_by, changed, started, decided};
@@ -41,18 +44,11 @@ pub struct Picked {
     pub genuine: bool,
 }
 
-/// What the proposer of a round proposes.
-#[derive(Drop)]
-pub(crate) struct Choice {
-    valid_round: Option<u32>,
-    value: Named,
-    genuine: bool,
-}
-
 impl State {
-    /// The own vote of the present round.
-    fn own_vote(&self, step: VoteStep, content: Option<Id>) -> Vote
-        ensures { result ≡ record { step = step; height = self.now.state.height; round = self.now.state.round; sender = self.now.me; content = content } }
+    /// The own vote of the present round, as a prevote or a precommit will let it go.
+    pub fn own_vote(&self, step: VoteStep, content: Option<Id>) -> Vote
+        ensures vote { result ≡ record { step = step; height = self.now.state.height; round = self.now.state.round; sender = self.now.me; content = content } }
+        ensures spelled { IsVote result }
     {
         Vote {
             step,
@@ -143,6 +139,20 @@ impl State {
         Ok(unsaved)
     }
 
+    /// Notes that the timeout of prevotes is scheduled in this round (line 35).
+    pub fn await_prevotes(&mut self)
+        ensures { self.new ≡ at self.old (record self.old.state { prevotes_awaited = true }) }
+    {
+        self.prevotes_awaited = true;
+    }
+
+    /// Notes that the timeout of precommits is scheduled in this round (line 48).
+    pub fn await_precommits(&mut self)
+        ensures { self.new ≡ at self.old (record self.old.state { precommits_awaited = true }) }
+    {
+        self.precommits_awaited = true;
+    }
+
     /// Locks a kept proposal's value in this round, and precommits it.
     fn lock_value(&mut self, place: usize) -> Result<Unsaved, AllocError>
         requires begun { IsTrue self.old.state.begun }
@@ -163,9 +173,52 @@ impl State {
         Ok(unsaved)
     }
 
-    /// Begins a round (lines 11 to 21). Its proposer proposes the valid value, or the picked one where
-    /// there is none; any other schedules the timeout of proposals.
+    /// The proposal that begins a round, as it will be let go: none where another validator proposes.
+    /// It is that of the valid value with its round, or of the picked value where there is none.
+    pub fn opening_proposal(
+        &self,
+        round: u32,
+        picked: Option<&Picked>,
+    ) -> Result<Option<Proposal>, AllocError>
+        requires later { self.now.state.begun ≡ true → self.now.state.round < round }
+        requires pick { IsPick (option_copied picked) }
+        requires some { proposer self.now.powers self.now.state.height round ≡ self.now.me → self.now.state.valid_value ≡ None → IsSome (option_copied picked) }
+        ensures proposal { IfOk result (λ q. option_map OfProposal q ≡ released_by self.now.me (opening self.now round (picked_value (option_copied picked.entry)))) }
+        ensures spelled { IfOk result (λ q. IfSome q IsProposal) }
+    {
+        if self.powers().proposer(self.height, round) != self.me() {
+            return Ok(None);
+        }
+        let (valid_round, value) = self.offer(picked);
+        Ok(Some(Proposal {
+            height: self.height,
+            round,
+            sender: self.me(),
+            valid_round,
+            value: value.copy(self.alloc)?,
+        }))
+    }
+
+    /// What the own number proposes: the valid value and its round, else the picked value.
+    fn offer<'a>(&'a self, picked: Option<&'a Picked>) -> (Option<u32>, &'a Value)
+        requires pick { IsPick (option_copied picked) }
+        requires some { self.now.state.valid_value ≡ None → IsSome (option_copied picked) }
+        ensures proposes { (r : ℕ) → proposal_of self.now.state r (picked_value (option_copied picked.entry)) self.now.state.valid_value ≡ Own self.now.state.height r (Proposing result.0 result.1.now) }
+        ensures fits { IsValue result.1.now }
+        ensures earlier { IfSome result.0 (λ r. (self.now.state.begun ≡ true) × (r ≤ self.now.state.round)) }
+    {
+        match (&self.valid_value, picked) {
+            (Some(found), _) => (Some(found.round), found.value.value()),
+            (None, Some(picked)) => (None, &picked.value),
+            (None, None) => unreachable!(),
+        }
+    }
+
+    /// Begins a round, which has to be a later one than the present (lines 11 to 21). Its proposer
+    /// proposes the valid value, or the picked one where there is none; any other schedules the timeout
+    /// of proposals.
     pub fn start_round(&mut self, round: u32, picked: Option<Picked>) -> Result<Fired, AllocError>
+        requires later { self.old.state.begun ≡ true → self.old.state.round < round }
         requires pick { IsPick picked }
         requires some { proposer self.old.powers self.old.state.height round ≡ self.old.me → self.old.state.valid_value ≡ None → IsSome picked }
         ensures ok { OnOk result (self.new.state ≡ keeping_own (started self.old.state round) (released_by self.old.me (opening self.old round (picked_value picked)))) }
@@ -174,79 +227,63 @@ impl State {
         ensures agrees { OnOk result ((g : Context) → Agrees g self.old → IsPickTold g picked → Agrees g self.new) }
         ensures err { OnErr result (self.new ≡ self.old) }
     {
-        let height = self.height;
-        if self.powers().proposer(height, round) != self.me() {
-            self.begin(round);
-            return Ok(Fired {
-                unsaved: None,
-                timeout: Some(Timeout {
-                    kind: Step::Propose,
-                    height,
-                    round,
-                }),
-            });
-        }
-        let choice = self.choice(picked)?;
-        let unsaved = self.propose(round, choice)?;
-        self.begin(round);
-        Ok(Fired {
-            unsaved: Some(unsaved),
-            timeout: None,
-        })
-    }
-
-    /// What the own number proposes: the valid value, else the picked one.
-    fn choice(&self, picked: Option<Picked>) -> Result<Choice, AllocError>
-        requires pick { IsPick picked }
-        requires some { self.now.state.valid_value ≡ None → IsSome picked }
-        ensures proposes { IfOk result (λ c. (r : ℕ) → proposal_of self.now.state r (picked_value picked) self.now.state.valid_value ≡ Own self.now.state.height r (Proposing c.valid_round c.value)) }
-        ensures fits { IfOk result (λ c. IsValue c.value) }
-        ensures genuine { IfOk result (λ c. (g : Context) → IsPickTold g picked → (c.genuine || is_some c.valid_round) ≡ cond (is_none c.valid_round) (g.genuine c.value) true) }
-    {
-        match (&self.valid_value, picked) {
-            (Some(found), _) => Ok(Choice {
-                valid_round: Some(found.round),
-                value: found.value.copy(self.alloc)?,
-                genuine: true,
-            }),
-            (None, Some(picked)) => {
-                let id = value_id(self.alloc, &picked.value).map_err(|_| AllocError)?;
-                Ok(Choice {
-                    valid_round: None,
-                    value: Named::new(picked.value, id),
-                    genuine: picked.genuine,
+        match self.opening_proposal(round, picked.as_ref())? {
+            None => {
+                self.begin(round);
+                Ok(Fired {
+                    unsaved: None,
+                    timeout: Some(Timeout {
+                        kind: Step::Propose,
+                        height: self.height,
+                        round,
+                    }),
                 })
             }
-            (None, None) => unreachable!(),
+            Some(proposal) => {
+                let id = self.offered_id(&proposal.value)?;
+                let genuine = picked.is_some_and(|picked| picked.genuine);
+                let unsaved = self.propose(proposal, id, genuine)?;
+                self.begin(round);
+                Ok(Fired {
+                    unsaved: Some(unsaved),
+                    timeout: None,
+                })
+            }
+        }
+    }
+
+    /// The id of what the own number proposes. That of the valid value was found before.
+    #[tactic(auto, unfolding(protocol::specs::Values::id))]
+    fn offered_id(&self, value: &Value) -> Result<Id, AllocError>
+        requires fits { IsValue value.now }
+        requires valid { IfSome self.now.state.valid_value (λ l. l.value ≡ value.now) }
+        ensures { IfOk result (λ x. x ≡ id value.now) }
+    {
+        match &self.valid_value {
+            Some(found) => Ok(found.value.id()),
+            None => value_id(self.alloc, value).map_err(|_| AllocError),
         }
     }
 
     /// Keeps the own proposal of a round, before the round begins.
     #[tactic(auto, unfolding(protocol::specs::Values::id))]
-    fn propose(&mut self, round: u32, choice: Choice) -> Result<Unsaved, AllocError>
-        requires { IsValue choice.value }
-        ensures ok { OnOk result (self.new ≡ with_proposal self.old (record { height = self.old.state.height; round = round; sender = self.old.me; valid_round = choice.valid_round; value = choice.value }) choice.genuine) }
-        ensures unsaved { IfOk result (λ u. u ≡ record { sender = self.old.me; entry = Own self.old.state.height round (Proposing choice.valid_round choice.value) }) }
+    fn propose(&mut self, proposal: Proposal, id: Id, genuine: bool) -> Result<Unsaved, AllocError>
+        requires fits { IsValue proposal.value }
+        requires id { id ≡ name_of proposal.value }
+        ensures ok { OnOk result (self.new ≡ with_proposal self.old proposal genuine) }
+        ensures unsaved { IfOk result (λ u. u ≡ record { sender = proposal.sender; entry = Own proposal.height proposal.round (Proposing proposal.valid_round proposal.value) }) }
         ensures err { OnErr result (self.new ≡ self.old) }
     {
-        let Choice {
-            valid_round,
-            value,
-            genuine,
-        } = choice;
-        let proposal = Proposal {
-            height: self.height,
-            round,
-            sender: self.me(),
-            valid_round,
-            value: value.value().copy(self.alloc)?,
-        };
-        self.keep_proposal(proposal, value.id(), genuine)?;
-        Ok(Unsaved::proposal(self.me(), self.height, round, valid_round, value))
+        let said = Named::new(proposal.value.copy(self.alloc)?, id);
+        let (sender, height) = (proposal.sender, proposal.height);
+        let (round, valid_round) = (proposal.round, proposal.valid_round);
+        self.keep_proposal(proposal, id, genuine)?;
+        Ok(Unsaved::proposal(sender, height, round, valid_round, said))
     }
 
     /// The round is the present one, in its first step.
     fn begin(&mut self, number: u32)
+        requires { self.old.state.begun ≡ true → self.old.state.round < number }
         ensures { self.new ≡ at self.old (started self.old.state number) }
     {
         let round = match mem::replace(&mut self.stage, Stage::Before) {
@@ -284,9 +321,39 @@ impl State {
             value: value.copy(self.alloc)?,
             precommits,
         };
+        self.deliver(value)?;
+        let unsaved = Unsaved::decision(self.tally.me(), bundle);
+        Ok(unsaved)
+    }
+
+    /// Decides the height by a bundle that another validator collected, and goes on to the next one (lines
+    /// 51 to 53). The bundle is kept as the own number's.
+    pub fn decide_by_bundle(&mut self, mut bundle: Bundle) -> Result<Unsaved, AllocError>
+        requires height { bundle.height ≡ self.old.state.height }
+        requires id { bundle.id ≡ id bundle.value }
+        requires room { self.old.state.height < 2 ^ 48 }
+        requires fits { IsValue bundle.value }
+        requires valid { valid self.old.state.delivered bundle.value ≡ true }
+        ensures ok { OnOk result (self.new ≡ record self.old { state = decided self.old.state bundle.value; genuine = [] }) }
+        ensures unsaved { IfOk result (λ u. u ≡ record { sender = self.old.me; entry = Decided (record bundle { sender = self.old.me }) }) }
+        ensures err { OnErr result (self.new ≡ self.old) }
+    {
+        self.deliver(bundle.value.copy(self.alloc)?)?;
+        bundle.sender = self.me();
+        Ok(Unsaved::decision(bundle.sender, bundle))
+    }
+
+    /// Delivers a value that may be delivered next, and goes on to the next height, of which no round
+    /// has begun.
+    fn deliver(&mut self, value: Value) -> Result<(), AllocError>
+        requires room { self.old.state.height < 2 ^ 48 }
+        requires fits { IsValue value }
+        requires valid { valid self.old.state.delivered value ≡ true }
+        ensures ok { OnOk result (self.new ≡ record self.old { state = decided self.old.state value; genuine = [] }) }
+        ensures err { OnErr result (self.new ≡ self.old) }
+    {
         self.decided.reserve(1)?;
         self.frontier.extend(&value)?;
-        let unsaved = Unsaved::decision(self.tally.me(), bundle);
         self.decided.push_reserved(value);
         self.tally.clear();
         self.kept.clear();
@@ -298,6 +365,6 @@ impl State {
         self.prevotes_awaited = false;
         self.value_found = false;
         self.precommits_awaited = false;
-        Ok(unsaved)
+        Ok(())
     }
 }

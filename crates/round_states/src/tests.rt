@@ -8,7 +8,7 @@ use powers::Powers;
 use protocol::Step;
 use std::alloc::Global;
 use std::test::Fail;
-use transactions::{Id, Seq, Value, read_value, value_id};
+use transactions::{Id, Seq, Value, read_value};
 
 /// The id of some value.
 const A: Id = [0xaa; 32];
@@ -99,32 +99,29 @@ fn spend(fired: Fired) -> Option<Body> {
     }
 }
 
-/// The answer to a fresh proposal.
+/// Why a fresh proposal is refused, if it is.
 fn propose(
     state: &mut State,
     height: u64,
     round: u32,
     sender: u16,
     number: u8,
-) -> Result<Result<(), Refusal>, Fail> {
+) -> Result<Option<Refusal>, Fail> {
     let arrived = proposal(state.alloc, height, round, sender, number)?;
-    Ok(state.take_in(arrived, true))
+    Ok(state.take_in(arrived, true).err())
 }
 
-/// The answer to a vote of validator 1.
-fn voted(
-    state: &mut State,
-    step: VoteStep,
-    height: u64,
-    round: u32,
-    content: Option<Id>,
-) -> Result<(), Refusal> {
-    let arrived = message(state.alloc, vote(step, height, round, 1, content));
-    state.take_in(arrived, true)
+/// Why a vote of validator 1 for nil is refused, if it is.
+fn voted(state: &mut State, step: VoteStep, height: u64, round: u32) -> Option<Refusal> {
+    let arrived = message(state.alloc, vote(step, height, round, 1, None));
+    state.take_in(arrived, true).err()
 }
 
-/// Begins a round, and gives what it lets go.
+/// Begins a later round, and gives what it lets go.
 fn begin(state: &mut State, round: u32) -> Result<Option<Body>, Fail> {
+    if state.has_begun() && state.round() >= round {
+        return Err(Fail::new("the round is no later one"));
+    }
     let handed = picked(state.alloc, 1)?;
     Ok(spend(state.start_round(round, Some(handed))?))
 }
@@ -148,31 +145,30 @@ fn precommit_nil(state: &mut State) -> Result<Option<Vote>, Fail> {
 #[test]
 fn proposals_refused(rt: HostRuntime) -> Result<(), Fail> {
     let mut state = state_of(rt.alloc(), 3)?;
-    assert_eq!(rt; propose(&mut state, 1, 0, 1, 1)?, Err(Refusal::OtherHeight));
-    assert_eq!(rt;
-        propose(&mut state, 0, 1_000_001, 1, 1)?,
-        Err(Refusal::RoundLimit)
-    );
-    assert_eq!(rt;
-        propose(&mut state, 0, 1_000_000, 0, 1)?,
-        Err(Refusal::RoundAhead)
-    );
-    assert_eq!(rt; propose(&mut state, 0, 3, 3, 1)?, Err(Refusal::RoundAhead));
-    assert_eq!(rt;
-        propose(&mut state, 0, 0, 1, 1)?,
-        Err(Refusal::WrongProposer)
-    );
-    assert_eq!(rt; propose(&mut state, 0, 2, 2, 1)?, Ok(()));
+    for (height, round, sender, refusal) in [
+        (1, 0, 1, Some(Refusal::OtherHeight)),
+        (0, 1_000_001, 1, Some(Refusal::RoundLimit)),
+        (0, 1_000_000, 0, Some(Refusal::RoundAhead)),
+        (0, 3, 3, Some(Refusal::RoundAhead)),
+        (0, 0, 1, Some(Refusal::WrongProposer)),
+        (0, 2, 2, None),
+    ] {
+        assert_eq!(rt; propose(&mut state, height, round, sender, 1)?, refusal);
+    }
     Ok(())
 }
 
 #[test]
 fn proposals_of_a_round(rt: HostRuntime) -> Result<(), Fail> {
     let mut state = state_of(rt.alloc(), 3)?;
-    assert_eq!(rt; propose(&mut state, 0, 0, 0, 1)?, Ok(()));
-    assert_eq!(rt; propose(&mut state, 0, 0, 0, 1)?, Err(Refusal::Repeat));
-    assert_eq!(rt; propose(&mut state, 0, 0, 0, 2)?, Ok(()));
-    assert_eq!(rt; propose(&mut state, 0, 0, 0, 3)?, Err(Refusal::VoterFull));
+    for (number, refusal) in [
+        (1, None),
+        (1, Some(Refusal::Repeat)),
+        (2, None),
+        (3, Some(Refusal::VoterFull)),
+    ] {
+        assert_eq!(rt; propose(&mut state, 0, 0, 0, number)?, refusal);
+    }
     assert_eq!(rt; state.kept().len(), 2);
     Ok(())
 }
@@ -181,76 +177,77 @@ fn proposals_of_a_round(rt: HostRuntime) -> Result<(), Fail> {
 fn proposals_ahead(rt: HostRuntime) -> Result<(), Fail> {
     let mut state = state_of(rt.alloc(), 3)?;
     assert!(rt; begin(&mut state, 1)?.is_none());
-    assert_eq!(rt; propose(&mut state, 0, 4, 0, 1)?, Err(Refusal::RoundAhead));
-    assert_eq!(rt; propose(&mut state, 0, 3, 3, 1)?, Ok(()));
+    for (round, sender, refusal) in [(4, 0, Some(Refusal::RoundAhead)), (3, 3, None)] {
+        assert_eq!(rt; propose(&mut state, 0, round, sender, 1)?, refusal);
+    }
     Ok(())
 }
 
 #[test]
 fn votes_refused(rt: HostRuntime) -> Result<(), Fail> {
     let mut state = state_of(rt.alloc(), 3)?;
-    assert_eq!(rt;
-        voted(&mut state, VoteStep::Prevote, 1, 0, None),
-        Err(Refusal::OtherHeight)
-    );
-    assert_eq!(rt;
-        voted(&mut state, VoteStep::Prevote, 0, 1_000_001, None),
-        Err(Refusal::RoundLimit)
-    );
-    assert_eq!(rt;
-        voted(&mut state, VoteStep::Prevote, 0, 1_000_000, None),
-        Ok(())
-    );
-    assert_eq!(rt;
-        voted(&mut state, VoteStep::Prevote, 0, 1_000_000, None),
-        Err(Refusal::Repeat)
-    );
-    assert_eq!(rt;
-        voted(&mut state, VoteStep::Precommit, 0, 1_000_000, None),
-        Ok(())
-    );
-    assert_eq!(rt;
-        state
-            .tally()
-            .power_for(1_000_000, VoteStep::Precommit, None),
-        1
-    );
+    for (step, height, round, refusal) in [
+        (VoteStep::Prevote, 1, 0, Some(Refusal::OtherHeight)),
+        (VoteStep::Prevote, 0, 1_000_001, Some(Refusal::RoundLimit)),
+        (VoteStep::Prevote, 0, 1_000_000, None),
+        (VoteStep::Prevote, 0, 1_000_000, Some(Refusal::Repeat)),
+        (VoteStep::Precommit, 0, 1_000_000, None),
+    ] {
+        assert_eq!(rt; voted(&mut state, step, height, round), refusal);
+    }
     Ok(())
 }
 
 #[test]
 fn votes_of_a_round(rt: HostRuntime) -> Result<(), Fail> {
     let mut state = state_of(rt.alloc(), 3)?;
-    assert!(rt; !state.has_begun());
-    assert!(rt; begin(&mut state, 0)?.is_none());
-    assert_eq!(rt; propose(&mut state, 0, 0, 0, 1)?, Ok(()));
-    assert_eq!(rt;
-        prevote(&mut state, Some(A))?,
-        Some(vote(VoteStep::Prevote, 0, 0, 3, Some(A)))
-    );
-    let before = state.copy()?;
-    assert_eq!(rt;
-        precommit_nil(&mut state)?,
-        Some(vote(VoteStep::Precommit, 0, 0, 3, None))
-    );
-    assert_eq!(rt; state.step(), Step::Precommit);
-    assert_eq!(rt; state.tally().power_for(0, VoteStep::Precommit, None), 1);
-    assert_eq!(rt; before.step(), Step::Prevote);
-    assert_eq!(rt; before.tally().power_for(0, VoteStep::Precommit, None), 0);
-    assert_eq!(rt; before.kept().len(), 1);
+    begin(&mut state, 0)?;
+    let prevoted = vote(VoteStep::Prevote, 0, 0, 3, Some(A));
+    assert_eq!(rt; prevote(&mut state, Some(A))?, Some(prevoted));
+    let precommitted = vote(VoteStep::Precommit, 0, 0, 3, None);
+    assert_eq!(rt; precommit_nil(&mut state)?, Some(precommitted));
+    let power = state.tally().power_for(0, VoteStep::Precommit, None);
+    assert_eq!(rt; (state.step(), power), (Step::Precommit, 1));
+    Ok(())
+}
+
+/// The round of a copy in which round 7 has begun.
+fn round_of_copy(state: &State) -> Result<u32, Fail> {
+    let mut copy = state.copy()?;
+    begin(&mut copy, 7)?;
+    Ok(copy.round())
+}
+
+#[test]
+fn a_copy(rt: HostRuntime) -> Result<(), Fail> {
+    let state = state_of(rt.alloc(), 3)?;
+    assert_eq!(rt; (round_of_copy(&state)?, state.round()), (7, 0));
+    Ok(())
+}
+
+/// Both timeouts are scheduled once in a round.
+#[test]
+fn timeouts_awaited(rt: HostRuntime) -> Result<(), Fail> {
+    let mut state = state_of(rt.alloc(), 3)?;
+    for round in 0..2 {
+        begin(&mut state, round)?;
+        assert!(rt; !state.are_prevotes_awaited() && !state.are_precommits_awaited());
+        state.await_prevotes();
+        assert!(rt; state.are_prevotes_awaited() && !state.are_precommits_awaited());
+        state.await_precommits();
+        assert!(rt; state.are_precommits_awaited());
+    }
     Ok(())
 }
 
 #[test]
 fn a_new_state(rt: HostRuntime) -> Result<(), Fail> {
     let state = state_of(rt.alloc(), 3)?;
-    assert_eq!(rt; state.me(), 3);
-    assert_eq!(rt; state.height(), 0);
-    assert_eq!(rt; state.round(), 0);
+    assert_eq!(rt; (state.me(), state.height(), state.round()), (3, 0, 0));
     assert_eq!(rt; state.powers().total(), 4);
     assert_eq!(rt; state.decided().len(), 0);
-    assert!(rt; state.lock().is_none());
-    assert!(rt; state.valid_value().is_none());
+    assert_eq!(rt; state.frontier().next(7), 1);
+    assert!(rt; state.lock().is_none() && state.valid_value().is_none());
     assert!(rt; !state.is_value_found());
     Ok(())
 }
@@ -258,27 +255,14 @@ fn a_new_state(rt: HostRuntime) -> Result<(), Fail> {
 #[test]
 fn the_proposer_proposes(rt: HostRuntime) -> Result<(), Fail> {
     let mut state = state_of(rt.alloc(), 0)?;
-    let wanted = value_of(rt.alloc(), 1)?;
-    let id = value_id(rt.alloc(), &wanted)?;
-    let fired = state.start_round(0, Some(picked(rt.alloc(), 1)?))?;
-    match spend(fired) {
+    match begin(&mut state, 0)? {
         Some(Body::Proposal(proposal)) => {
-            assert_eq!(rt; proposal.height, 0);
-            assert_eq!(rt; proposal.round, 0);
-            assert_eq!(rt; proposal.sender, 0);
-            assert_eq!(rt; proposal.valid_round, None);
-            assert!(rt; proposal.value == wanted);
+            let place = (proposal.height, proposal.round, proposal.sender);
+            assert_eq!(rt; (place, proposal.valid_round), ((0, 0, 0), None));
         }
         _ => return Err(Fail::new("no proposal")),
     }
-    match state.kept().first() {
-        Some(kept) => {
-            assert_eq!(rt; kept.id, id);
-            assert!(rt; kept.is_valid);
-            assert!(rt; kept.is_genuine);
-        }
-        None => return Err(Fail::new("nothing is kept")),
-    }
+    assert_eq!(rt; state.kept().len(), 1);
     Ok(())
 }
 

@@ -3,7 +3,7 @@ use Rattle.std.proofs.Common.{◌≡◌, zero, suc, Some, refl, sym, ap, ◌∙�
 use Rattle.protocol.specs.State.{Rule}
 use Rattle.protocol.specs.Rules.{fired}
 use Rattle.round_states.specs.Machine.{Machine}
-use Rattle.round_machine.specs.Naming.{enabled}
+use Rattle.protocol.specs.Order.{enabled}
 use Rattle.schedule_text.specs.Driving.{keyless_of, empty, next_by, next, after, IsRun}
 
 pub run_none : (m : Machine) → IsRun m m

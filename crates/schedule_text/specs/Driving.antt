@@ -7,7 +7,7 @@ use Rattle.protocol.specs.Refusals.{Refusal}
 use Rattle.round_states.specs.Machine.{Machine, Agrees}
 use Rattle.round_states.specs.Taking.{IsAnswer}
 use Rattle.round_states.specs.declared.taking.Refusal.{Refusal as Answer}
-use Rattle.round_machine.specs.Naming.{enabled}
+use Rattle.protocol.specs.Order.{enabled}
 
 -- a tag of 32 zeros for each validator
 abbrev pub zero_tags : ℕ → List (List ℕ)
@@ -20,6 +20,7 @@ keyless powers me = record {
   me = me;
   genuine = λ v. true;
   vouches = λ b i. false;
+  certified = λ b. [];
   own_tags = λ h r x. zero_tags (length powers);
 }
 

@@ -7,7 +7,8 @@ ghost use Rattle.protocol.specs.Rules.{holds, fired};
 ghost use Rattle.protocol.specs.Arrivals.{kept_message};
 ghost use Rattle.round_states.specs.Steps.{picked_value};
 ghost use Rattle.round_states.specs.Taking.{IsKept, cause_against};
-ghost use Rattle.round_machine.specs.Naming.{enabled, rule_of, pick_in, IsPlaced, Serves};
+ghost use Rattle.protocol.specs.Order.{enabled, IsInternal};
+ghost use Rattle.round_machine.specs.Naming.{rule_of, pick_in, IsPlaced, Serves};
 ghost use Rattle.schedule_text.specs.Driving.{zero_tags, keyless_of, empty, after, IsReply};
 
 use messages::{Body, Message};
@@ -95,6 +96,7 @@ impl Validator {
     fn enabled(&self) -> Option<Rule>
         ensures rule { option_map (rule_of self.now.state) result ≡ enabled self.now.powers self.now.state }
         ensures placed { IfSome result (λ rule. IsPlaced self.now.state rule) }
+        ensures internal { IfSome result (λ rule. IsInternal (rule_of self.now.state rule)) }
         ensures holds { IfSome result (λ rule. holds (keyless_of self.now) self.now.state (rule_of self.now.state rule) ≡ true) }
     {
         enabled(&self.state)
@@ -119,7 +121,7 @@ impl Validator {
         ensures empty { IfOk result (λ input. picked_value (pick_in input) ≡ empty) }
     {
         match rule {
-            Rule::Start => Ok(Input::Picked(Picked {
+            Rule::Start | Rule::SkipRound(_) | Rule::TimedOut(_) => Ok(Input::Picked(Picked {
                 value: empty_value(self.alloc)?,
                 genuine: true,
             })),
@@ -127,7 +129,12 @@ impl Validator {
                 let validators = self.state.powers().count();
                 Ok(Input::OwnTags(zero_tags(self.alloc, validators)?))
             }
-            Rule::PrevoteFresh(_) | Rule::Lock(_) | Rule::PrecommitNil => Ok(Input::Nothing),
+            Rule::PrevoteFresh(_)
+            | Rule::PrevoteAgain(_)
+            | Rule::AwaitPrevotes
+            | Rule::Lock(_)
+            | Rule::PrecommitNil
+            | Rule::AwaitPrecommits => Ok(Input::Nothing),
         }
     }
 }

@@ -100,6 +100,13 @@ impl Tally {
         &self.powers
     }
 
+    /// The kept votes, in order of arrival.
+    pub fn votes(&self) -> &[Vote]
+        ensures { result.now ≡ self.now.votes }
+    {
+        self.votes.as_slice()
+    }
+
     /// The own number.
     pub fn me(&self) -> u16
         ensures { result ≡ self.now.me }

@@ -1,4 +1,4 @@
-use Rattle.std.proofs.Common.{◌≡◌, ◌<◌, ◌∙◌, refl, ap, length}
+use Rattle.std.proofs.Common.{◌<◌, ◌∙◌, refl, ap, length}
 use Rattle.std.proofs.lemmas.List.{length-map}
 use Rattle.protocol.specs.Messages.{Proposal}
 use Rattle.protocol.specs.Order.{is_decidable}

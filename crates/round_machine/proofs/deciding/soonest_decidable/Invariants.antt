@@ -1,4 +1,3 @@
-use Rattle.std.proofs.Common.{◌≡◌, take}
 use Rattle.protocol.specs.Order.{is_decidable}
 use Rattle.round_machine.proofs.Soonest.{IsSoonest}
 use Rattle.round_machine.proofs.deciding.soonest_decidable.Given as goal

@@ -1,4 +1,3 @@
-use Rattle.std.proofs.Common.{◌≡◌}
 use Rattle.std.proofs.lemmas.Result.{on_ok_weaker, IfOk-weaker}
 use Rattle.round_states.specs.Steps.{picked_value}
 use Rattle.round_machine.specs.Naming.{pick_in}
@@ -10,20 +9,8 @@ returns-in-Decide-clause-state g c = rw c.in-Decide.is (on_ok_weaker c.decide.re
 pub returns-in-Decide-clause-unsaved : goal.returns-in-Decide-clause-unsaved
 returns-in-Decide-clause-unsaved g c = rw c.in-Decide.is (IfOk-weaker c.decide.result _ _ (λ f h. h (picked_value (pick_in c.args.input))) c.decide.ensures.unsaved)
 
-pub returns-in-PrevoteFresh-clause-state : goal.returns-in-PrevoteFresh-clause-state
-returns-in-PrevoteFresh-clause-state g c = rw c.in-PrevoteFresh.is (on_ok_weaker c.prevote_fresh.result (λ h. h (picked_value (pick_in c.args.input))) c.prevote_fresh.ensures.state)
-
-pub returns-in-PrevoteFresh-clause-unsaved : goal.returns-in-PrevoteFresh-clause-unsaved
-returns-in-PrevoteFresh-clause-unsaved g c = rw c.in-PrevoteFresh.is (IfOk-weaker c.prevote_fresh.result _ _ (λ f h. h (picked_value (pick_in c.args.input))) c.prevote_fresh.ensures.unsaved)
-
 pub returns-in-Lock-clause-state : goal.returns-in-Lock-clause-state
 returns-in-Lock-clause-state g c = rw c.in-Lock.is (on_ok_weaker c.lock.result (λ h. h (picked_value (pick_in c.args.input))) c.lock.ensures.state)
 
 pub returns-in-Lock-clause-unsaved : goal.returns-in-Lock-clause-unsaved
 returns-in-Lock-clause-unsaved g c = rw c.in-Lock.is (IfOk-weaker c.lock.result _ _ (λ f h. h (picked_value (pick_in c.args.input))) c.lock.ensures.unsaved)
-
-pub returns-in-PrecommitNil-clause-state : goal.returns-in-PrecommitNil-clause-state
-returns-in-PrecommitNil-clause-state g c = rw c.in-PrecommitNil.is (on_ok_weaker c.precommit_nil.result (λ h. h (picked_value (pick_in c.args.input))) c.precommit_nil.ensures.state)
-
-pub returns-in-PrecommitNil-clause-unsaved : goal.returns-in-PrecommitNil-clause-unsaved
-returns-in-PrecommitNil-clause-unsaved g c = rw c.in-PrecommitNil.is (IfOk-weaker c.precommit_nil.result _ _ (λ f h. h (picked_value (pick_in c.args.input))) c.precommit_nil.ensures.unsaved)

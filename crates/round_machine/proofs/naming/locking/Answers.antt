@@ -1,4 +1,4 @@
-use Rattle.std.proofs.Common.{◌≡◌, sym, ◌∙◌, None}
+use Rattle.std.proofs.Common.{sym, ◌∙◌}
 use Rattle.round_machine.proofs.Stages.{locking_is, lockable_there}
 use Rattle.round_machine.proofs.naming.locking.Goals as goal
 

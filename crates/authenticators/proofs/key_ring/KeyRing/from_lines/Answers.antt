@@ -1,5 +1,5 @@
 use Rattle.std.proofs.lemmas.Result.{err_from_is_err_and}
-use Rattle.authenticators.proofs.Files.{no_key_to, no_key_from, the_ring, ring_lengths}
+use Rattle.authenticators.proofs.Files.{no_key_to, no_key_from, the_ring, ring_keeps}
 use Rattle.authenticators.proofs.key_ring.KeyRing.from_lines.Goals as goal
 
 pub returns-in_err-to_validators : goal.returns-in_err-to_validators
@@ -13,7 +13,7 @@ returns-in_err-from_validators c =
     rw (p.1, p.2) (no_key_from c.args.me c.args.validators c.args.lines.now c.in_ok-to_validators.to_validators.items c.in_err-from_validators.field-0.0 c.in_ok-to_validators.ensures c.in_err-from_validators.ensures)
 
 pub invariant_of-result : goal.invariant_of-result
-invariant_of-result c = ring_lengths c.args.me c.args.validators c.args.lines.now _ _ c.in_ok-to_validators.ensures c.in_ok-from_validators.ensures
+invariant_of-result c = ring_keeps c.args.me c.args.validators c.args.lines.now _ _ c.in_ok-to_validators.ensures c.in_ok-from_validators.ensures
 
 pub returns : goal.returns
 returns c = the_ring c.args.me c.args.validators c.args.lines.now _ _ _ c.in_ok-to_validators.ensures c.in_ok-from_validators.ensures c.in_ok-from_clients.ensures

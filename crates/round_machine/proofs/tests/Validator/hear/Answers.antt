@@ -1,11 +1,11 @@
-use Rattle.std.proofs.Common.{◌≡◌, refl, false, Bool, List, [], ℕ}
+use Rattle.std.proofs.Common.{refl, false, Bool, List, [], ℕ}
 use Rattle.protocol.specs.Messages.{Body, OfTx, OfProposal, OfVote, OfAsk, OfBundle}
 use Rattle.protocol.specs.State.{Context}
 use Rattle.round_states.specs.Taking.{IsTold}
 use Rattle.round_machine.proofs.tests.Validator.hear.Goals as goal
 
 abbrev context : List ℕ → ℕ → Bool → Context
-context powers me genuine = record { powers = powers; me = me; genuine = λ _. genuine; vouches = λ _ _. false; own_tags = λ _ _ _. [] }
+context powers me genuine = record { powers = powers; me = me; genuine = λ _. genuine; vouches = λ _ _. false; certified = λ _. []; own_tags = λ _ _ _. [] }
 
 told : (powers : List ℕ) (me : ℕ) (genuine : Bool) (body : Body) → IsTold (context powers me genuine) body genuine
 told powers me genuine (OfTx t) = tt

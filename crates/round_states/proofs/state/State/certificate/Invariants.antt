@@ -2,7 +2,6 @@ use Rattle.std.proofs.Common.{◌≡◌}
 use Rattle.std.specs.List.{flat_map}
 use Rattle.protocol.specs.Messages.{below}
 use Rattle.round_states.specs.Steps.{signed_with}
-use Rattle.round_states.specs.Seen.{seen}
 use Rattle.round_states.proofs.state.State.certificate.Given as goal
 
 abbrev pub invariant-loop-sender : goal.invariant-loop-sender

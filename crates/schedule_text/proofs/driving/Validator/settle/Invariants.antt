@@ -1,5 +1,5 @@
 use Rattle.schedule_text.specs.Driving.{IsRun}
-use Rattle.schedule_text.proofs.Ending.{left}
+use Rattle.round_machine.proofs.Ending.{left}
 use Rattle.schedule_text.proofs.driving.Validator.settle.Given as goal
 
 abbrev pub invariant-loop-rule : goal.invariant-loop-rule

@@ -1,0 +1,62 @@
+//! What a node lets out.
+
+ghost use Rattle.std.specs.Prelude.{◌≡◌, ◌≤◌, ℕ, Some, length, IfOk};
+ghost use Rattle.messages.specs.Grammar.{body_spelling, IsBody};
+ghost use Rattle.messages.specs.Framing.{frame_spelling};
+ghost use Rattle.protocol.specs.Tags.{Setting};
+ghost use Rattle.protocol.specs.Messages.{OfVote, precommit, sender_of, tagged};
+ghost use Rattle.protocol.specs.Rings.{IsRingOf};
+
+use authenticators::{KeyRing, Party, tag_all};
+use messages::{Body, Step, Vote, frame_of, spell_body};
+use std::alloc::{AllocError, Global};
+use transactions::{Id, Seq};
+
+/// The frame of an own body, with a right tag for each of up to 64 validators.
+///
+/// The body is spelled once, hashed once for each tag, and copied once into the frame.
+pub fn frame_for(alloc: Global, ring: &KeyRing, body: &Body) -> Result<Vec<u8>, AllocError>
+    requires spelled { IsBody body.now }
+    requires own { sender_of body.now ≡ ring.now.me }
+    requires few { ring.now.count ≤ 64 }
+    ensures { (c : Setting) (p : ℕ) → IsRingOf c p ring.now → IfOk result (λ frame. frame.items ≡ frame_spelling (tagged c body.now)) }
+{
+    let bytes = bytes_of(alloc, body)?;
+    let tags = tag_all(alloc, ring, &bytes)?;
+    frame_of(alloc, &bytes, &tags)
+}
+
+/// The tags of the own precommit for an id, by which a bundle proves it to others.
+///
+/// A client has no precommits, so there are no tags under its keys.
+pub fn own_tags(
+    alloc: Global,
+    ring: &KeyRing,
+    height: u64,
+    round: u32,
+    id: Id,
+) -> Result<Seq<[u8; 32]>, AllocError>
+    ensures { (c : Setting) (p : ℕ) → IsRingOf c p ring.now → IfOk result (λ tags. tags ≡ (tagged c (OfVote (precommit height round p (Some id)))).tags) }
+{
+    let Party::Validator(sender) = ring.me() else {
+        return Ok(Seq::new(alloc));
+    };
+    let vote = Vote {
+        step: Step::Precommit,
+        height,
+        round,
+        sender,
+        content: Some(id),
+    };
+    let bytes = bytes_of(alloc, &Body::Vote(vote))?;
+    Ok(Seq::from_vec(tag_all(alloc, ring, &bytes)?))
+}
+
+/// The bytes of a body, which can be refused for want of memory alone.
+fn bytes_of(alloc: Global, body: &Body) -> Result<Vec<u8>, AllocError>
+    requires { IsBody body.now }
+    ensures spelled { IfOk result (λ bytes. bytes.items ≡ body_spelling body.now) }
+    ensures short { IfOk result (λ bytes. length bytes.items ≤ 631312) }
+{
+    spell_body(alloc, body).map_err(|_fault| AllocError)
+}

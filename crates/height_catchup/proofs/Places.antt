@@ -1,0 +1,27 @@
+-- A bundle that is found by its place.
+use Rattle.std.proofs.Common.{◌≡◌, ℕ, zero, suc, ◌+◌, ◌<◌, Bor, Option, Some, None, List, [], ◌∷◌, length, refl, sym, ◌∙◌, ap, arith}
+use Rattle.std.specs.Prelude.{◌==◌}
+use Rattle.std.specs.List.{find, slice_get, slice_index_or}
+use Rattle.std.specs.Option.{option_copied}
+use Rattle.std.specs.Slice.{IsItemAt}
+use Rattle.std.proofs.lemmas.Bool.{eq-eqb, ne_eqb}
+use Rattle.std.proofs.lemmas.Option.{slice_get_past, slice_get-get_or}
+use Rattle.messages.specs.declared.body.Bundle.{Bundle}
+use Rattle.height_catchup.specs.Kept.{IsInPlace}
+
+-- what a read gives
+pub read_at : (bundles : List Bundle) (height : ℕ) (r : Option (Bor Bundle)) → IsItemAt bundles height r → option_copied r ≡ slice_get bundles height
+read_at bundles height None read = sym (slice_get_past bundles height read.3)
+read_at bundles height (Some b) read = ap (λ (x : Bundle). Some x) (read.3.1 b.now) ∙ sym (slice_get-get_or bundles height b.now read.3.0)
+
+from_place : (bundles : List Bundle) (first height at : ℕ) → at ≡ first + height → ((k : ℕ) (d : Bundle) → k < length bundles → (slice_index_or bundles k d).height ≡ first + k)
+    → find (λ b. b.height == at) bundles ≡ slice_get bundles height
+from_place [] first height at e placed = refl
+from_place (b ∷ bundles) first zero at e placed = rw (eq-eqb b.height at (let h : b.height ≡ first + 0 = placed 0 b (omega arith) in omega arith)) refl
+from_place (b ∷ bundles) first (suc height) at e placed =
+    rw (ne_eqb b.height at (λ same. let h : b.height ≡ first + 0 = placed 0 b (omega arith) in omega arith))
+    (from_place bundles (suc first) height at (omega arith) (λ k d l. let h : (slice_index_or bundles k d).height ≡ first + suc k = placed (suc k) d (omega arith) in omega arith))
+
+-- the bundle of a height is the one at that place
+pub found_at_place : (bundles : List Bundle) (height : ℕ) → IsInPlace bundles → find (λ b. b.height == height) bundles ≡ slice_get bundles height
+found_at_place bundles height placed = from_place bundles 0 height height (omega arith) (λ k d l. let h : (slice_index_or bundles k d).height ≡ k = placed k d l in omega arith)

@@ -1,0 +1,7 @@
+pub mod Causes
+pub mod Kept
+pub mod Places
+pub mod Rotation
+pub mod Sizes
+pub mod Standings
+pub mod Tagged

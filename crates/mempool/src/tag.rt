@@ -1,0 +1,133 @@
+//! The tag of a transaction.
+
+ghost use Rattle.std.specs.Prelude.{◌≡◌, ◌+◌, ◌≤◌, ◌++◌, ◌∷◌, ℕ, List, Some, false, length, take};
+ghost use Rattle.authenticators.specs.Ring.{incoming};
+ghost use Rattle.arrayvec.specs.ArrayVec.{array_vec_len};
+ghost use Rattle.transactions.specs.Fields.{number_bytes};
+ghost use Rattle.transactions.specs.Grammar.{op_spelling, tx_body_spelling};
+ghost use Rattle.protocol.specs.Tags.{Setting, tx_is_right};
+ghost use Rattle.protocol.specs.Rings.{IsRingOf};
+ghost use Rattle.protocol.specs.Queues.{Queue};
+ghost use Rattle.protocol.specs.Values.{Item};
+ghost use Rattle.protocol.specs.Refusals.{first_cause, is_long, tx_causes};
+ghost use Rattle.mempool.specs.Answers.{answer_of};
+
+use crate::SubmitFault;
+use arrayvec::ArrayVec;
+use authenticators::{KeyRing, Party, is_right};
+use byteorder::{BigEndian, ByteOrder};
+use transactions::{Op, Tx};
+
+/// How many bytes a transaction may ask to have delivered.
+const MOST_DATA: usize = 1024;
+
+/// The length of the longest body: kind, client, number, kind of operation, length, and the bytes.
+const MOST_BODY: usize = 1 + 2 + 8 + 1 + 2 + MOST_DATA;
+
+/// The causes against a transaction that stand whatever else its client sent: its length, its
+/// client, its tags. They take no memory.
+pub fn check_tag(tx: &Tx, ring: &KeyRing) -> Result<(), SubmitFault>
+    ensures { (c : Setting) (p : ℕ) → IsRingOf c p ring.now → (d : List Item) (queues : List Queue)
+        → result ≡ answer_of (first_cause (take 3 (tx_causes c p d queues tx.now))) }
+{
+    if is_long(&tx.op) {
+        return Err(SubmitFault::TooLong);
+    }
+    let Some(key) = ring.incoming(Party::Client(tx.client)) else {
+        return Err(SubmitFault::UnknownClient);
+    };
+    if !is_tagged(tx, ring, key) {
+        return Err(SubmitFault::BadTag);
+    }
+    Ok(())
+}
+
+/// Whether there is one tag for each validator, and the ring's own one is right under this key of
+/// the client. The ring has to be a validator's.
+fn is_tagged(tx: &Tx, ring: &KeyRing, key: &[u8; 32]) -> bool
+    requires short { is_long tx.now.op ≡ false }
+    requires known { incoming ring.now (Party.Client tx.now.client) ≡ Some key.now }
+    ensures { (c : Setting) (p : ℕ) → IsRingOf c p ring.now → result ≡ tx_is_right c p tx.now }
+{
+    match ring.me() {
+        Party::Validator(me) => {
+            is_right(
+                ring.count(),
+                key,
+                me,
+                body_of(tx).as_slice(),
+                tx.tags.as_slice(),
+            )
+        }
+        Party::Client(_) => false,
+    }
+}
+
+fn is_long(op: &Op) -> bool
+    ensures { result ≡ is_long op.now }
+{
+    match op {
+        Op::Bytes(contents) => contents.len() > MOST_DATA,
+        Op::Close => false,
+    }
+}
+
+/// The bytes that a transaction's tags are made over, also where a field is out of range, so that no
+/// such transaction could be spelled.
+#[tactic(auto, unfolding(transactions::specs::Grammar::tx_fields_spelling))]
+fn body_of(tx: &Tx) -> ArrayVec<u8, MOST_BODY>
+    requires { is_long tx.now.op ≡ false }
+    ensures { result.items ≡ tx_body_spelling tx.now }
+{
+    let mut body = ArrayVec::new();
+    body.push(1);
+    put_u16(&mut body, tx.client);
+    put_u64(&mut body, tx.number);
+    put_op(&mut body, &tx.op);
+    body
+}
+
+fn put_op(body: &mut ArrayVec<u8, MOST_BODY>, op: &Op)
+    requires short { is_long op.now ≡ false }
+    requires room { array_vec_len body.old ≡ 11 }
+    ensures { body.new.items ≡ body.old.items ++ op_spelling op.now }
+{
+    match op {
+        Op::Bytes(contents) => {
+            body.push(0);
+            put_u16(body, contents.len() as u16);
+            put(body, contents.as_slice());
+        }
+        Op::Close => body.push(1),
+    }
+}
+
+#[tactic(auto, unfolding(transactions::specs::Fields::number_bytes))]
+fn put_u16(body: &mut ArrayVec<u8, MOST_BODY>, number: u16)
+    requires { array_vec_len body.old + 2 ≤ MOST_BODY }
+    ensures items { body.new.items ≡ body.old.items ++ number_bytes 2 number }
+    ensures len { array_vec_len body.new ≡ array_vec_len body.old + 2 }
+{
+    let mut buf = [0u8; 2];
+    BigEndian::write_u16(&mut buf, number);
+    put(body, &buf);
+}
+
+#[tactic(auto, unfolding(transactions::specs::Fields::number_bytes))]
+fn put_u64(body: &mut ArrayVec<u8, MOST_BODY>, number: u64)
+    requires { array_vec_len body.old + 8 ≤ MOST_BODY }
+    ensures items { body.new.items ≡ body.old.items ++ number_bytes 8 number }
+    ensures len { array_vec_len body.new ≡ array_vec_len body.old + 8 }
+{
+    let mut buf = [0u8; 8];
+    BigEndian::write_u64(&mut buf, number);
+    put(body, &buf);
+}
+
+fn put(body: &mut ArrayVec<u8, MOST_BODY>, bytes: &[u8])
+    requires { array_vec_len body.old + length bytes.now ≤ MOST_BODY }
+    ensures items { body.new.items ≡ body.old.items ++ bytes.now }
+    ensures len { array_vec_len body.new ≡ array_vec_len body.old + length bytes.now }
+{
+    body.try_extend_from_slice(bytes).unwrap();
+}

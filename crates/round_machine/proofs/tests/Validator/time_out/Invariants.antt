@@ -1,0 +1,4 @@
+use Rattle.round_machine.proofs.tests.Validator.time_out.Given as goal
+
+abbrev pub ghost-fire : goal.ghost-fire
+ghost-fire g a = g.g
