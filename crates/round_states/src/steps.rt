@@ -174,7 +174,9 @@ impl State {
     }
 
     /// The proposal that begins a round, as it will be let go: none where another validator proposes.
-    /// It is that of the valid value with its round, or of the picked value where there is none.
+    /// It is that of the valid value with its round, or of the picked value where there is none, and it
+    /// has a spelling. The value is shared: it takes no memory, and is refused only where 2^63 copies are
+    /// alive.
     pub fn opening_proposal(
         &self,
         round: u32,

@@ -1,0 +1,220 @@
+-- What a firing leaves of a state.
+use Rattle.std.proofs.Common.{◌≡◌, ℕ, zero, suc, ◌+◌, Bool, true, false, cond, not, List, [], ◌∷◌, ◌++◌, map, length, All, Option, Some, None, refl, sym, ap, subst, ◌∙◌, option_to_list, length-append, arith}
+use Rattle.std.specs.Prelude.{◌==◌}
+use Rattle.std.proofs.lemmas.Bool.{cond_both}
+use Rattle.std.proofs.lemmas.List.{append-nil}
+use Rattle.std.proofs.lemmas.List.Elements.{All-append}
+use Rattle.powers.specs.Power.{proposer}
+use Rattle.messages.specs.declared.body.Body.{Body}
+use Rattle.messages.specs.declared.body.Body.TheVariants.{Tx as OfTx, Proposal as OfProposal, Vote as OfVote, Ask as OfAsk, Bundle as OfBundle}
+use Rattle.protocol.specs.Values.{Value}
+use Rattle.protocol.specs.Messages.{◌∈◌, Record, Own, Decided, Bundle, step_eq}
+use Rattle.protocol.specs.declared.types.Step.{Step}
+use Rattle.protocol.specs.declared.types.Step.TheVariants.{Propose, Prevote, Precommit}
+use Rattle.protocol.specs.declared.types.Stamp.{Stamp}
+use Rattle.protocol.specs.declared.types.ValueAt.{ValueAt}
+use Rattle.protocol.specs.declared.types.Timeout.{Timeout}
+use Rattle.protocol.specs.State.{Context, State, Node, Queue, Rule, Start, PrevoteFresh, PrevoteAgain, AwaitPrevotes, Lock, PrecommitNil, AwaitPrecommits, Decide, DecideByBundle, SkipRound, TimedOut}
+use Rattle.protocol.specs.Rules.{changed, changed_by_timeout, fired, keeping_own, released_by, saved, saved_by_timeout, starts, proposal_of, scheduled}
+use Rattle.protocol.specs.Queues.{pick, drop_delivered, all_waiting}
+use Rattle.protocol.specs.Arrivals.{is_decision, queues_after}
+use Rattle.protocol.proofs.Waiting.{dropped_in}
+use Rattle.messages.specs.Grammar.{IsBundle}
+use Rattle.round_states.specs.Machine.{Agrees}
+use Rattle.round_states.specs.Pending.{Pending, pending_of}
+use Rattle.node_core.specs.Core.{Core, Stands, IsSame, IsSound, IsOf, IsStamp, setting, setting_of, context_of, frame_by}
+use Rattle.node_core.specs.Calls.{HasFiredOnce}
+use Rattle.node_core.specs.Firing.{decided_by, is_empty}
+use Rattle.node_core.proofs.Stepwise.{same_setting}
+use Rattle.protocol.specs.Effects.{bundles_in}
+
+kept_stamps : (s : State) (b : Option Body) → (keeping_own s b).stamps ≡ s.stamps
+kept_stamps s None = refl
+kept_stamps s (Some (OfTx t)) = refl
+kept_stamps s (Some (OfProposal q)) = refl
+kept_stamps s (Some (OfVote v)) = refl
+kept_stamps s (Some (OfAsk a)) = refl
+kept_stamps s (Some (OfBundle b)) = refl
+
+timed_stamps : (P : Stamp → Type 0) (s : State) (kind : Step) → All P s.stamps → All P (changed_by_timeout s kind).stamps
+timed_stamps P s Propose all = all
+timed_stamps P s Prevote all = all
+timed_stamps P s Precommit all = all
+
+changed_stamps : (P : Stamp → Type 0) (s : State) (k : Rule) → All P s.stamps → All P (changed s k).stamps
+changed_stamps P s Start all = all
+changed_stamps P s (PrevoteFresh v) all = all
+changed_stamps P s (PrevoteAgain r v) all = all
+changed_stamps P s AwaitPrevotes all = all
+changed_stamps P s (Lock v) all = all
+changed_stamps P s PrecommitNil all = all
+changed_stamps P s AwaitPrecommits all = all
+changed_stamps P s (Decide r v) all = λ i d lt. absurd (omega arith)
+changed_stamps P s (DecideByBundle b) all = λ i d lt. absurd (omega arith)
+changed_stamps P s (SkipRound r) all = all
+changed_stamps P s (TimedOut t) all = timed_stamps P s t.kind all
+
+-- a firing keeps the stamps, or lets them all go
+pub fired_stamps : (P : Stamp → Type 0) (g : Context) (v : Value) (s : State) (k : Rule) → All P s.stamps → All P (fired g v s k).stamps
+fired_stamps P g v s k all = rw (kept_stamps (changed s k) (released_by g.me (saved g v s k))) (changed_stamps P s k all)
+
+-- the decision in what was saved
+abbrev pub decided_in : Option Record → List Bundle
+decided_in None = []
+decided_in (Some (Own h r act)) = []
+decided_in (Some (Decided b)) = b ∷ []
+
+pub saved_bundles : (wrote : Option Record) (journal : List Record) → bundles_in (option_to_list wrote ++ journal) ≡ bundles_in journal ++ decided_in wrote
+saved_bundles None journal = sym (append-nil (bundles_in journal))
+saved_bundles (Some (Own h r act)) journal = sym (append-nil (bundles_in journal))
+saved_bundles (Some (Decided b)) journal = refl
+
+-- ---- what is decided
+
+IsPlain : Option Record → Type 0
+IsPlain wrote = decided_in wrote ≡ []
+
+starts_plain : (g : Context) (s : State) (r : ℕ) (v : Value) → decided_in (starts g s r v) ≡ []
+starts_plain g s r v = cond_both (proposer g.powers s.height r == g.me) _ _ (λ (w : Option Record). decided_in w ≡ []) (λ _. by_value s.valid_value) (λ _. refl)
+  where
+    by_value : (o : Option ValueAt) → decided_in (Some (proposal_of s r v o)) ≡ []
+    by_value None = refl
+    by_value (Some l) = refl
+
+timed_plain : (g : Context) (s : State) (v : Value) (kind : Step) → decided_in (saved_by_timeout g v s kind) ≡ []
+timed_plain g s v Propose = refl
+timed_plain g s v Prevote = refl
+timed_plain g s v Precommit = starts_plain g s (suc s.round) v
+
+-- a firing decides, or its height and what is decided stay
+pub record Decides (g : Context) (v : Value) (s : State) (k : Rule) : Type 0 where
+  pub empty : is_empty (decided_in (saved g v s k)) ≡ not (is_decision k)
+  pub height : (fired g v s k).height ≡ s.height + length (decided_in (saved g v s k))
+
+kept_height : (s : State) (b : Option Body) → (keeping_own s b).height ≡ s.height
+kept_height s None = refl
+kept_height s (Some (OfTx t)) = refl
+kept_height s (Some (OfProposal q)) = refl
+kept_height s (Some (OfVote v)) = refl
+kept_height s (Some (OfAsk a)) = refl
+kept_height s (Some (OfBundle b)) = refl
+
+timed_height : (s : State) (kind : Step) → (changed_by_timeout s kind).height ≡ s.height
+timed_height s Propose = refl
+timed_height s Prevote = refl
+timed_height s Precommit = refl
+
+plain : (g : Context) (v : Value) (s : State) (k : Rule) → decided_in (saved g v s k) ≡ [] → is_decision k ≡ false → (changed s k).height ≡ s.height → Decides g v s k
+plain g v s k none still same = record {
+  empty = rw (none, still) refl;
+  height = kept_height (changed s k) (released_by g.me (saved g v s k)) ∙ same ∙ (let e : length (decided_in (saved g v s k)) ≡ 0 = ap length none in omega (arith, e));
+}
+
+pub decides : (g : Context) (v : Value) (s : State) (k : Rule) → Decides g v s k
+decides g v s Start = plain g v s Start (starts_plain g s 0 v) refl refl
+decides g v s (PrevoteFresh u) = plain g v s (PrevoteFresh u) refl refl refl
+decides g v s (PrevoteAgain r u) = plain g v s (PrevoteAgain r u) refl refl refl
+decides g v s AwaitPrevotes = plain g v s AwaitPrevotes refl refl refl
+decides g v s (Lock u) = plain g v s (Lock u) (cond_both (step_eq s.step Prevote) _ _ (λ (w : Option Record). decided_in w ≡ []) (λ _. refl) (λ _. refl)) refl refl
+decides g v s PrecommitNil = plain g v s PrecommitNil refl refl refl
+decides g v s AwaitPrecommits = plain g v s AwaitPrecommits refl refl refl
+decides g v s (Decide r u) = record { empty = refl; height = omega arith }
+decides g v s (DecideByBundle b) = record { empty = refl; height = omega arith }
+decides g v s (SkipRound r) = plain g v s (SkipRound r) (starts_plain g s r v) refl refl
+decides g v s (TimedOut t) = plain g v s (TimedOut t) (timed_plain g s v t.kind) refl (timed_height s t.kind)
+
+pub pending_decided : (me : ℕ) (wrote : Option Record) → decided_by (pending_of me wrote) ≡ decided_in wrote
+pending_decided me None = refl
+pending_decided me (Some (Own h r act)) = refl
+pending_decided me (Some (Decided b)) = refl
+
+-- ---- a core after a firing
+
+-- what the firing of a rule makes of a core
+pub record IsFiredTo (k : Rule) (old new : Core) : Type 0 where
+  pub same : IsSame old new
+  pub state : new.machine.state ≡ fired (context_of old) (pick old.queues) old.machine.state k
+  pub agrees : Agrees (context_of old) new.machine
+  pub queues : new.queues ≡ cond (is_empty (decided_in (saved (context_of old) (pick old.queues) old.machine.state k))) old.queues (drop_delivered new.machine.state.delivered old.queues)
+  pub decisions : new.decisions ≡ old.decisions ++ decided_in (saved (context_of old) (pick old.queues) old.machine.state k)
+  pub outgoing : new.outgoing ≡ old.outgoing ++ map (frame_by old) (option_to_list (released_by old.machine.me (saved (context_of old) (pick old.queues) old.machine.state k)))
+  pub scheduled : new.scheduled ≡ old.scheduled ++ option_to_list (scheduled (context_of old) old.machine.state k)
+
+flipped : (b : Bool) (xs ys : List Queue) → cond (not b) xs ys ≡ cond b ys xs
+flipped true xs ys = refl
+flipped false xs ys = refl
+
+pub fired_once : (n : Node) (k : Rule) (old new : Core) → IsFiredTo k old new → Stands n old → HasFiredOnce n k old new
+fired_once n k old new f s =
+    let wrote : Option Record = saved (context_of old) (pick old.queues) old.machine.state k in
+    let d = decides (context_of old) (pick old.queues) old.machine.state k in
+    let queues : new.queues ≡ queues_after (fired (context_of old) (pick old.queues) old.machine.state k) k old.queues =
+    f.queues ∙ ap (λ b. cond b old.queues (drop_delivered new.machine.state.delivered old.queues)) d.empty ∙ flipped (is_decision k) old.queues _ ∙ ap (λ (t : State). cond (is_decision k) (drop_delivered t.delivered old.queues) old.queues) f.state in
+    record {
+      stands = record {
+        state = rw (← s.state, ← s.queues) f.state;
+        queues = rw (← s.state, ← s.queues) queues;
+        decisions = f.decisions ∙ ap (λ l. l ++ decided_in wrote) s.decisions ∙ sym (saved_bundles wrote n.journal) ∙ (rw (← s.state, ← s.queues) refl);
+      };
+      outgoing = rw (← s.state, ← s.queues) f.outgoing;
+      scheduled = rw (← s.state) f.scheduled;
+      same = f.same;
+    }
+
+pub same_context : (old new : Core) → IsSame old new → context_of new ≡ context_of old
+same_context old new s = rw (s.powers, s.me, s.ring) refl
+
+pub fired_sound : (k : Rule) (old new : Core) → IsFiredTo k old new → IsSound old → All IsBundle (decided_in (saved (context_of old) (pick old.queues) old.machine.state k)) → All (IsOf old.machine.me) (decided_in (saved (context_of old) (pick old.queues) old.machine.state k)) → IsSound new
+fired_sound k old new f s spelled own =
+    let wrote : Option Record = saved (context_of old) (pick old.queues) old.machine.state k in
+    let d = decides (context_of old) (pick old.queues) old.machine.state k in
+    let same : setting_of new ≡ setting_of old = same_setting old new f.same in
+    record {
+      owner = rw (f.same.ring, f.same.me) s.owner;
+      count = rw (f.same.ring, f.same.powers) s.count;
+      me = rw (f.same.powers, f.same.me) s.me;
+      whole = rw f.same.ring s.whole;
+      few = rw f.same.powers s.few;
+      agrees = subst (λ g. Agrees g new.machine) (sym (same_context old new f.same)) f.agrees;
+      waiting = λ t i. rw (same, f.same.me) (s.waiting t (cond_both (is_empty (decided_in wrote)) old.queues (drop_delivered new.machine.state.delivered old.queues) (λ qs. t ∈ all_waiting qs → t ∈ all_waiting old.queues)
+          (λ _ j. j) (λ _ j. dropped_in new.machine.state.delivered t old.queues j) (subst (λ qs. t ∈ all_waiting qs) f.queues i)));
+      stamps = rw f.state (fired_stamps IsStamp (context_of old) (pick old.queues) old.machine.state k s.stamps);
+      decided = rw (f.decisions, f.state, d.height) (let e = length-append old.decisions (decided_in wrote) in omega (arith, e, s.decided));
+      spelled = rw f.decisions (All-append IsBundle old.decisions (decided_in wrote) s.spelled spelled);
+      own = rw (f.decisions, f.same.me) (All-append (IsOf old.machine.me) old.decisions (decided_in wrote) s.own own);
+    }
+
+-- ---- from what the parts of a firing ensure
+
+pub fired_to : (k : Rule) (old new : Core) (v : Value) (pending : Option Pending) (timeout : Option Timeout)
+    → saved (context_of old) v old.machine.state k ≡ saved (context_of old) (pick old.queues) old.machine.state k
+    → new.machine.state ≡ fired (context_of old) v old.machine.state k → Agrees (context_of old) new.machine → new.ring ≡ old.ring
+    → pending ≡ pending_of old.machine.me (saved (context_of old) v old.machine.state k) → timeout ≡ scheduled (context_of old) old.machine.state k
+    → new.queues ≡ cond (is_empty (decided_by pending)) old.queues (drop_delivered new.machine.state.delivered old.queues) → new.decisions ≡ old.decisions ++ decided_by pending
+    → new.outgoing ≡ old.outgoing ++ map (frame_by old) (option_to_list (released_by old.machine.me (saved (context_of old) v old.machine.state k))) → new.scheduled ≡ old.scheduled ++ option_to_list timeout
+    → IsFiredTo k old new
+unfolding setting
+fired_to k old new v pending timeout same state agrees ring unsaved timed queues decisions outgoing scheduling =
+    let g : Context = context_of old in
+    let wrote : Option Record = saved g (pick old.queues) old.machine.state k in
+    let d : decided_by pending ≡ decided_in wrote = ap decided_by unsaved ∙ pending_decided old.machine.me (saved g v old.machine.state k) ∙ ap decided_in same in
+    record {
+      same = record { powers = agrees.powers; me = agrees.me; ring = ring };
+      state = state ∙ ap (λ w. keeping_own (changed old.machine.state k) (released_by old.machine.me w)) same;
+      agrees = agrees;
+      queues = queues ∙ ap (λ (bs : List Bundle). cond (is_empty bs) old.queues (drop_delivered new.machine.state.delivered old.queues)) d;
+      decisions = decisions ∙ ap (λ l. old.decisions ++ l) d;
+      outgoing = outgoing ∙ ap (λ w. old.outgoing ++ map (frame_by old) (option_to_list (released_by old.machine.me w))) same;
+      scheduled = scheduling ∙ ap (λ o. old.scheduled ++ option_to_list o) timed;
+    }
+
+pub empty_nil : (bs : List Bundle) → is_empty bs ≡ true → bs ≡ []
+empty_nil [] e = refl
+empty_nil (b ∷ bs) e = absurd (let f : false ≡ true = e in cc)
+
+pub none_all : (P : Bundle → Type 0) (bs : List Bundle) → bs ≡ [] → All P bs
+none_all P bs e = subst (λ l. All P l) (sym e) (λ i d lt. absurd (omega arith))
+
+pub one_all : (P : Bundle → Type 0) (b : Bundle) → P b → All P (b ∷ [])
+one_all P b h zero d lt = h
+one_all P b h (suc i) d lt = absurd (omega (arith, lt))

@@ -1,0 +1,92 @@
+-- A frame that is handed in: its message is taken in, or it is refused.
+use Rattle.std.proofs.Common.{◌≡◌, ℕ, List, ◌++◌, map, inl, inr, ◌⊎◌, Option, Some, None, Result, Ok, Err, refl, sym, ap, subst, ◌∙◌}
+use Rattle.std.proofs.lemmas.List.{append-nil}
+use Rattle.messages.specs.Framing.{message_of}
+use Rattle.protocol.specs.Tags.{Setting}
+use Rattle.protocol.specs.State.{Node}
+use Rattle.protocol.specs.Messages.{Message}
+use Rattle.protocol.specs.Refusals.{Refusal, answer}
+use Rattle.protocol.specs.Arrivals.{Outcome, arrival, received, nothing}
+use Rattle.protocol.specs.History.{Given}
+use Rattle.protocol.proofs.Arrivals.{refused_law}
+use Rattle.frame_admission.specs.Gate.{answer_behind, IsAnswer as IsAdmitted}
+use Rattle.frame_admission.specs.declared.inadmissible.Inadmissible.{Inadmissible}
+use Rattle.frame_admission.specs.declared.inadmissible.Inadmissible.TheVariants as gate
+use Rattle.mempool.specs.declared.fault.SubmitFault.TheVariants as submits
+use Rattle.height_catchup.specs.declared.judging.JudgeFault.TheVariants as judges
+use Rattle.node_core.specs.declared.refusal.Refusal.{Refusal as Answer}
+use Rattle.node_core.specs.declared.refusal.Refusal.TheVariants as answers
+use Rattle.node_core.specs.Core.{Core, Stands, setting_of, frame_by}
+use Rattle.node_core.specs.Calls.{IsRefusal, IsReceived, IsTaken, IsDone}
+use Rattle.node_core.specs.Named.{of_inadmissible}
+use Rattle.node_core.proofs.Arrivals.{comes_in, answers_by}
+use Rattle.node_core.proofs.Stepwise.{same_itself, none_fired, stands_counted, called, taken_counted}
+
+pub received_taken : (n : Node) (frame : List ℕ) (m : Message) (old new : Core) → message_of frame ≡ Ok m → answer (setting_of old) old.machine.me n frame ≡ None → IsReceived n m old new → IsTaken n (Given frame) old new
+received_taken n frame m old new e none h =
+    let at : arrival (setting_of old) old.machine.me n frame ≡ received (setting_of old) old.machine.me n m m.body = comes_in (setting_of old) old.machine.me n frame m e (sym (answers_by (setting_of old) old.machine.me n frame m e) ∙ none) in
+    record {
+      stands = subst (λ (o : Outcome). Stands o.node new) (sym at) h.stands;
+      outgoing = subst (λ (o : Outcome). new.outgoing ≡ old.outgoing ++ map (frame_by old) o.out) (sym at) h.outgoing;
+      scheduled = h.scheduled ∙ sym (append-nil old.scheduled);
+      same = h.same;
+    }
+
+pub refused_taken : (n : Node) (frame : List ℕ) (r : Refusal) (old : Core) → Stands n old → answer (setting_of old) old.machine.me n frame ≡ Some r → IsTaken n (Given frame) old old
+refused_taken n frame r old s e =
+    let at : arrival (setting_of old) old.machine.me n frame ≡ nothing n = refused_law (setting_of old) old.machine.me n frame r e in
+    record {
+      stands = subst (λ (o : Outcome). Stands o.node old) (sym at) s;
+      outgoing = subst (λ (o : Outcome). old.outgoing ≡ old.outgoing ++ map (frame_by old) o.out) (sym at) (sym (append-nil old.outgoing));
+      scheduled = sym (append-nil old.scheduled);
+      same = same_itself old;
+    }
+
+-- an answer tells a cause, or want of memory
+told : (cause : Option Refusal) (r : Answer) → IsRefusal cause r → ((x : Refusal) × (cause ≡ Some x)) ⊎ (r ≡ answers.OutOfMemory)
+told cause answers.Truncated h = inl (_, h)
+told cause answers.TooLong h = inl (_, h)
+told cause answers.BadKind h = inl (_, h)
+told cause answers.BadSpelling h = inl (_, h)
+told cause answers.UnknownSender h = inl (_, h)
+told cause answers.BadTag h = inl (_, h)
+told cause answers.OtherHeight h = inl (_, h)
+told cause answers.VoterFull h = inl (_, h)
+told cause answers.Repeat h = inl (_, h)
+told cause answers.RoundLimit h = inl (_, h)
+told cause answers.RoundAhead h = inl (_, h)
+told cause answers.WrongProposer h = inl (_, h)
+told cause (answers.Submit submits.UnknownClient) h = inl (_, h)
+told cause (answers.Submit submits.BadTag) h = inl (_, h)
+told cause (answers.Submit submits.OldNumber) h = inl (_, h)
+told cause (answers.Submit submits.Gap) h = inl (_, h)
+told cause (answers.Submit submits.Closed) h = inl (_, h)
+told cause (answers.Submit submits.QueueFull) h = inl (_, h)
+told cause (answers.Submit submits.TooLong) h = inl (_, h)
+told cause (answers.Submit submits.OutOfMemory) h = absurd h
+told cause (answers.Bundle judges.NoQuorum) h = inl (_, h)
+told cause (answers.Bundle judges.WrongDigest) h = inl (_, h)
+told cause (answers.Bundle judges.BadTag) h = inl (_, h)
+told cause (answers.Bundle judges.NotValid) h = inl (_, h)
+told cause (answers.Bundle judges.OutOfMemory) h = absurd h
+told cause answers.OutOfMemory h = inr refl
+
+-- what was refused is done: nothing but that no rule was fired
+pub refused_done : (n : Node) (frame : List ℕ) (r : Answer) (old : Core) → Stands n old → IsRefusal (answer (setting_of old) old.machine.me n frame) r → IsDone n (Given frame) (Err r) old (record old { fired = 0 })
+refused_done n frame r old s h = elim (told (answer (setting_of old) old.machine.me n frame) r h) [
+  | inl e ↦ (let t = refused_taken n frame e.0 old s e.1 in inl (0, called n (Given frame) 0 old (record old { fired = 0 }) (record old { fired = 0 }) (taken_counted n (Given frame) old 0 t) (none_fired _ (record old { fired = 0 }) (stands_counted _ old 0 t.stands)) refl))
+  | inr e ↦ inr (ap Err e, refl)
+]
+
+-- the gate's refusal is the node's
+pub gate_refused : (c : Setting) (p : ℕ) (n : Node) (wanted : Result Message Refusal) (e : Inadmissible) → IsAdmitted wanted (Err e) → IsRefusal (answer_behind c p n wanted) (of_inadmissible e)
+gate_refused c p n wanted gate.Truncated h = ap (answer_behind c p n) h
+gate_refused c p n wanted gate.TooLong h = ap (answer_behind c p n) h
+gate_refused c p n wanted gate.BadKind h = ap (answer_behind c p n) h
+gate_refused c p n wanted gate.BadSpelling h = ap (answer_behind c p n) h
+gate_refused c p n wanted gate.UnknownSender h = ap (answer_behind c p n) h
+gate_refused c p n wanted gate.BadTag h = ap (answer_behind c p n) h
+gate_refused c p n wanted gate.OutOfMemory h = tt
+
+pub received_from : (n : Node) (m : Message) (old new : Core) (count : ℕ) → IsReceived n m (record old { fired = count }) new → IsReceived n m old new
+received_from n m old new count h = record { stands = h.stands; outgoing = h.outgoing; scheduled = h.scheduled; same = record { powers = h.same.powers; me = h.same.me; ring = h.same.ring } }

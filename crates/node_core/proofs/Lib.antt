@@ -1,0 +1,15 @@
+pub mod Keys
+pub mod Known
+pub mod Stepwise
+pub mod Firings
+pub mod Arrivals
+pub mod Decided
+pub mod Picks
+pub mod Places
+pub mod Spelled
+pub mod Answering
+pub mod Sound
+pub mod Due
+pub mod Given
+pub mod Judged
+pub mod Asks

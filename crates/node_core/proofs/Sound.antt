@@ -1,0 +1,69 @@
+-- What stays sound as a transaction is queued.
+use Rattle.std.proofs.Common.{◌≡◌, ℕ, zero, suc, true, List, inl, inr, None, refl, sym, ap, subst}
+use Rattle.std.specs.Prelude.{is_none}
+use Rattle.std.proofs.lemmas.Bool.{not-false}
+use Rattle.transactions.specs.Grammar.{IsTx}
+use Rattle.protocol.specs.Values.{Tx, Item}
+use Rattle.protocol.specs.Tags.{Setting, tx_is_right}
+use Rattle.protocol.specs.State.{Queue}
+use Rattle.protocol.specs.Queues.{queued}
+use Rattle.protocol.specs.Refusals.{tx_causes, first_cause}
+use Rattle.protocol.proofs.Arrivals.{none_stand}
+use Rattle.protocol.proofs.Waiting.{queued_in}
+use Rattle.std.proofs.Common.{All, arith, Option, Some}
+use Rattle.transactions.specs.Grammar.{AreTags}
+use Rattle.protocol.specs.Values.{Id}
+use Rattle.protocol.specs.declared.types.Step.{Step}
+use Rattle.protocol.specs.declared.types.Step.TheVariants.{Propose, Prevote, Precommit}
+use Rattle.protocol.specs.Arrivals.{stamp_of}
+use Rattle.round_states.specs.Machine.{Machine, Agrees}
+use Rattle.node_core.proofs.Firings.{same_context}
+use Rattle.node_core.specs.Core.{Core, IsSound, IsGood, IsStamp, IsSame, setting, setting_of, context_of}
+
+right_where_none : (c : Setting) (p : ℕ) (d : List Item) (qs : List Queue) (t : Tx) → first_cause (tx_causes c p d qs t) ≡ None → tx_is_right c p t ≡ true
+right_where_none c p d qs t e = not-false _ (none_stand (tx_causes c p d qs t) (ap is_none e)).1.1.0
+
+pub sound_queued : (core : Core) (t : Tx) (d : List Item) → IsSound core → IsTx t → first_cause (tx_causes (setting_of core) core.machine.me d core.queues t) ≡ None → IsSound (record core { queues = queued t core.queues })
+sound_queued core t d s lawful none = record {
+  owner = s.owner;
+  count = s.count;
+  me = s.me;
+  whole = s.whole;
+  few = s.few;
+  agrees = s.agrees;
+  waiting = λ u i. elim (queued_in t u core.queues i) [
+    | inl e ↦ subst (IsGood (setting_of core) core.machine.me) (sym e) (lawful, right_where_none (setting_of core) core.machine.me d core.queues t none)
+    | inr k ↦ s.waiting u k
+  ];
+  stamps = s.stamps;
+  decided = s.decided;
+  spelled = s.spelled;
+  own = s.own;
+}
+
+pub stamps_kept : (step : Step) (round sender : ℕ) (content : Option Id) (tags : List (List ℕ)) → AreTags tags → All IsStamp (stamp_of step round sender content tags)
+stamps_kept Precommit round sender (Some x) tags h zero d lt = h
+stamps_kept Precommit round sender (Some x) tags h (suc i) d lt = absurd (omega (arith, lt))
+stamps_kept Precommit round sender None tags h i d lt = absurd (omega (arith, lt))
+stamps_kept Prevote round sender content tags h i d lt = absurd (omega (arith, lt))
+stamps_kept Propose round sender content tags h i d lt = absurd (omega (arith, lt))
+
+pub same_agreed : (core : Core) (m : Machine) → Agrees (context_of core) m → IsSame core (record core { machine = m })
+unfolding setting
+same_agreed core m a = record { powers = a.powers; me = a.me; ring = refl }
+
+pub sound_kept : (core : Core) (m : Machine) → IsSound core → Agrees (context_of core) m → All IsStamp m.state.stamps → m.state.height ≡ core.machine.state.height → IsSound (record core { machine = m })
+unfolding setting
+sound_kept core m s a stamps height = record {
+  owner = rw a.me s.owner;
+  count = rw a.powers s.count;
+  me = rw (a.me, a.powers) s.me;
+  whole = s.whole;
+  few = rw a.powers s.few;
+  agrees = subst (λ g. Agrees g m) (sym (same_context core (record core { machine = m }) (same_agreed core m a))) a;
+  waiting = rw (a.powers, a.me) s.waiting;
+  stamps = stamps;
+  decided = rw height s.decided;
+  spelled = s.spelled;
+  own = rw a.me s.own;
+}

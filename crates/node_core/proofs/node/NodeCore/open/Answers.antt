@@ -1,0 +1,20 @@
+use Rattle.std.proofs.Common.{refl, arith}
+use Rattle.protocol.specs.Restart.{restart}
+use Rattle.node_core.specs.Core.{setting}
+use Rattle.node_core.proofs.node.NodeCore.open.Goals as goal
+
+pub invariant_of-result : goal.invariant_of-result
+unfolding restart setting
+invariant_of-result c = record {
+  owner = rw c.new.ensures c.requires.owner;
+  count = rw c.new.ensures c.requires.count;
+  me = rw c.new.ensures c.requires.me;
+  whole = c.count.ensures.whole;
+  few = rw c.new.ensures c.count-2.ensures.lawful.few;
+  agrees = record { powers = refl; me = refl; genuine = rw c.new.ensures refl };
+  waiting = λ t i. absurd (rw c.new-2.ensures at i);
+  stamps = rw c.new.ensures (λ i d lt. absurd (omega (arith, lt)));
+  decided = rw (c.new.ensures, c.new-3.ensures) refl;
+  spelled = rw c.new-3.ensures (λ i d lt. absurd (omega (arith, lt)));
+  own = rw c.new-3.ensures (λ i d lt. absurd (omega (arith, lt)));
+}

@@ -1,0 +1,54 @@
+-- What a firing is made of.
+use Rattle.std.specs.Prelude.{◌≡◌, ℕ, ◌<◌, ◌^◌, Bool, true, false, List, [], ◌∷◌, length, map, Option, Some, None, option_to_list}
+use Rattle.transactions.specs.Grammar.{IsValue}
+use Rattle.protocol.specs.Messages.{Bundle, Record, Own, Decided}
+use Rattle.protocol.specs.State.{State}
+use Rattle.protocol.specs.Rules.{saved, starts, released_by}
+use Rattle.protocol.specs.Queues.{pick}
+use Rattle.round_states.specs.Pending.{Pending}
+use Rattle.round_states.specs.Steps.{proposal_at, picked_value}
+use Rattle.round_machine.specs.Naming.{rule_of, pick_in, Serves, ServesRound}
+use Rattle.round_machine.specs.declared.rule.Rule.{Rule as Name}
+use Rattle.round_machine.specs.declared.rule.Rule.TheVariants as names
+use Rattle.round_machine.specs.declared.rule.Input.{Input}
+use Rattle.node_core.specs.Core.{Core, context_of, frame_by}
+
+-- what is handed serves the rule as the queues' own pick would
+pub record IsHanded (core : Core) (rule : Name) (input : Input) : Type 0 where
+  pub serves : Serves (context_of core) core.machine rule input
+  pub same : saved (context_of core) (picked_value (pick_in input)) core.machine.state (rule_of core.machine.state rule) ≡ saved (context_of core) (pick core.queues) core.machine.state (rule_of core.machine.state rule)
+
+-- and so where a rule begins this round
+pub record IsRoundHanded (core : Core) (round : ℕ) (input : Input) : Type 0 where
+  pub serves : ServesRound (context_of core) core.machine round input
+  pub same : starts (context_of core) core.machine.state round (picked_value (pick_in input)) ≡ starts (context_of core) core.machine.state round (pick core.queues)
+
+-- what is decided can be spelled
+abbrev pub IsFit : State → Name → Type 0
+IsFit s (names.Decide i) = IsValue (proposal_at s i).value
+IsFit s _ = Unit {0}
+
+-- the frames of what the firing releases
+abbrev pub frames_of : Core → Name → Input → List (List ℕ)
+frames_of core rule input = map (frame_by core) (option_to_list (released_by core.machine.me (saved (context_of core) (picked_value (pick_in input)) core.machine.state (rule_of core.machine.state rule))))
+
+-- ---- what waits for its save
+
+abbrev pub decision_in : Record → List Bundle
+decision_in (Own height round act) = []
+decision_in (Decided b) = b ∷ []
+
+abbrev pub decided_by : Option Pending → List Bundle
+decided_by None = []
+decided_by (Some u) = decision_in u.entry
+
+abbrev pub is_empty : List Bundle → Bool
+is_empty [] = true
+is_empty (b ∷ bs) = false
+
+-- the numbers of a bundle fit their fields
+pub record IsNarrow (b : Bundle) : Type 0 where
+  pub height : b.height < 2 ^ 64
+  pub round : b.round < 2 ^ 32
+  pub sender : b.sender < 2 ^ 16
+  pub id : length b.id ≡ 32

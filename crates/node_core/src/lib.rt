@@ -1,0 +1,21 @@
+//! A validator's node over bytes: frames come in, and released frames go out.
+//!
+//! A `NodeCore` is handed whole frames and due timeouts. Each is refused with a number, or taken in, and then
+//! rules fire until none is enabled but a timeout's or a bundle's. What the rules release lies as frames in
+//! `outgoing`, and the timeouts that they schedule in `scheduled`, until the caller takes them: the core
+//! itself reads no socket and no clock.
+//!
+//! Line numbers are those of algorithm 1 of arXiv 1807.04938.
+#![tactic(auto)]
+
+mod calls;
+mod firing;
+mod node;
+mod refusal;
+mod taking;
+
+pub use node::{Config, NodeCore};
+pub use refusal::Refusal;
+
+#[cfg(test)]
+mod tests;

@@ -1,0 +1,155 @@
+//! The core, and what it tells of itself.
+
+ghost use Rattle.std.specs.Prelude.{◌≡◌, ◌<◌, [], true, length, map, is_none};
+ghost use Rattle.protocol.specs.Values.{fifo};
+ghost use Rattle.protocol.specs.Tags.{Validator};
+ghost use Rattle.protocol.specs.Order.{enabled};
+ghost use Rattle.protocol.specs.Restart.{opened};
+ghost use Rattle.proposal_validity.specs.Standing.{IsFrontierOf};
+ghost use Rattle.round_states.specs.Seen.{delivered_by};
+ghost use Rattle.node_core.specs.Core.{Stands};
+
+use authenticators::KeyRing;
+use height_catchup::Decisions;
+use mempool::Mempool;
+use messages::Bundle;
+use powers::Powers;
+use proposal_validity::Frontier;
+use protocol::Timeout;
+use round_machine::enabled;
+use round_states::State;
+use std::alloc::Global;
+use std::marker::Model;
+use std::mem;
+use transactions::Value;
+
+/// Which validator this is, and the powers of all.
+#[derive(Drop)]
+pub struct Config {
+    /// The own number.
+    pub me: u16,
+    /// The power of each validator.
+    pub powers: Powers,
+}
+
+/// One validator's node: its variables, its clients' queues, its decisions, and what it has released.
+#[derive(Drop)]
+pub struct NodeCore {
+    pub(crate) alloc: Global,
+    pub(crate) ring: KeyRing,
+    pub(crate) state: State,
+    pub(crate) mempool: Mempool,
+    pub(crate) decisions: Decisions,
+    pub(crate) outgoing: Vec<Vec<u8>>,
+    pub(crate) scheduled: Vec<Timeout>,
+    pub(crate) fired: u64,
+}
+
+impl Model for NodeCore {
+    ghost use Rattle.node_core.specs.Core.{Core, IsSound};
+    ghost use Rattle.node_core.specs.Seen.{seen};
+
+    ghost Value = { Core };
+
+    ghost view = { seen };
+
+    ghost invariant = { λ a. IsSound (seen a) };
+}
+
+impl NodeCore {
+    /// A validator at height 0, of which no rule has fired: `settle` begins.
+    ///
+    /// The ring is that of validator `me`, and has keys for as many validators as have a power.
+    pub fn open(alloc: Global, config: Config, ring: KeyRing) -> NodeCore
+        requires owner { ring.me ≡ Validator config.me }
+        requires count { ring.count ≡ length config.powers }
+        requires me { config.me < length config.powers }
+        ensures stands { Stands (opened config.me []) result }
+        ensures powers { result.machine.powers ≡ config.powers }
+        ensures me { result.machine.me ≡ config.me }
+        ensures ring { result.ring ≡ ring }
+        ensures empty { (result.outgoing ≡ []) × (result.scheduled ≡ []) × (result.fired ≡ 0) }
+    {
+        let Config { me, powers } = config;
+        let _ = ring.count();
+        let _ = powers.count();
+        NodeCore {
+            alloc,
+            ring,
+            state: State::new(alloc, powers, me),
+            mempool: Mempool::new(alloc),
+            decisions: Decisions::new(alloc),
+            outgoing: Vec::new(alloc),
+            scheduled: Vec::new(alloc),
+            fired: 0,
+        }
+    }
+
+    /// The height that is being decided: from 0 to 2^48.
+    pub fn height(&self) -> u64
+        ensures { result ≡ self.now.machine.state.height }
+    {
+        self.state.height()
+    }
+
+    /// The present round; 0 where none has begun.
+    pub fn round(&self) -> u32
+        ensures { result ≡ self.now.machine.state.round }
+    {
+        self.state.round()
+    }
+
+    /// The decided values, in order of height: their transactions are the delivered list, which keeps every
+    /// client's order.
+    pub fn delivered(&self) -> &[Value]
+        ensures delivered { delivered_by result.now ≡ self.now.machine.state.delivered }
+        ensures order { fifo self.now.machine.state.delivered ≡ true }
+    {
+        self.state.frontier();
+        self.state.decided()
+    }
+
+    /// The decisions, in order of height, each with its certificate.
+    pub fn decisions(&self) -> &[Bundle]
+        ensures { result.now ≡ self.now.decisions }
+    {
+        self.decisions.as_slice()
+    }
+
+    /// What the delivered list leaves behind for each client: its next number, and whether it closed.
+    pub fn frontier(&self) -> &Frontier
+        ensures { IsFrontierOf self.now.machine.state.delivered result.now }
+    {
+        self.state.frontier()
+    }
+
+    /// How often the last call fired a rule that is fired by itself: not a timeout's, and not a bundle's.
+    pub fn fired(&self) -> u64
+        ensures { result ≡ self.now.fired }
+    {
+        self.fired
+    }
+
+    /// Whether no rule is enabled: true after each call that was not refused memory.
+    pub fn is_settled(&self) -> bool
+        ensures { result ≡ is_none (enabled self.now.machine.powers self.now.machine.state) }
+    {
+        enabled(&self.state).is_none()
+    }
+
+    /// Takes the frames that were released since the last call, in order. It takes no memory.
+    pub fn outgoing(&mut self) -> Vec<Vec<u8>>
+        ensures frames { map (λ frame. frame.items) result.items ≡ self.old.outgoing }
+        ensures new { self.new ≡ record self.old { outgoing = [] } }
+    {
+        mem::replace(&mut self.outgoing, Vec::new(self.alloc))
+    }
+
+    /// Takes the timeouts that were scheduled since the last call, in order. It takes no memory.
+    pub fn scheduled(&mut self) -> Vec<Timeout>
+        ensures timeouts { result.items ≡ self.old.scheduled }
+        ensures new { self.new ≡ record self.old { scheduled = [] } }
+    {
+        mem::replace(&mut self.scheduled, Vec::new(self.alloc))
+    }
+}

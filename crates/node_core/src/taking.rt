@@ -1,0 +1,165 @@
+//! What comes is taken in, or refused.
+
+ghost use Rattle.std.specs.Prelude.{◌≡◌, ◌++◌, ◌∷◌, [], true, IfOk, IfSome, OnOk, OnErr, is_some, map, nat_lt};
+ghost use Rattle.transactions.specs.Grammar.{IsTxBody, IsValue, AreTags};
+ghost use Rattle.messages.specs.Grammar.{IsBundle};
+ghost use Rattle.messages.specs.Framing.{IsMessage};
+ghost use Rattle.protocol.specs.Messages.{OfProposal, OfVote, OfAsk};
+ghost use Rattle.protocol.specs.State.{Node, DecideByBundle};
+ghost use Rattle.protocol.specs.Rules.{holds, keeping};
+ghost use Rattle.protocol.specs.Queues.{queued};
+ghost use Rattle.protocol.specs.Arrivals.{kept_message, replies, bundles_of};
+ghost use Rattle.protocol.specs.Refusals.{first_cause, answering, NotQueued, tx_causes, proposal_causes, vote_causes, ask_causes, bundle_causes};
+ghost use Rattle.frame_admission.specs.Gate.{state_causes};
+ghost use Rattle.round_machine.specs.Bundling.{Came};
+ghost use Rattle.node_core.specs.Core.{Stands, setting_of, context_of, frame_by};
+ghost use Rattle.node_core.specs.Calls.{IsAnswer, IsReceived, IsBeside, HasFiredOnce};
+
+use crate::firing::{note, push_one};
+use crate::node::NodeCore;
+use crate::refusal::Refusal;
+use frame_admission::{frame_for, is_genuine};
+use height_catchup::{certified, judge};
+use messages::{Ask, Body, Bundle, Message, Proposal, Vote};
+use round_machine::decide_by_bundle;
+use round_states::Fired;
+use std::alloc::AllocError;
+use transactions::{Duplicate, Seq, Tx};
+
+/// This many heights are decided: the last is one below it.
+const MOST_HEIGHT: u64 = 1 << 48;
+
+impl NodeCore {
+    /// Takes an admitted message in, or tells the first cause against it.
+    pub(crate) fn take(&mut self, message: Message) -> Result<(), Refusal>
+        requires { IsMessage message }
+        ensures answer { (n : Node) → Stands n self.old → IsAnswer (first_cause (state_causes (setting_of self.old) self.old.machine.me n message message.body)) result }
+        ensures ok { OnOk result ((n : Node) → Stands n self.old → IsReceived n message self.old self.new) }
+        ensures fired { self.new.fired ≡ self.old.fired }
+        ensures err { OnErr result (self.new ≡ self.old) }
+    {
+        let Message { body, tags } = message;
+        match body {
+            Body::Tx(tx) => self.take_tx(tx, tags),
+            Body::Proposal(proposal) => self.take_proposal(proposal, tags),
+            Body::Vote(vote) => self.take_vote(vote, tags),
+            Body::Ask(ask) => self.take_ask(ask),
+            Body::Bundle(bundle) => self.take_bundle(bundle),
+        }
+    }
+
+    /// A transaction is queued, with the message's tags.
+    fn take_tx(&mut self, tx: Tx, tags: Seq<[u8; 32]>) -> Result<(), Refusal>
+        requires body { IsTxBody tx }
+        requires tags { AreTags tags }
+        ensures answer { (n : Node) → Stands n self.old → IsAnswer (first_cause (answering NotQueued (tx_causes (setting_of self.old) self.old.machine.me n.state.delivered n.queues (record tx { tags = tags })))) result }
+        ensures ok { OnOk result (self.new ≡ record self.old { queues = queued (record tx { tags = tags }) self.old.queues }) }
+        ensures err { OnErr result (self.new ≡ self.old) }
+    {
+        let tx = Tx { tags, ..tx };
+        Ok(self.mempool.submit(tx, &self.ring, self.state.frontier())?)
+    }
+
+    /// A vote is kept, with its tags.
+    fn take_vote(&mut self, vote: Vote, tags: Seq<[u8; 32]>) -> Result<(), Refusal>
+        requires { AreTags tags }
+        ensures answer { IsAnswer (first_cause (vote_causes self.old.machine.me self.old.machine.state vote)) result }
+        ensures ok { OnOk result (self.new.machine.state ≡ kept_message self.old.machine.state (record { body = OfVote vote; tags = tags }) (OfVote vote)) }
+        ensures beside { IsBeside self.old self.new }
+        ensures err { OnErr result (self.new ≡ self.old) }
+    {
+        let message = Message {
+            body: Body::Vote(vote),
+            tags,
+        };
+        Ok(self.state.take_in(message, true)?)
+    }
+
+    /// A proposal is kept, with the answer whether its transactions' own tags are right.
+    fn take_proposal(&mut self, proposal: Proposal, tags: Seq<[u8; 32]>) -> Result<(), Refusal>
+        requires { IsValue proposal.value }
+        ensures answer { IsAnswer (first_cause (proposal_causes self.old.machine.powers self.old.machine.me self.old.machine.state proposal)) result }
+        ensures ok { OnOk result (self.new.machine.state ≡ keeping self.old.machine.state (OfProposal proposal)) }
+        ensures beside { IsBeside self.old self.new }
+        ensures err { OnErr result (self.new ≡ self.old) }
+    {
+        let genuine = is_genuine(self.alloc, &self.ring, &proposal.value)?;
+        let message = Message {
+            body: Body::Proposal(proposal),
+            tags,
+        };
+        Ok(self.state.take_in(message, genuine)?)
+    }
+
+    /// An ask for a height below the own one is answered by its decision.
+    fn take_ask(&mut self, ask: Ask) -> Result<(), Refusal>
+        ensures answer { IsAnswer (first_cause (ask_causes self.old.machine.state ask)) result }
+        ensures ok { OnOk result ((n : Node) → Stands n self.old → self.new ≡ record self.old { outgoing = self.old.outgoing ++ map (frame_by self.old) (replies n (OfAsk ask)) }) }
+        ensures fired { self.new.fired ≡ self.old.fired }
+        ensures err { OnErr result (self.new ≡ self.old) }
+    {
+        match self.frame_of_decision(ask.height)? {
+            None => Err(Refusal::OtherHeight),
+            Some(frame) => {
+                self.outgoing.reserve(1)?;
+                self.outgoing.push_reserved(frame);
+                Ok(())
+            }
+        }
+    }
+
+    /// The frame of the decision of a height below the own one.
+    fn frame_of_decision(&self, height: u64) -> Result<Option<Vec<u8>>, AllocError>
+        ensures below { IfOk result (λ frame. is_some frame ≡ nat_lt height self.now.machine.state.height) }
+        ensures frame { IfOk result (λ frame. IfSome frame (λ f. (n : Node) → Stands n self.now → map (frame_by self.now) (bundles_of height n.journal) ≡ f.items ∷ [])) }
+    {
+        let _ = self.decisions.len();
+        match self.decisions.bundle_for(height) {
+            None => Ok(None),
+            Some(bundle) => {
+                let body = Body::Bundle(bundle.copy(self.alloc)?);
+                Ok(Some(frame_for(self.alloc, &self.ring, &body)?))
+            }
+        }
+    }
+
+    /// A bundle decides its height.
+    fn take_bundle(&mut self, bundle: Bundle) -> Result<(), Refusal>
+        requires { IsBundle bundle }
+        ensures answer { IsAnswer (first_cause (bundle_causes (setting_of self.old) self.old.machine.me self.old.machine.state bundle)) result }
+        ensures ok { OnOk result ((n : Node) → Stands n self.old → HasFiredOnce n (DecideByBundle bundle) self.old self.new) }
+        ensures fired { self.new.fired ≡ self.old.fired }
+        ensures err { OnErr result (self.new ≡ self.old) }
+    {
+        if bundle.height != self.state.height() || bundle.height >= MOST_HEIGHT {
+            return Err(Refusal::OtherHeight);
+        }
+        judge(
+            self.alloc,
+            &bundle,
+            self.state.powers(),
+            &self.ring,
+            self.state.frontier(),
+        )?;
+        Ok(self.decide(bundle)?)
+    }
+
+    /// Line 49, by precommits that another validator collected.
+    fn decide(&mut self, bundle: Bundle) -> Result<(), AllocError>
+        ghost came: { Came }
+        requires came { came ≡ record { context = context_of self.old; bundle = bundle } }
+        requires holds { holds (context_of self.old) self.old.machine.state (DecideByBundle bundle) ≡ true }
+        requires spelled { IsBundle bundle }
+        ensures ok { OnOk result ((n : Node) → Stands n self.old → HasFiredOnce n (DecideByBundle bundle) self.old self.new) }
+        ensures fired { self.new.fired ≡ self.old.fired }
+        ensures err { OnErr result (self.new ≡ self.old) }
+    {
+        let certificate = certified(self.alloc, bundle, &self.ring)?;
+        self.scheduled.reserve(1)?;
+        self.decisions.reserve(1)?;
+        let Fired { unsaved, timeout } = decide_by_bundle(&mut self.state, certificate)?;
+        push_one(&mut self.scheduled, timeout);
+        note(unsaved, &self.state, &mut self.decisions, &mut self.mempool);
+        Ok(())
+    }
+}
