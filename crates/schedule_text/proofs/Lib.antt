@@ -1,5 +1,7 @@
 pub mod Digits
 pub mod Letters
-pub mod Firings
-pub mod Empty
-pub mod Kept
+pub mod Sets
+pub mod Tags
+pub mod KeyFiles
+pub mod KeyLines
+pub mod Rings

@@ -1,13 +1,15 @@
 //! Names, bytes and items as words.
 
-ghost use Rattle.std.specs.Prelude.{◌≡◌, IfSome, is_some};
+ghost use Rattle.std.specs.Prelude.{◌≡◌, ◌≤◌, IfSome, is_some};
 ghost use Rattle.std.specs.List.{list_all};
 ghost use Rattle.std.specs.Char.{is_ascii_uppercase};
 ghost use Rattle.schedule_text.specs.Names.{is_name};
+ghost use Rattle.schedule_text.specs.Sets.{is_right_for};
 
 use crate::fault::LineFault;
-use crate::numbers::number_in;
-use std::alloc::{AllocError, Global};
+use crate::numbers::{counts_in, number_in};
+use crate::world::ValidatorSet;
+use std::alloc::Global;
 use transactions::{Item, Op, Seq};
 
 /// The greatest number of bytes in an item.
@@ -15,6 +17,33 @@ const MOST_BYTES: usize = 1024;
 
 /// The greatest number of letters in a name.
 const MOST_LETTERS: usize = 8;
+
+/// Which tags of a transaction are right; the others are zeros.
+#[derive(Clone, Copy, Debug)]
+pub(crate) enum RightTags {
+    All,
+    /// Those for these validators.
+    For(ValidatorSet),
+}
+
+impl RightTags {
+    /// Whether the tag for this validator is right.
+    pub(crate) fn includes(&self, validator: u16) -> bool
+        ensures { result ≡ is_right_for self.now validator }
+    {
+        match self {
+            RightTags::All => true,
+            RightTags::For(validators) => validators.contains(u64::from(validator)),
+        }
+    }
+}
+
+/// A transaction as a line has it.
+#[derive(Debug, Drop)]
+pub(crate) struct Tagged {
+    pub(crate) item: Item,
+    pub(crate) right: RightTags,
+}
 
 /// The name that the word is: one to eight letters A to Z.
 #[tactic(auto, using(crate::proofs::Letters::letters_are_text))]
@@ -34,8 +63,29 @@ fn all_letters(word: &[u8]) -> bool
     word.iter().all(|byte| byte.is_ascii_uppercase())
 }
 
+/// The transaction that the word is: an item, which may have `/LIST` behind it, the validators for
+/// whom its tags are right.
+pub(crate) fn tagged_in(alloc: Global, word: &[u8], validators: u16) -> Result<Tagged, LineFault>
+    requires { validators ≤ 64 }
+{
+    let Some(end) = word.iter().position(|byte| *byte == b'/') else {
+        let item = item_in(alloc, word)?;
+        return Ok(Tagged {
+            item,
+            right: RightTags::All,
+        });
+    };
+    let item = item_in(alloc, &word[..end])?;
+    let numbers = counts_in(alloc, &word[end + 1..])?;
+    let members = ValidatorSet::new(validators, &numbers).ok_or(LineFault::BadLine)?;
+    Ok(Tagged {
+        item,
+        right: RightTags::For(members),
+    })
+}
+
 /// The item that the word is.
-pub(crate) fn item_in(alloc: Global, word: &[u8]) -> Result<Item, LineFault> {
+fn item_in(alloc: Global, word: &[u8]) -> Result<Item, LineFault> {
     let parts: Vec<&[u8]> = word.split(|byte| *byte == b':').collect(alloc)?;
     let [client, number, op] = parts.as_slice() else {
         return Err(LineFault::BadLine);
@@ -51,14 +101,17 @@ pub(crate) fn item_in(alloc: Global, word: &[u8]) -> Result<Item, LineFault> {
 fn op_in(alloc: Global, word: &[u8]) -> Result<Op, LineFault> {
     match word {
         b"close" => Ok(Op::Close),
-        b"-" => Ok(Op::Bytes(Seq::new(alloc))),
+        _ if word.len() > 2 * MOST_BYTES => Err(LineFault::BadLine),
         _ => Ok(Op::Bytes(Seq::from_vec(bytes_in(alloc, word)?))),
     }
 }
 
-/// The bytes that the digits are, one at least.
-fn bytes_in(alloc: Global, word: &[u8]) -> Result<Vec<u8>, LineFault> {
-    if word.is_empty() || word.len() > 2 * MOST_BYTES || !word.iter().all(|byte| is_digit(*byte)) {
+/// The bytes that the word is: two digits for each, or `-` for none.
+pub(crate) fn bytes_in(alloc: Global, word: &[u8]) -> Result<Vec<u8>, LineFault> {
+    if word == b"-".as_slice() {
+        return Ok(Vec::new(alloc));
+    }
+    if word.is_empty() || !word.iter().all(|byte| is_digit(*byte)) {
         return Err(LineFault::BadLine);
     }
     match hex::decode(alloc, word) {

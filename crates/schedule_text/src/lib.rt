@@ -4,14 +4,16 @@
 //! A schedule is a text of lines, each ended by a line feed; the last may lack it. An empty line
 //! and one that begins with `#` are skipped. Any other line is words with single spaces between
 //! them. Numbers are decimal without leading zeros, and bytes are lower case hexadecimal, `-` for
-//! none. Setup lines come first, in this order:
+//! none. A LIST is validators' numbers with commas between them. Setup lines come first, in this
+//! order:
 //!
 //! - `powers P P ..`, once: the power of each validator, from number 0 on.
 //! - `clients N`, once: clients 0 to N - 1, N from 1 to 1,024.
 //! - `liars V V ..`, at most once: the validators that lie; all others are correct.
 //! - `value NAME ITEM ..`, any number: a value by name, one to eight letters A to Z, each name
-//!   once. An item is `CLIENT:NUMBER:BYTES` or `CLIENT:NUMBER:close`; with no item it is the empty
-//!   value.
+//!   once. An item is `CLIENT:NUMBER:BYTES` or `CLIENT:NUMBER:close`, and its tags are right for
+//!   every validator; with `/LIST` behind it, for the listed ones alone, and the others are zeros.
+//!   With no item it is the empty value.
 //!
 //! Then the world begins, and the executed lines follow:
 //!
@@ -19,21 +21,33 @@
 //!   validator P. VR, the valid round, is -1 for none.
 //! - `vote S P KIND H R CONTENT`: liar S's vote comes to P. KIND is `prevote` or `precommit`, and
 //!   CONTENT a name or `nil`.
+//! - `bundle S P H R NAME IDNAME LIST`: liar S's bundle comes to P: the value NAME under the id of
+//!   IDNAME, with a precommit by each liar of the list, as often as it stands there.
+//! - `tx P ITEM`: this transaction comes to P.
+//! - `raw P BYTES`: one frame comes to P, these bytes, of any number.
+//! - `timeout P KIND H R`: P's timeout is due. KIND is `propose`, `prevote` or `precommit`.
+//! - `ask P`: P asks for the decision of its height.
+//!
+//! What comes, comes as a frame, with right tags but where an item says otherwise. The key of what
+//! FROM sends to TO is the SHA-256 digest of the text `tmsim FROM TO`, as `tmsim c7 v2`.
 //!
 //! One correct validator is wanted so far: while there isn't exactly one, no line after the first
 //! three is taken.
 #![tactic(auto)]
 
-mod driving;
+mod event;
 mod fault;
 mod items;
+mod keys;
 mod lines;
 mod numbers;
 mod program;
 mod report;
 mod running;
 mod schedule;
+mod senders;
 mod values;
+mod world;
 
 pub use fault::{EventFault, Failure};
 pub use program::{HELP, simulate};

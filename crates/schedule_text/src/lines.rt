@@ -1,142 +1,203 @@
-//! The forms of lines, each by itself.
+//! The forms of lines, each by the words behind its first one.
+//!
+//! A validator's number in an executed line is read at any length: one that is too large is no
+//! validator's.
 
+ghost use Rattle.std.specs.Prelude.{◌≤◌};
+
+use crate::event::{Bundling, Event, Input, Proposing, Voting};
 use crate::fault::LineFault;
-use crate::items::{item_in, name_in};
-use crate::numbers::{count_in, number_in, number_in_u32};
+use crate::items::{Tagged, bytes_in, name_in, tagged_in};
+use crate::numbers::{count_in, counts_in, number_in, number_in_u32};
+use crate::values::Values;
+use crate::world::Clients;
 use messages::Step;
+use protocol::Timeout;
 use std::alloc::Global;
-use transactions::Item;
-
-/// A line of one of the forms. Names are as they stand, and a validator's number in an executed line
-/// is read at any length.
-#[derive(Drop)]
-pub(crate) enum Line<'a> {
-    Powers(Vec<u32>),
-    Clients(u16),
-    Liars(Vec<u64>),
-    Value(&'a str, Vec<Item>),
-    Propose(ProposeForm<'a>),
-    Vote(VoteForm<'a>),
-}
-
-/// `propose S P H R VR NAME`
-#[derive(Clone, Copy)]
-pub(crate) struct ProposeForm<'a> {
-    pub(crate) sender: u64,
-    pub(crate) receiver: u64,
-    pub(crate) height: u64,
-    pub(crate) round: u32,
-    pub(crate) valid_round: Option<u32>,
-    pub(crate) name: &'a str,
-}
-
-/// `vote S P KIND H R CONTENT`
-#[derive(Clone, Copy)]
-pub(crate) struct VoteForm<'a> {
-    pub(crate) sender: u64,
-    pub(crate) receiver: u64,
-    pub(crate) step: Step,
-    pub(crate) height: u64,
-    pub(crate) round: u32,
-    /// None for nil.
-    pub(crate) name: Option<&'a str>,
-}
 
 /// The greatest number of clients.
-const MOST_CLIENTS: u64 = 1024;
+const MOST_CLIENTS: u16 = 1024;
 
 /// Whether the line says nothing: it is empty, or begins with `#`.
 pub(crate) fn is_skipped(line: &[u8]) -> bool {
     matches!(line, [] | [b'#', ..])
 }
 
-/// What the line says.
-pub(crate) fn line_in(alloc: Global, line: &[u8]) -> Result<Line<'_>, LineFault> {
-    let words: Vec<&[u8]> = line.split(|byte| *byte == b' ').collect(alloc)?;
-    let [first, rest @ ..] = words.as_slice() else {
-        return Err(LineFault::BadLine);
-    };
-    match *first {
-        b"powers" => powers_line(alloc, rest),
-        b"clients" => clients_line(rest).ok_or(LineFault::BadLine),
-        b"liars" => liars_line(alloc, rest),
-        b"value" => value_line(alloc, rest),
-        b"propose" => propose_line(rest).ok_or(LineFault::BadLine),
-        b"vote" => vote_line(rest).ok_or(LineFault::BadLine),
-        _ => Err(LineFault::BadLine),
-    }
-}
-
-fn powers_line<'a>(alloc: Global, words: &[&[u8]]) -> Result<Line<'a>, LineFault> {
+/// `P P ..`
+pub(crate) fn powers_in(alloc: Global, words: &[&[u8]]) -> Result<Vec<u32>, LineFault> {
     let mut powers = Vec::with_capacity(alloc, words.len())?;
     for word in words {
         let power = number_in_u32(word).ok_or(LineFault::BadLine)?;
         powers.push(power)?;
     }
-    Ok(Line::Powers(powers))
+    Ok(powers)
 }
 
-fn clients_line<'a>(words: &[&[u8]]) -> Option<Line<'a>> {
+/// `N`
+pub(crate) fn clients_in(words: &[&[u8]]) -> Option<Clients> {
     let [count] = words else {
         return None;
     };
-    let count = number_in(count)?;
+    let count = u16::try_from(number_in(count)?).ok()?;
     if count == 0 || count > MOST_CLIENTS {
         return None;
     }
-    Some(Line::Clients(count as u16))
+    Some(Clients { count })
 }
 
-fn liars_line<'a>(alloc: Global, words: &[&[u8]]) -> Result<Line<'a>, LineFault> {
+/// `V V ..`
+pub(crate) fn liars_in(alloc: Global, words: &[&[u8]]) -> Result<Vec<u64>, LineFault> {
     if words.is_empty() {
         return Err(LineFault::BadLine);
     }
     let mut liars = Vec::with_capacity(alloc, words.len())?;
     for word in words {
-        let liar = number_in(word).ok_or(LineFault::BadLine)?;
+        let liar = count_in(word).ok_or(LineFault::BadLine)?;
         liars.push(liar)?;
     }
-    Ok(Line::Liars(liars))
+    Ok(liars)
 }
 
-fn value_line<'a>(alloc: Global, words: &[&'a [u8]]) -> Result<Line<'a>, LineFault> {
-    let [name, rest @ ..] = words else {
-        return Err(LineFault::BadLine);
-    };
-    let name = name_in(name).ok_or(LineFault::BadLine)?;
-    let mut items = Vec::with_capacity(alloc, rest.len())?;
-    for word in rest {
-        items.push(item_in(alloc, word)?)?;
+/// `ITEM ..`
+pub(crate) fn items_in(
+    alloc: Global,
+    words: &[&[u8]],
+    validators: u16,
+) -> Result<Vec<Tagged>, LineFault>
+    requires { validators ≤ 64 }
+{
+    let mut items = Vec::with_capacity(alloc, words.len())?;
+    for word in words {
+        items.push(tagged_in(alloc, word, validators)?)?;
     }
-    Ok(Line::Value(name, items))
+    Ok(items)
 }
 
-fn propose_line<'a>(words: &[&'a [u8]]) -> Option<Line<'a>> {
+/// An executed line, whose names are those of these values.
+pub(crate) fn event_in(
+    alloc: Global,
+    kind: &[u8],
+    words: &[&[u8]],
+    values: &Values,
+    validators: u16,
+) -> Result<Event, LineFault>
+    requires { validators ≤ 64 }
+{
+    match kind {
+        b"propose" => propose_line(words, values).ok_or(LineFault::BadLine),
+        b"vote" => vote_line(words, values).ok_or(LineFault::BadLine),
+        b"bundle" => bundle_line(alloc, words, values),
+        b"tx" => tx_line(alloc, words, validators),
+        b"raw" => raw_line(alloc, words),
+        b"timeout" => timeout_line(words).ok_or(LineFault::BadLine),
+        b"ask" => ask_line(words).ok_or(LineFault::BadLine),
+        _ => Err(LineFault::BadLine),
+    }
+}
+
+/// `propose S P H R VR NAME`
+fn propose_line(words: &[&[u8]], values: &Values) -> Option<Event> {
     let [sender, receiver, height, round, valid_round, name] = words else {
         return None;
     };
-    Some(Line::Propose(ProposeForm {
-        sender: count_in(sender)?,
+    Some(Event {
         receiver: count_in(receiver)?,
-        height: number_in(height)?,
-        round: number_in_u32(round)?,
-        valid_round: valid_round_in(valid_round)?,
-        name: name_in(name)?,
-    }))
+        input: Input::Propose(Proposing {
+            sender: count_in(sender)?,
+            height: number_in(height)?,
+            round: number_in_u32(round)?,
+            valid_round: valid_round_in(valid_round)?,
+            value: place_in(name, values)?,
+        }),
+    })
 }
 
-fn vote_line<'a>(words: &[&'a [u8]]) -> Option<Line<'a>> {
+/// `vote S P KIND H R CONTENT`
+fn vote_line(words: &[&[u8]], values: &Values) -> Option<Event> {
     let [sender, receiver, kind, height, round, content] = words else {
         return None;
     };
-    Some(Line::Vote(VoteForm {
-        sender: count_in(sender)?,
+    Some(Event {
         receiver: count_in(receiver)?,
-        step: step_in(kind)?,
-        height: number_in(height)?,
-        round: number_in_u32(round)?,
-        name: content_in(content)?,
-    }))
+        input: Input::Vote(Voting {
+            sender: count_in(sender)?,
+            step: vote_step_in(kind)?,
+            height: number_in(height)?,
+            round: number_in_u32(round)?,
+            value: content_in(content, values)?,
+        }),
+    })
+}
+
+/// `bundle S P H R NAME IDNAME LIST`
+fn bundle_line(alloc: Global, words: &[&[u8]], values: &Values) -> Result<Event, LineFault> {
+    let [sender, receiver, height, round, name, named, signers] = words else {
+        return Err(LineFault::BadLine);
+    };
+    let signers = counts_in(alloc, signers)?;
+    Ok(Event {
+        receiver: count_in(receiver).ok_or(LineFault::BadLine)?,
+        input: Input::Bundle(Bundling {
+            sender: count_in(sender).ok_or(LineFault::BadLine)?,
+            height: number_in(height).ok_or(LineFault::BadLine)?,
+            round: number_in_u32(round).ok_or(LineFault::BadLine)?,
+            value: place_in(name, values).ok_or(LineFault::BadLine)?,
+            named: place_in(named, values).ok_or(LineFault::BadLine)?,
+            signers,
+        }),
+    })
+}
+
+/// `tx P ITEM`
+fn tx_line(alloc: Global, words: &[&[u8]], validators: u16) -> Result<Event, LineFault>
+    requires { validators ≤ 64 }
+{
+    let [receiver, item] = words else {
+        return Err(LineFault::BadLine);
+    };
+    let receiver = count_in(receiver).ok_or(LineFault::BadLine)?;
+    Ok(Event {
+        receiver,
+        input: Input::Submit(tagged_in(alloc, item, validators)?),
+    })
+}
+
+/// `raw P BYTES`
+fn raw_line(alloc: Global, words: &[&[u8]]) -> Result<Event, LineFault> {
+    let [receiver, bytes] = words else {
+        return Err(LineFault::BadLine);
+    };
+    let receiver = count_in(receiver).ok_or(LineFault::BadLine)?;
+    Ok(Event {
+        receiver,
+        input: Input::Frame(bytes_in(alloc, bytes)?),
+    })
+}
+
+/// `timeout P KIND H R`
+fn timeout_line(words: &[&[u8]]) -> Option<Event> {
+    let [receiver, kind, height, round] = words else {
+        return None;
+    };
+    Some(Event {
+        receiver: count_in(receiver)?,
+        input: Input::Timeout(Timeout {
+            kind: timeout_step_in(kind)?,
+            height: number_in(height)?,
+            round: number_in_u32(round)?,
+        }),
+    })
+}
+
+/// `ask P`
+fn ask_line(words: &[&[u8]]) -> Option<Event> {
+    let [receiver] = words else {
+        return None;
+    };
+    Some(Event {
+        receiver: count_in(receiver)?,
+        input: Input::Ask,
+    })
 }
 
 /// -1 for none, or a round.
@@ -147,7 +208,7 @@ fn valid_round_in(word: &[u8]) -> Option<Option<u32>> {
     }
 }
 
-fn step_in(word: &[u8]) -> Option<Step> {
+fn vote_step_in(word: &[u8]) -> Option<Step> {
     match word {
         b"prevote" => Some(Step::Prevote),
         b"precommit" => Some(Step::Precommit),
@@ -155,10 +216,24 @@ fn step_in(word: &[u8]) -> Option<Step> {
     }
 }
 
-/// `nil`, or a name.
-fn content_in(word: &[u8]) -> Option<Option<&str>> {
+fn timeout_step_in(word: &[u8]) -> Option<protocol::Step> {
+    match word {
+        b"propose" => Some(protocol::Step::Propose),
+        b"prevote" => Some(protocol::Step::Prevote),
+        b"precommit" => Some(protocol::Step::Precommit),
+        _ => None,
+    }
+}
+
+/// `nil`, or the name of a value.
+fn content_in(word: &[u8], values: &Values) -> Option<Option<usize>> {
     match word {
         b"nil" => Some(None),
-        _ => Some(Some(name_in(word)?)),
+        _ => Some(Some(place_in(word, values)?)),
     }
+}
+
+/// The place of the value with this name.
+fn place_in(word: &[u8], values: &Values) -> Option<usize> {
+    values.place_of(name_in(word)?)
 }

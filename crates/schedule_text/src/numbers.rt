@@ -5,6 +5,9 @@ ghost use Rattle.std.specs.List.{list_all};
 ghost use Rattle.std.specs.Char.{is_ascii_digit};
 ghost use Rattle.schedule_text.specs.Numbers.{is_number, number, below, number_below, number_up_to};
 
+use crate::fault::LineFault;
+use std::alloc::Global;
+
 fn all_digits(word: &[u8]) -> bool
     ensures { result ≡ list_all is_ascii_digit word.now }
 {
@@ -61,4 +64,14 @@ pub(crate) fn number_in_u32(word: &[u8]) -> Option<u32>
 {
     let number = number_in(word)?;
     u32::try_from(number).ok()
+}
+
+/// The numbers of a list, with commas between them; one above the greatest `u64` is that.
+pub(crate) fn counts_in(alloc: Global, word: &[u8]) -> Result<Vec<u64>, LineFault> {
+    let mut numbers = Vec::new(alloc);
+    for part in word.split(|byte| *byte == b',') {
+        let number = count_in(part).ok_or(LineFault::BadLine)?;
+        numbers.push(number)?;
+    }
+    Ok(numbers)
 }

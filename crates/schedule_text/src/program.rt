@@ -3,7 +3,7 @@
 ghost use Rattle.std.specs.Prelude.{◌≡◌, ◌≢◌, ◌≤◌, ◌⊎◌, IfErr};
 ghost use Rattle.schedule_text.specs.Failures.{status_of};
 
-use crate::fault::Failure;
+use crate::fault::{EventFault, Failure};
 use crate::report::{ReportLine, Told, write_end};
 use crate::running::Run;
 use crate::schedule::Schedule;
@@ -83,20 +83,40 @@ fn read_text<'a, R: BufRead>(
     }
 }
 
-/// Runs a schedule, and writes its report line by line.
+/// Runs a schedule, and writes its report.
 fn run<'a, W: Write>(alloc: Global, schedule: &Schedule, out: &mut W) -> Result<(), Failure<'a>>
     ensures { IfErr result (λ failure. status_of failure ≢ 2) }
 {
-    let mut run = Run::new(alloc, schedule).map_err(|_| Failure::OutOfMemory)?;
-    let told = run.begin().map_err(|fault| Failure::Event(0, fault))?;
+    match Run::new(alloc, schedule) {
+        Ok(mut run) => tell(&mut run, schedule, out),
+        Err(_) => Err(Failure::OutOfMemory),
+    }
+}
+
+/// Tells of the beginning and of each event, line by line, and where the validator stands at the end.
+fn tell<'a, W: Write>(run: &mut Run, schedule: &Schedule, out: &mut W) -> Result<(), Failure<'a>>
+    ensures { IfErr result (λ failure. status_of failure ≢ 2) }
+{
+    let told = at_event(0, run.begin())?;
     write_all(&told, &schedule.values, out)?;
     for (before, event) in schedule.events.iter().enumerate() {
-        let told = run
-            .happen(event)
-            .map_err(|fault| Failure::Event(before + 1, fault))?;
+        let told = at_event(before + 1, run.happen(event))?;
         write_all(&told, &schedule.values, out)?;
     }
-    write_end(run.state(), out).map_err(|_| Failure::CannotWrite)
+    match write_end(run.me(), run.node(), out) {
+        Ok(()) => Ok(()),
+        Err(_) => Err(Failure::CannotWrite),
+    }
+}
+
+/// A fault becomes the failure of the event with this number.
+fn at_event<'a, T>(number: usize, outcome: Result<T, EventFault>) -> Result<T, Failure<'a>>
+    ensures { IfErr result (λ failure. status_of failure ≡ 3) }
+{
+    match outcome {
+        Ok(done) => Ok(done),
+        Err(fault) => Err(Failure::Event(number, fault)),
+    }
 }
 
 fn write_all<'a, W: Write>(told: &[Told], values: &Values, out: &mut W) -> Result<(), Failure<'a>>

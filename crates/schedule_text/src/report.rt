@@ -1,8 +1,8 @@
 //! The lines of a report.
 
 use crate::values::Values;
-use messages::{Step, Vote};
-use round_states::{Refusal, State};
+use messages::{Ask, Step, Vote};
+use node_core::{NodeCore, Refusal};
 use std::{fmt, io};
 use transactions::{Id, Op, Tx};
 
@@ -33,6 +33,13 @@ pub(crate) enum Release {
         id: Id,
     },
     Vote(Vote),
+    Ask(Ask),
+    Bundle {
+        sender: u16,
+        height: u64,
+        round: u32,
+        id: Id,
+    },
 }
 
 /// A line of a report, without its line feed.
@@ -46,8 +53,12 @@ impl fmt::Display for ReportLine<'_> {
     fn fmt<W: fmt::Write>(&self, f: &mut fmt::Formatter<W>) -> fmt::Result {
         match self.told {
             Told::Refused(validator, refusal) => {
-                let number = *refusal as u8;
-                write!(f, "v{validator} refuses {number}")
+                let number = refusal.number();
+                write!(f, "v{validator} refuses {number}")?;
+                match refusal.inner() {
+                    0 => Ok(()),
+                    inner => write!(f, " {inner}"),
+                }
             }
             Told::Decided {
                 validator,
@@ -95,6 +106,20 @@ impl ReportLine<'_> {
                 )
             }
             Release::Vote(vote) => self.write_vote(vote, f),
+            Release::Ask(ask) => {
+                let sender = ask.sender;
+                let height = ask.height;
+                write!(f, "v{sender} ask {height}")
+            }
+            Release::Bundle {
+                sender,
+                height,
+                round,
+                id,
+            } => {
+                let name = self.name(id);
+                write!(f, "v{sender} bundle {height} {round} {name}")
+            }
         }
     }
 
@@ -173,12 +198,11 @@ fn write_digits<W: fmt::Write>(bytes: &[u8], f: &mut fmt::Formatter<W>) -> fmt::
 }
 
 /// Writes the end line of a validator: where it stands, and what was delivered.
-pub(crate) fn write_end<W: io::Write>(state: &State, out: &mut W) -> io::Result<()> {
-    let me = state.me();
-    let height = state.height();
-    let round = state.round();
+pub(crate) fn write_end<W: io::Write>(me: u16, node: &NodeCore, out: &mut W) -> io::Result<()> {
+    let height = node.height();
+    let round = node.round();
     write!(out, "v{me} at {height} {round}:")?;
-    for value in state.decided() {
+    for value in node.delivered() {
         write_items(value.txs.as_slice(), out)?;
     }
     writeln!(out)

@@ -5,6 +5,7 @@ mod faults;
 mod refusals;
 mod running;
 mod streams;
+mod worked;
 
 use crate::simulate;
 use std::alloc::{AllocError, Global};

@@ -1,28 +1,47 @@
 //! The values of a schedule, by name and by id.
 
-use crate::driving::zero_tags;
-use indexmap::IndexMap;
-use std::alloc::{AllocError, AllocFailed, Global};
-use transactions::{Fault, Id, Item, Shared, Tx, Value, value_id};
+ghost use Rattle.std.specs.Prelude.{◌≡◌, ◌++◌, ◌∷◌, [], ◌≤◌, IfOk, IfSome, OnOk, map, length};
+ghost use Rattle.std.specs.Option.{option_copied};
+ghost use Rattle.authenticators.specs.declared.party.Party.TheVariants.{Client};
+ghost use Rattle.transactions.specs.Grammar.{tx_body_spelling, IsTxBody, IsValue};
+ghost use Rattle.schedule_text.specs.Keys.{tags_for};
+ghost use Rattle.schedule_text.specs.Lines.{value_at, tx_by};
 
-/// A value that a name was given to.
-#[derive(Drop)]
-pub(crate) struct Defined {
-    pub(crate) value: Value,
-    /// None where it has no spelling.
-    pub(crate) id: Option<Id>,
-}
+use crate::items::Tagged;
+use crate::keys::tags_of;
+use authenticators::Party;
+use indexmap::IndexMap;
+use std::alloc::{AllocError, Global};
+use std::marker::Model;
+use transactions::{
+    Duplicate, Fault, Id, Named, Seq, Shared, Tx, Value, len_of_tx_body, put_tx_body, value_id,
+};
+
+/// The greatest number of transactions in a value.
+const MOST_TXS: usize = 256;
 
 /// The values of a schedule, in order of their lines.
 #[derive(Drop)]
 pub(crate) struct Values {
-    by_name: IndexMap<String, Defined>,
+    /// None where the value has no spelling.
+    by_name: IndexMap<String, Option<Named>>,
     /// The place of the first value with an id.
     first_with: IndexMap<Id, usize>,
 }
 
+impl Model for Values {
+    ghost use Rattle.std.specs.Prelude.{List, Option, map};
+    ghost use Rattle.transactions.specs.declared.tx.Value.{Value as AnyValue};
+
+    ghost Value = { List (Option AnyValue) };
+
+    ghost view = { λ a. map (λ e. e.1) a.by_name.entries };
+}
+
 impl Values {
-    pub(crate) fn new(alloc: Global) -> Values {
+    pub(crate) fn new(alloc: Global) -> Values
+        ensures { result ≡ [] }
+    {
         Values {
             by_name: IndexMap::new(alloc),
             first_with: IndexMap::new(alloc),
@@ -34,10 +53,12 @@ impl Values {
         self.by_name.get_index_of(name)
     }
 
-    /// The value at a place.
-    pub(crate) fn at(&self, place: usize) -> Option<&Defined> {
-        let (_, defined) = self.by_name.get_index(place)?;
-        Some(defined)
+    /// The value at a place; none where it has no spelling.
+    pub(crate) fn at(&self, place: usize) -> Option<&Named>
+        ensures { option_copied result ≡ value_at self.now place }
+    {
+        let (_, value) = self.by_name.get_index(place)?;
+        value.as_ref()
     }
 
     /// The first name, in order of the lines, of a value with this id.
@@ -52,48 +73,77 @@ impl Values {
         &mut self,
         alloc: Global,
         name: &str,
-        value: Value,
+        value: Option<Named>,
     ) -> Result<(), AllocError> {
-        let id = id_of(alloc, &value)?;
         let place = self.by_name.len();
-        if let Some(id) = id
-            && !self.first_with.contains_key(&id)
-        {
-            self.first_with.insert(id, place)?;
+        if let Some(named) = &value {
+            let id = named.id();
+            if !self.first_with.contains_key(&id) {
+                self.first_with.insert(id, place)?;
+            }
         }
         let name = String::from_str(alloc, name)?;
-        self.by_name.insert(name, Defined { value, id })?;
+        self.by_name.insert(name, value)?;
         Ok(())
     }
 }
 
-/// The id of a value, or none where it has no spelling.
-fn id_of(alloc: Global, value: &Value) -> Result<Option<Id>, AllocError> {
-    match value_id(alloc, value) {
-        Ok(id) => Ok(Some(id)),
+/// The value of these transactions; none where it has no spelling.
+pub(crate) fn value_of(
+    alloc: Global,
+    items: &[Tagged],
+    validators: u16,
+) -> Result<Option<Named>, AllocError>
+    ensures { IfOk result (λ value. IfSome value (λ v. v.txs ≡ map (tx_by validators) items.now)) }
+{
+    if items.len() > MOST_TXS {
+        return Ok(None);
+    }
+    let mut txs = Vec::with_capacity(alloc, items.len())?;
+    for item in items {
+        match tx_of(alloc, item, validators)? {
+            Some(tx) => txs.push(tx)?,
+            None => return Ok(None),
+        }
+    }
+    let txs = Shared::from_vec(alloc, txs)?;
+    named(alloc, Value { txs })
+}
+
+/// The value with its id; none where it has no spelling.
+fn named(alloc: Global, value: Value) -> Result<Option<Named>, AllocError>
+    ensures { IfOk result (λ named. IfSome named (λ v. v ≡ value)) }
+{
+    match value_id(alloc, &value) {
+        Ok(id) => Ok(Some(Named::new(value, id))),
         Err(Fault::OutOfMemory) => Err(AllocError),
         Err(_) => Ok(None),
     }
 }
 
-/// The value of these items, each with a tag for each validator.
-pub(crate) fn value_of(
+/// The transaction with its tags; none where it has no spelling.
+pub(crate) fn tx_of(
     alloc: Global,
-    items: Vec<Item>,
+    tagged: &Tagged,
     validators: u16,
-) -> Result<Value, AllocError> {
-    let mut txs = Vec::with_capacity(alloc, items.len())?;
-    for item in items {
-        let Item { client, number, op } = item;
-        let tags = zero_tags(alloc, validators)?;
-        txs.push(Tx {
-            client,
-            number,
-            op,
-            tags,
-        })?;
-    }
-    Ok(Value {
-        txs: Shared::from_vec(alloc, txs)?,
-    })
+) -> Result<Option<Tx>, AllocError>
+    ensures { IfOk result (λ tx. IfSome tx (λ t. t ≡ tx_by validators tagged.now)) }
+{
+    let bare = Tx {
+        client: tagged.item.client,
+        number: tagged.item.number,
+        op: tagged.item.op.copy(alloc)?,
+        tags: Seq::new(alloc),
+    };
+    let Ok(len) = len_of_tx_body(&bare) else {
+        return Ok(None);
+    };
+    let mut body = Vec::with_capacity(alloc, len)?;
+    put_tx_body(&mut body, &bare)?;
+    let client = Party::Client(bare.client);
+    let tags = tags_of(alloc, client, validators, &tagged.right, &body)?;
+    Ok(Some(Tx {
+        tags: Seq::from_vec(tags),
+        ..bare
+    }))
 }

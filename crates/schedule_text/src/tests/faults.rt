@@ -48,6 +48,17 @@ fn each_fault(rt: HostRuntime) -> Result<(), Fail> {
         ("vote 0 3 precommit 9 9 F", 4),
         ("vote 0 3 precommit 9 9 G", 4),
         ("vote 4 3 precommit 9 9 G", 2),
+        ("bundle 0 4 0 0 A A 0", 2),
+        ("bundle 4 3 0 0 A A 0", 2),
+        ("bundle 0 3 0 0 B A 0,4", 2),
+        ("bundle 0 3 0 0 B A 0", 4),
+        ("bundle 0 3 0 0 A B 0", 4),
+        ("tx 4 1024:1:61", 2),
+        ("tx 3 1024:1:61", 4),
+        ("tx 3 7:0:61/0", 4),
+        ("raw 4 -", 2),
+        ("timeout 4 propose 0 0", 2),
+        ("ask 18446744073709551616", 2),
     ] {
         let wanted = format!(in alloc; "3\n0 v3 prevote 0 0 A\ntmsim: event 2: fault {number}\n")?;
         assert_eq!(rt; failure(alloc, line)?.as_str(), wanted.as_str(), "{line}");

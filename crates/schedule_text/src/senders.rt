@@ -1,0 +1,288 @@
+//! What liars and clients send, and the calls of a node that a schedule asks for.
+
+ghost use Rattle.std.specs.Prelude.{◌≡◌, ◌≢◌, ◌≤◌, ◌∷◌, true, false, Some, map, length, IfOk, OnOk, IfErr, IsErrOf, option_map};
+ghost use Rattle.std.specs.List.{list_all};
+ghost use Rattle.messages.specs.Grammar.{body_spelling};
+ghost use Rattle.protocol.specs.Values.{id};
+ghost use Rattle.protocol.specs.Tags.{Validator};
+ghost use Rattle.protocol.specs.Messages.{sender_of, tagged};
+ghost use Rattle.schedule_text.specs.Lines.{value_at};
+ghost use Rattle.schedule_text.specs.Events.{setting_of, IsContent, Brings, IsMessageCall, Makes, is_known, are_known, precommit_by};
+
+use crate::event::{Bundling, Event, Input, Proposing, Voting};
+use crate::fault::EventFault;
+use crate::items::{RightTags, Tagged};
+use crate::keys::tags_of;
+use crate::schedule::Schedule;
+use crate::values::tx_of;
+use authenticators::Party;
+use messages::{Body, Bundle, Message, Precommit, Proposal, Step, Vote, spell, spell_body};
+use protocol::Timeout;
+use std::alloc::Global;
+use transactions::{Duplicate, Fault, Id, Named, Seq, Tx};
+
+/// The greatest number of precommits in a bundle.
+const MOST_PRECOMMITS: usize = 64;
+
+/// A call of a node.
+#[derive(Debug, Drop)]
+pub(crate) enum Call {
+    Settle,
+    /// This frame comes.
+    Handle(Vec<u8>),
+    FireTimeout(Timeout),
+    Ask,
+}
+
+/// The liars and the clients of a schedule, who make what comes to the correct validator.
+#[derive(Clone, Copy)]
+pub(crate) struct Senders<'a> {
+    pub(crate) alloc: Global,
+    pub(crate) schedule: &'a Schedule,
+}
+
+impl<'a> Senders<'a> {
+    /// How many validators there are.
+    fn validators(&self) -> u16
+        ensures count { result ≡ length self.now.schedule.now.world.powers }
+        ensures few { result ≤ 64 }
+    {
+        self.schedule.world.count()
+    }
+
+    /// The call that an event makes. Its senders and its receiver have to be validators, and what comes has
+    /// to have a spelling.
+    pub(crate) fn call(&self, event: &Event) -> Result<Call, EventFault>
+        ensures makes { IfOk result (Makes self.now.schedule.now event.now.input) }
+        ensures known { OnOk result (are_known self.now.schedule.now event.now ≡ true) }
+        ensures unknown { IsErrOf result EventFault.NoSuchParty → are_known self.now.schedule.now event.now ≡ false }
+
+        // A number that is no validator's is told before what has no spelling.
+        ensures order { IsErrOf result EventFault.TooLong → are_known self.now.schedule.now event.now ≡ true }
+    {
+        self.party(event.receiver)?;
+        match &event.input {
+            Input::Propose(line) => self.handle(&self.proposal(line)?),
+            Input::Vote(line) => self.handle(&self.vote(line)?),
+            Input::Bundle(line) => self.handle(&self.bundle(line)?),
+            Input::Submit(tagged) => self.handle(&self.tx(tagged)?),
+            Input::Frame(bytes) => Ok(Call::Handle(bytes.as_slice().to_vec(self.alloc)?)),
+            Input::Timeout(timeout) => Ok(Call::FireTimeout(*timeout)),
+            Input::Ask => Ok(Call::Ask),
+        }
+    }
+
+    /// The call by which a message comes.
+    fn handle(&self, message: &Message) -> Result<Call, EventFault>
+        ensures call { IfOk result (IsMessageCall (λ m. m ≡ message.now)) }
+        ensures err { IfErr result (λ fault. fault ≢ EventFault.NoSuchParty) }
+    {
+        match spell(self.alloc, message) {
+            Ok(frame) => Ok(Call::Handle(frame)),
+            Err(fault) => Err(fault_of(fault)),
+        }
+    }
+
+    /// The validator with this number.
+    fn party(&self, number: u64) -> Result<u16, EventFault>
+        ensures known { IfOk result (λ party. (party ≡ number) × (is_known self.now.schedule.now number ≡ true)) }
+        ensures unknown { IfErr result (λ fault. (fault ≡ EventFault.NoSuchParty) × (is_known self.now.schedule.now number ≡ false)) }
+    {
+        if number < u64::from(self.validators()) {
+            Ok(number as u16)
+        } else {
+            Err(EventFault::NoSuchParty)
+        }
+    }
+
+    fn proposal(&self, line: &Proposing) -> Result<Message, EventFault>
+        ensures brings { IfOk result (Brings self.now.schedule.now (Input.Propose line.now)) }
+        ensures known { OnOk result (is_known self.now.schedule.now line.now.sender ≡ true) }
+        ensures unknown { IsErrOf result EventFault.NoSuchParty → is_known self.now.schedule.now line.now.sender ≡ false }
+        ensures order { IsErrOf result EventFault.TooLong → is_known self.now.schedule.now line.now.sender ≡ true }
+    {
+        let sender = self.party(line.sender)?;
+        let body = Body::Proposal(Proposal {
+            height: line.height,
+            round: line.round,
+            sender,
+            valid_round: line.valid_round,
+            value: self.value_at(line.value)?.value().copy(self.alloc)?,
+        });
+        self.signed(sender, body)
+    }
+
+    fn vote(&self, line: &Voting) -> Result<Message, EventFault>
+        ensures brings { IfOk result (Brings self.now.schedule.now (Input.Vote line.now)) }
+        ensures known { OnOk result (is_known self.now.schedule.now line.now.sender ≡ true) }
+        ensures unknown { IsErrOf result EventFault.NoSuchParty → is_known self.now.schedule.now line.now.sender ≡ false }
+        ensures order { IsErrOf result EventFault.TooLong → is_known self.now.schedule.now line.now.sender ≡ true }
+    {
+        let sender = self.party(line.sender)?;
+        let body = Body::Vote(Vote {
+            step: line.step,
+            height: line.height,
+            round: line.round,
+            sender,
+            content: self.content(line.value)?,
+        });
+        self.signed(sender, body)
+    }
+
+    fn bundle(&self, line: &Bundling) -> Result<Message, EventFault>
+        ensures brings { IfOk result (Brings self.now.schedule.now (Input.Bundle line.now)) }
+        ensures known { OnOk result (list_all (is_known self.now.schedule.now) (line.now.sender ∷ line.now.signers.items) ≡ true) }
+        ensures unknown { IsErrOf result EventFault.NoSuchParty → list_all (is_known self.now.schedule.now) (line.now.sender ∷ line.now.signers.items) ≡ false }
+        ensures order { IsErrOf result EventFault.TooLong → list_all (is_known self.now.schedule.now) (line.now.sender ∷ line.now.signers.items) ≡ true }
+    {
+        let sender = self.party(line.sender)?;
+        let signers = self.parties(&line.signers)?;
+        let value = self.value_at(line.value)?;
+        let id = self.id_at(line.named)?;
+        let body = Body::Bundle(Bundle {
+            height: line.height,
+            sender,
+            round: line.round,
+            id,
+            value: value.value().copy(self.alloc)?,
+            precommits: self.precommits(&signers, line.height, line.round, id)?,
+        });
+        self.signed(sender, body)
+    }
+
+    /// A client's transaction, whose tags are the message's.
+    fn tx(&self, tagged: &Tagged) -> Result<Message, EventFault>
+        ensures brings { IfOk result (Brings self.now.schedule.now (Input.Submit tagged.now)) }
+        ensures err { IfErr result (λ fault. fault ≢ EventFault.NoSuchParty) }
+    {
+        let tx = tx_of(self.alloc, tagged, self.validators())?;
+        let Tx {
+            client,
+            number,
+            op,
+            tags,
+        } = tx.ok_or(EventFault::TooLong)?;
+        let body = Body::Tx(Tx {
+            client,
+            number,
+            op,
+            tags: Seq::new(self.alloc),
+        });
+        Ok(Message { body, tags })
+    }
+
+    /// The validators with these numbers.
+    fn parties(&self, numbers: &[u64]) -> Result<Vec<u16>, EventFault>
+        ensures same { IfOk result (λ parties. parties.items ≡ numbers.now) }
+        ensures known { OnOk result (list_all (is_known self.now.schedule.now) numbers.now ≡ true) }
+        ensures unknown { IsErrOf result EventFault.NoSuchParty → list_all (is_known self.now.schedule.now) numbers.now ≡ false }
+        ensures err { IfErr result (λ fault. fault ≢ EventFault.TooLong) }
+    {
+        let mut parties = Vec::with_capacity(self.alloc, numbers.len())?;
+        for number in numbers {
+            parties.push(self.party(*number)?)?;
+        }
+        Ok(parties)
+    }
+
+    /// A precommit for the id by each of the signers.
+    fn precommits(
+        &self,
+        signers: &[u16],
+        height: u64,
+        round: u32,
+        id: Id,
+    ) -> Result<Seq<Precommit>, EventFault>
+        ensures each { IfOk result (λ precommits. precommits ≡ map (precommit_by (setting_of self.now.schedule.now) height round id) signers.now) }
+        ensures err { IfErr result (λ fault. fault ≢ EventFault.NoSuchParty) }
+    {
+        if signers.len() > MOST_PRECOMMITS {
+            return Err(EventFault::TooLong);
+        }
+        let mut precommits = Vec::with_capacity(self.alloc, signers.len())?;
+        for signer in signers {
+            let body = Body::Vote(Vote {
+                step: Step::Precommit,
+                height,
+                round,
+                sender: *signer,
+                content: Some(id),
+            });
+            let Message { body: _, tags } = self.signed(*signer, body)?;
+            precommits.push(Precommit {
+                sender: *signer,
+                tags,
+            })?;
+        }
+        Ok(Seq::from_vec(precommits))
+    }
+
+    /// Nil, or the id of the value at a place.
+    fn content(&self, value: Option<usize>) -> Result<Option<Id>, EventFault>
+        ensures content { IfOk result (IsContent self.now.schedule.now value) }
+        ensures err { IfErr result (λ fault. fault ≡ EventFault.TooLong) }
+    {
+        match value {
+            None => Ok(None),
+            Some(place) => Ok(Some(self.id_at(place)?)),
+        }
+    }
+
+    /// The id of the value at a place, which has to have a spelling.
+    #[tactic(auto, unfolding(protocol::specs::Values::id))]
+    fn id_at(&self, place: usize) -> Result<Id, EventFault>
+        ensures id { IfOk result (λ x. option_map id (value_at self.now.schedule.now.values place) ≡ Some x) }
+        ensures err { IfErr result (λ fault. fault ≡ EventFault.TooLong) }
+    {
+        Ok(self.value_at(place)?.id())
+    }
+
+    /// A validator's message with right tags for everyone.
+    #[tactic(auto, using(crate::proofs::Tags::tagged_by))]
+    fn signed(&self, sender: u16, body: Body) -> Result<Message, EventFault>
+        requires { sender_of body ≡ Validator sender }
+        ensures tagged { IfOk result (λ message. message ≡ tagged (setting_of self.now.schedule.now) body) }
+        ensures err { IfErr result (λ fault. fault ≢ EventFault.NoSuchParty) }
+    {
+        let spelled = self.spelled(&body)?;
+        let tags = tags_of(
+            self.alloc,
+            Party::Validator(sender),
+            self.validators(),
+            &RightTags::All,
+            &spelled,
+        )?;
+        Ok(Message {
+            body,
+            tags: Seq::from_vec(tags),
+        })
+    }
+
+    fn spelled(&self, body: &Body) -> Result<Vec<u8>, EventFault>
+        ensures spelling { IfOk result (λ bytes. bytes.items ≡ body_spelling body.now) }
+        ensures err { IfErr result (λ fault. fault ≢ EventFault.NoSuchParty) }
+    {
+        match spell_body(self.alloc, body) {
+            Ok(bytes) => Ok(bytes),
+            Err(fault) => Err(fault_of(fault)),
+        }
+    }
+
+    /// The value at a place, which has to have a spelling.
+    fn value_at(&self, place: usize) -> Result<&'a Named, EventFault>
+        ensures value { IfOk result (λ value. value_at self.now.schedule.now.values place ≡ Some value.now) }
+        ensures err { IfErr result (λ fault. fault ≡ EventFault.TooLong) }
+    {
+        self.schedule.values.at(place).ok_or(EventFault::TooLong)
+    }
+}
+
+/// A fault of spelling, or of reading what a node released, as one of an event.
+pub(crate) fn fault_of(fault: Fault) -> EventFault
+    ensures { result ≢ EventFault.NoSuchParty }
+{
+    match fault {
+        Fault::OutOfMemory => EventFault::OutOfMemory,
+        _ => EventFault::TooLong,
+    }
+}
