@@ -1,4 +1,8 @@
--- The faults of what a node is made of, by their names here.
+-- The faults of what a node is made of, by their names here, and the numbers of what it answers.
+use Rattle.std.specs.Prelude.{ℕ}
+use Rattle.transactions.specs.declared.fault.Fault.TheVariants as faults
+use Rattle.protocol.specs.Refusals.{refusal_number}
+use Rattle.protocol.specs.Refusals as causes
 use Rattle.frame_admission.specs.declared.inadmissible.Inadmissible.{Inadmissible}
 use Rattle.frame_admission.specs.declared.inadmissible.Inadmissible.TheVariants as gate
 use Rattle.round_states.specs.declared.taking.Refusal.{Refusal as Unkept}
@@ -44,3 +48,40 @@ of_judgement judges.NoQuorum = answers.Bundle judges.NoQuorum
 of_judgement judges.WrongDigest = answers.Bundle judges.WrongDigest
 of_judgement judges.BadTag = answers.Bundle judges.BadTag
 of_judgement judges.NotValid = answers.Bundle judges.NotValid
+
+-- ---- numbers
+
+-- those of the cause that the answer names: its own, and the inner one
+abbrev pub numbers_of_submit : SubmitFault → ℕ × ℕ
+numbers_of_submit submits.UnknownClient = refusal_number (causes.NotQueued causes.UnknownClient)
+numbers_of_submit submits.BadTag = refusal_number (causes.NotQueued causes.BadTxTag)
+numbers_of_submit submits.OldNumber = refusal_number (causes.NotQueued causes.OldNumber)
+numbers_of_submit submits.Gap = refusal_number (causes.NotQueued causes.Gap)
+numbers_of_submit submits.Closed = refusal_number (causes.NotQueued causes.Closed)
+numbers_of_submit submits.QueueFull = refusal_number (causes.NotQueued causes.QueueFull)
+numbers_of_submit submits.TooLong = refusal_number (causes.NotQueued causes.TxTooLong)
+numbers_of_submit submits.OutOfMemory = (13, 8)
+
+abbrev pub numbers_of_judgement : JudgeFault → ℕ × ℕ
+numbers_of_judgement judges.NoQuorum = refusal_number (causes.NotDecided causes.NoQuorum)
+numbers_of_judgement judges.WrongDigest = refusal_number (causes.NotDecided causes.WrongDigest)
+numbers_of_judgement judges.BadTag = refusal_number (causes.NotDecided causes.BadBundleTag)
+numbers_of_judgement judges.NotValid = refusal_number (causes.NotDecided causes.NotValid)
+numbers_of_judgement judges.OutOfMemory = (14, 5)
+
+abbrev pub numbers_of : Refusal → ℕ × ℕ
+numbers_of answers.Truncated = refusal_number (causes.Unread faults.Truncated)
+numbers_of answers.TooLong = refusal_number (causes.Unread faults.TooLong)
+numbers_of answers.BadKind = refusal_number (causes.Unread faults.BadKind)
+numbers_of answers.BadSpelling = refusal_number (causes.Unread faults.BadSpelling)
+numbers_of answers.UnknownSender = refusal_number causes.UnknownSender
+numbers_of answers.BadTag = refusal_number causes.BadTag
+numbers_of answers.OtherHeight = refusal_number causes.OtherHeight
+numbers_of answers.VoterFull = refusal_number causes.VoterFull
+numbers_of answers.Repeat = refusal_number causes.Repeat
+numbers_of answers.RoundLimit = refusal_number causes.RoundLimit
+numbers_of answers.RoundAhead = refusal_number causes.RoundAhead
+numbers_of answers.WrongProposer = refusal_number causes.WrongProposer
+numbers_of (answers.Submit fault) = numbers_of_submit fault
+numbers_of (answers.Bundle fault) = numbers_of_judgement fault
+numbers_of answers.OutOfMemory = (16, 0)

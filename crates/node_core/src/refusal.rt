@@ -1,6 +1,7 @@
 //! Why a call of a node is refused.
 
 ghost use Rattle.std.specs.Prelude.{◌≡◌};
+ghost use Rattle.node_core.specs.Named.{numbers_of};
 
 use frame_admission::Inadmissible;
 use height_catchup::JudgeFault;
@@ -136,7 +137,9 @@ impl From<JudgeFault> for Refusal {
 
 impl Refusal {
     /// The number of the refusal, 1 to 16.
-    pub fn number(&self) -> u8 {
+    pub fn number(&self) -> u8
+        ensures { result ≡ (numbers_of self.now).0 }
+    {
         match self {
             Refusal::Truncated => 1,
             Refusal::TooLong => 2,
@@ -157,7 +160,9 @@ impl Refusal {
     }
 
     /// The number of the inner fault: 1 to 7 for a transaction, 1 to 4 for a bundle, else 0.
-    pub fn inner(&self) -> u8 {
+    pub fn inner(&self) -> u8
+        ensures { result ≡ (numbers_of self.now).1 }
+    {
         match self {
             Refusal::Submit(fault) => *fault as u8,
             Refusal::Bundle(fault) => *fault as u8,

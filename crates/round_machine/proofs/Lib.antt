@@ -2,5 +2,6 @@ pub mod Places
 pub mod Stages
 pub mod Soonest
 pub mod Highest
+pub mod Nobody
 pub mod Holding
 pub mod Ending

@@ -84,7 +84,7 @@ locking_is powers s ks o same all e step first =
 pub lockable_there : (powers : List ℕ) (s : State) (ks : List KeptProposal) (i : ℕ) → map proposal_in ks ≡ s.proposals → position_from (can_lock powers s) 0 ks ≡ Some i → i < length s.proposals
 lockable_there powers s ks i same e = let t = there (can_lock powers s) ks some_kept i e in rw (← same, length-map) t.0
 
-decidable_agrees : (powers : List ℕ) (s : State) (ks : List KeptProposal) → All (IsFound s.delivered) ks → (i : ℕ) (d : KeptProposal) → i < length ks → can_decide powers s (get_or ks i d) ≡ is_decidable powers s (proposal_in (get_or ks i d))
+decidable_agrees : (powers : List ℕ) (s : State) (ks : List KeptProposal) → All (IsFound s.delivered) ks → Agree (can_decide powers s) (is_decidable powers s) ks
 decidable_agrees powers s ks all i d lt = let f = all i d lt in rw (f.is_valid, f.id) refl
 
 -- the test of the code at a place is that of the definitions at the proposal there

@@ -1,0 +1,110 @@
+//! Each call that is refused memory is made once more after `settle`: whichever growth is refused, the end is the same.
+
+use super::bundles::RIGHT;
+use super::timeouts::due;
+use super::{Node, vote};
+use crate::Refusal;
+use messages::{Ask, Body, Step as VoteStep};
+use protocol::Step;
+use std::process::Abort;
+use std::test::Fail;
+use transactions::value_id;
+
+impl Node {
+    /// Takes the frame in, and once more where memory was refused: it may have been taken in by then.
+    fn takes_in(&mut self, rt: &impl Abort, frame: &[u8]) -> Result<(), Fail> {
+        let answer = self.core.handle(frame);
+        if answer != Err(Refusal::OutOfMemory) {
+            assert_eq!(rt; answer, Ok(()));
+            return Ok(());
+        }
+        assert_eq!(rt; self.core.settle(), Ok(()));
+        let again = self.core.handle(frame);
+        assert!(rt; matches!(&again, Ok(()) | Err(Refusal::Repeat | Refusal::OtherHeight)));
+        Ok(())
+    }
+
+    /// The timeout is due, and once more where memory was refused.
+    fn comes_due(&mut self, rt: &impl Abort, kind: Step, round: u32) -> Result<(), Fail> {
+        let due = due(kind, 0, round);
+        if self.core.fire_timeout(due) != Ok(()) {
+            assert_eq!(rt; self.core.settle(), Ok(()));
+            assert_eq!(rt; self.core.fire_timeout(due), Ok(()));
+        }
+        Ok(())
+    }
+
+    fn decides_by_votes(&mut self, rt: &impl Abort) -> Result<(), Fail> {
+        let id = value_id(self.alloc, &self.value(1)?)?;
+        let proposal = self.proposal(0, 0, 0, 1)?;
+        let frame = self.frame(rt, 0x00, &proposal)?;
+        self.takes_in(rt, &frame)?;
+        for (step, sender, key) in [
+            (VoteStep::Prevote, 0, 0x00),
+            (VoteStep::Prevote, 1, 0x11),
+            (VoteStep::Precommit, 0, 0x00),
+            (VoteStep::Precommit, 1, 0x11),
+        ] {
+            let frame = self.frame(rt, key, &vote(step, 0, sender, Some(id)))?;
+            self.takes_in(rt, &frame)?;
+        }
+        self.has_decided(rt, 2)
+    }
+
+    fn decides_by_a_bundle(&mut self, rt: &impl Abort) -> Result<(), Fail> {
+        let bundle = Body::Bundle(self.bundle(0, 1, None, &RIGHT)?);
+        let decided = self.frame(rt, 0x00, &bundle)?;
+        let ask = Body::Ask(Ask {
+            height: 0,
+            sender: 1,
+        });
+        let asked = self.frame(rt, 0x11, &ask)?;
+        self.takes_in(rt, &decided)?;
+        self.takes_in(rt, &asked)?;
+        self.has_decided(rt, 1)
+    }
+
+    /// Height 0 is decided, and the next has begun; so many frames have gone out.
+    fn has_decided(&mut self, rt: &impl Abort, frames: usize) -> Result<(), Fail> {
+        assert_eq!(rt; self.core.height(), 1);
+        assert_eq!(rt; self.core.delivered().len(), 1);
+        assert_eq!(rt; self.core.decisions().len(), 1);
+        assert_eq!(rt; self.core.frontier().next(7), 2);
+        assert_eq!(rt; self.core.outgoing().len(), frames);
+        assert_eq!(rt; self.core.scheduled().len(), 2);
+        Ok(())
+    }
+
+    fn comes_to_its_round(&mut self, rt: &impl Abort) -> Result<(), Fail> {
+        for (kind, round) in [
+            (Step::Propose, 0),
+            (Step::Prevote, 0),
+            (Step::Precommit, 0),
+            (Step::Precommit, 1),
+            (Step::Precommit, 2),
+        ] {
+            self.comes_due(rt, kind, round)?;
+        }
+        assert_eq!(rt; self.core.round(), 3);
+        assert_eq!(rt; self.core.outgoing().len(), 4);
+        Ok(())
+    }
+}
+
+#[test]
+fn a_height_by_votes(rt: HostRuntime) -> Result<(), Fail> {
+    let mut node = Node::new(&rt, rt.alloc())?;
+    node.decides_by_votes(&rt)
+}
+
+#[test]
+fn a_height_by_a_bundle(rt: HostRuntime) -> Result<(), Fail> {
+    let mut node = Node::new(&rt, rt.alloc())?;
+    node.decides_by_a_bundle(&rt)
+}
+
+#[test]
+fn rounds_of_one(rt: HostRuntime) -> Result<(), Fail> {
+    let mut node = Node::new(&rt, rt.alloc())?;
+    node.comes_to_its_round(&rt)
+}

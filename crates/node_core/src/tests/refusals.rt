@@ -1,0 +1,203 @@
+//! Which cause is told of several. Each frame has the later ones too, as far as they can stand beside the first.
+
+use super::{Node, vote};
+use crate::Refusal;
+use messages::{Ask, Body, Step};
+use std::process::Abort;
+use std::test::Fail;
+use transactions::Id;
+
+/// Validator 9's prevote of height 7 and round 1,000,001, up to its flag.
+const PREVOTE: [u8; 15] = [0x11, 0, 0, 0, 0, 0, 0, 0, 7, 0, 0x0f, 0x42, 0x41, 0, 9];
+
+/// A proposal's height, round, sender and key, and the number of its value.
+type Proposed = (u64, u32, u16, u8, u8);
+
+/// A prevote's round, sender, key and content.
+type Prevoted = (u32, u16, u8, Option<Id>);
+
+impl Node {
+    fn refuses(&mut self, rt: &impl Abort, cases: &[(&[u8], Refusal)]) -> Result<(), Fail> {
+        for (frame, cause) in cases {
+            assert_eq!(rt; self.core.handle(frame), Err(*cause));
+        }
+        Ok(())
+    }
+
+    /// That prevote and so many further bytes, of which these are the first and the others are zeros, are refused.
+    fn refuses_rest(
+        &mut self,
+        rt: &impl Abort,
+        len: u8,
+        first: &[u8],
+        cause: Refusal,
+    ) -> Result<(), Fail> {
+        let mut frame = [0, 0, 0, len].to_vec(self.alloc)?;
+        frame.extend_from_slice(&PREVOTE)?;
+        frame.extend_from_slice(first)?;
+        frame.resize(usize::from(len) + 4, 0)?;
+        assert_eq!(rt; self.core.handle(&frame), Err(cause));
+        Ok(())
+    }
+
+    fn refuses_rests(
+        &mut self,
+        rt: &impl Abort,
+        cases: &[(u8, &[u8], Refusal)],
+    ) -> Result<(), Fail> {
+        for (len, first, cause) in cases {
+            self.refuses_rest(rt, *len, first, *cause)?;
+        }
+        Ok(())
+    }
+
+    fn judges_proposals(
+        &mut self,
+        rt: &impl Abort,
+        cases: &[(Proposed, Result<(), Refusal>)],
+    ) -> Result<(), Fail> {
+        for ((height, round, sender, key, number), answer) in cases {
+            let body = self.proposal(*height, *round, *sender, *number)?;
+            assert_eq!(rt; self.told(rt, *key, &body)?, *answer);
+        }
+        Ok(())
+    }
+
+    fn judges_prevotes(
+        &mut self,
+        rt: &impl Abort,
+        cases: &[(Prevoted, Result<(), Refusal>)],
+    ) -> Result<(), Fail> {
+        for ((round, sender, key, content), answer) in cases {
+            let body = vote(Step::Prevote, *round, *sender, *content);
+            assert_eq!(rt; self.told(rt, *key, &body)?, *answer);
+        }
+        Ok(())
+    }
+
+    /// Validator 0 prevotes for as many ids as may be kept of it.
+    fn hears_all_that_is_kept(&mut self, rt: &impl Abort) -> Result<(), Fail> {
+        for number in 0..512u16 {
+            let [high, low] = number.to_be_bytes();
+            let mut id = [high; 32];
+            id[31] = low;
+            self.judges_prevotes(rt, &[((0, 0, 0x00, Some(id)), Ok(()))])?;
+        }
+        Ok(())
+    }
+
+    /// Where so much is kept of validator 0.
+    fn is_full_of_one(&mut self, rt: &impl Abort) -> Result<(), Fail> {
+        self.hears_all_that_is_kept(rt)?;
+        self.judges_proposals(
+            rt,
+            &[
+                ((1, 1_000_001, 4, 0x99, 1), Err(Refusal::UnknownSender)),
+                ((1, 1_000_001, 0, 0x99, 1), Err(Refusal::BadTag)),
+                ((1, 1_000_001, 0, 0x00, 1), Err(Refusal::OtherHeight)),
+                ((0, 1_000_001, 0, 0x00, 1), Err(Refusal::RoundLimit)),
+                ((0, 3, 0, 0x00, 1), Err(Refusal::RoundAhead)),
+                ((0, 2, 0, 0x00, 1), Err(Refusal::WrongProposer)),
+                ((0, 0, 0, 0x00, 1), Err(Refusal::VoterFull)),
+            ],
+        )?;
+        let kept = Some([1; 32]);
+        self.judges_prevotes(
+            rt,
+            &[
+                ((1_000_001, 0, 0x00, kept), Err(Refusal::RoundLimit)),
+                ((0, 0, 0x00, kept), Err(Refusal::Repeat)),
+                ((1_000_000, 0, 0x00, kept), Err(Refusal::VoterFull)),
+                // Another's messages are kept as ever.
+                ((1_000_000, 1, 0x11, kept), Ok(())),
+            ],
+        )
+    }
+
+    /// An ask for the own height.
+    fn refuses_asks(&mut self, rt: &impl Abort, cases: &[(u16, u8, Refusal)]) -> Result<(), Fail> {
+        for (sender, key, cause) in cases {
+            let body = Body::Ask(Ask {
+                height: 0,
+                sender: *sender,
+            });
+            assert_eq!(rt; self.told(rt, *key, &body)?, Err(*cause));
+        }
+        assert_eq!(rt; self.core.outgoing().len(), 0);
+        Ok(())
+    }
+}
+
+#[test]
+fn lengths_and_kinds(rt: HostRuntime) -> Result<(), Fail> {
+    let mut node = Node::new(&rt, rt.alloc())?;
+    node.refuses(
+        &rt,
+        &[
+            (&[0u8, 0x10, 0], Refusal::Truncated),
+            (&[0, 0x10, 0, 1, 0x7f], Refusal::TooLong),
+            (&[0, 0, 0, 2, 0x7f], Refusal::Truncated),
+            (&[0, 0, 0, 1, 0x7f, 0], Refusal::BadSpelling),
+            (&[0, 0, 0, 1, 0x7f], Refusal::BadKind),
+            (&[0, 0, 0, 3, 0x20, 13, 4], Refusal::BadKind),
+            (&[0, 0, 0, 1, 0x11], Refusal::Truncated),
+            (&[0, 0, 0, 0], Refusal::Truncated),
+        ],
+    )
+}
+
+#[test]
+fn first_wrong_field(rt: HostRuntime) -> Result<(), Fail> {
+    let mut node = Node::new(&rt, rt.alloc())?;
+    node.refuses_rests(
+        &rt,
+        &[
+            (15, &[], Refusal::Truncated),
+            (16, &[2], Refusal::BadSpelling),
+            (20, &[1], Refusal::Truncated),
+            (16, &[0], Refusal::Truncated),
+            (17, &[0, 0], Refusal::BadSpelling),
+            (17, &[0, 65], Refusal::TooLong),
+            (17, &[0, 64], Refusal::Truncated),
+            (50, &[0, 1], Refusal::BadSpelling),
+            (49, &[0, 1], Refusal::UnknownSender),
+        ],
+    )
+}
+
+#[test]
+fn most_that_is_kept_of_one(rt: HostRuntime) -> Result<(), Fail> {
+    let mut node = Node::new(&rt, rt.alloc())?;
+    node.is_full_of_one(&rt)
+}
+
+#[test]
+fn differing_proposals(rt: HostRuntime) -> Result<(), Fail> {
+    let mut node = Node::new(&rt, rt.alloc())?;
+    node.judges_proposals(
+        &rt,
+        &[
+            ((0, 0, 0, 0x00, 1), Ok(())),
+            ((0, 0, 0, 0x00, 1), Err(Refusal::Repeat)),
+            ((0, 0, 0, 0x00, 2), Ok(())),
+            ((0, 0, 0, 0x00, 1), Err(Refusal::Repeat)),
+            ((0, 0, 0, 0x00, 3), Err(Refusal::VoterFull)),
+            ((0, 1, 1, 0x11, 3), Ok(())),
+            ((0, 2, 2, 0x22, 3), Ok(())),
+            ((0, 3, 3, 0x33, 3), Err(Refusal::RoundAhead)),
+        ],
+    )
+}
+
+#[test]
+fn causes_against_an_ask(rt: HostRuntime) -> Result<(), Fail> {
+    let mut node = Node::new(&rt, rt.alloc())?;
+    node.refuses_asks(
+        &rt,
+        &[
+            (4, 0x99, Refusal::UnknownSender),
+            (1, 0x00, Refusal::BadTag),
+            (1, 0x11, Refusal::OtherHeight),
+        ],
+    )
+}

@@ -1,0 +1,81 @@
+//! Timeouts that come due.
+
+use super::{Node, vote};
+use crate::Refusal;
+use messages::Step as VoteStep;
+use protocol::{Step, Timeout};
+use std::process::Abort;
+use std::test::Fail;
+
+/// A timeout's kind, height and round, how many frames it lets out, and the round that it begins.
+type Due = (Step, u64, u32, usize, Option<u32>);
+
+pub(super) fn due(kind: Step, height: u64, round: u32) -> Timeout {
+    Timeout {
+        kind,
+        height,
+        round,
+    }
+}
+
+impl Node {
+    /// The round of the first timeout that was scheduled since the last look.
+    fn begun(&mut self) -> Option<u32> {
+        Some(self.core.scheduled().first()?.round)
+    }
+
+    fn comes_to(&mut self, rt: &impl Abort, cases: &[Due]) -> Result<(), Fail> {
+        assert_eq!(rt; self.begun(), Some(0));
+        for (kind, height, round, frames, next) in cases {
+            let timeout = due(*kind, *height, *round);
+            assert_eq!(rt; self.core.fire_timeout(timeout), Ok(()));
+            assert_eq!(rt; self.core.outgoing().len(), *frames);
+            assert_eq!(rt; self.begun(), *next);
+        }
+        assert_eq!(rt; self.core.round(), 3);
+        assert_eq!(rt; self.core.fired(), 1);
+        Ok(())
+    }
+
+    fn comes_to_the_last_round(&mut self, rt: &impl Abort) -> Result<(), Fail> {
+        for (sender, key) in [(0, 0x00), (1, 0x11)] {
+            let body = vote(VoteStep::Prevote, 1_000_000, sender, None);
+            assert_eq!(rt; self.told(rt, key, &body)?, Ok(()));
+        }
+        assert_eq!(rt; self.core.round(), 1_000_000);
+        let last = due(Step::Precommit, 0, 1_000_000);
+        assert_eq!(rt; self.core.fire_timeout(last), Err(Refusal::RoundLimit));
+        let other = due(Step::Precommit, 1, 1_000_000);
+        assert_eq!(rt; self.core.fire_timeout(other), Ok(()));
+        assert_eq!(rt; self.core.round(), 1_000_000);
+        Ok(())
+    }
+}
+
+// Where no other's message comes. The fourth round is the own one: it proposes, and prevotes.
+#[test]
+fn rounds_of_one(rt: HostRuntime) -> Result<(), Fail> {
+    let mut node = Node::new(&rt, rt.alloc())?;
+    node.comes_to(
+        &rt,
+        &[
+            (Step::Prevote, 0, 0, 0, None),
+            (Step::Propose, 1, 0, 0, None),
+            (Step::Propose, 0, 1, 0, None),
+            (Step::Propose, 0, 0, 1, None),
+            (Step::Propose, 0, 0, 0, None),
+            (Step::Prevote, 0, 0, 1, None),
+            (Step::Prevote, 0, 0, 0, None),
+            (Step::Precommit, 0, 0, 0, Some(1)),
+            (Step::Precommit, 0, 0, 0, None),
+            (Step::Precommit, 0, 1, 0, Some(2)),
+            (Step::Precommit, 0, 2, 2, None),
+        ],
+    )
+}
+
+#[test]
+fn last_round(rt: HostRuntime) -> Result<(), Fail> {
+    let mut node = Node::new(&rt, rt.alloc())?;
+    node.comes_to_the_last_round(&rt)
+}
