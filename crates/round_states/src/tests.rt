@@ -7,6 +7,7 @@ use messages::{Body, Message, Proposal, Step as VoteStep, Vote};
 use powers::Powers;
 use protocol::Step;
 use std::alloc::Global;
+use std::process::Abort;
 use std::test::Fail;
 use transactions::{Id, Seq, Value, read_value};
 
@@ -223,6 +224,59 @@ fn a_copy(rt: HostRuntime) -> Result<(), Fail> {
     let state = state_of(rt.alloc(), 3)?;
     assert_eq!(rt; (round_of_copy(&state)?, state.round()), (7, 0));
     Ok(())
+}
+
+/// Locks the first kept value, and gives the precommit for it.
+fn lock(state: &mut State) -> Result<Option<Vote>, Fail> {
+    if !state.has_begun() || state.step() == Step::Propose || state.kept().is_empty() {
+        return Err(Fail::new("nothing to lock"));
+    }
+    match state.find_value(0)? {
+        Some(unsaved) => Ok(vote_in(release(unsaved))),
+        None => Ok(None),
+    }
+}
+
+/// Decides the first kept value, and gives how many precommits decided it.
+fn decide(state: &mut State) -> Result<usize, Fail> {
+    let may_decide = state.kept().first().is_some_and(|kept| kept.is_valid);
+    if !may_decide || state.height() >= 1 << 48 {
+        return Err(Fail::new("nothing to decide"));
+    }
+    let tags = vec![in state.alloc; [7u8; 32]; 4]?;
+    match release(state.decide(0, &tags)?) {
+        Body::Bundle(bundle) => Ok(bundle.precommits.len()),
+        _ => Err(Fail::new("no decision")),
+    }
+}
+
+/// The height of a copy, and how much it keeps and locks.
+fn seen_in_copy(state: &State) -> Result<(u64, usize, bool), Fail> {
+    let copy = state.copy()?;
+    Ok((copy.height(), copy.kept().len(), copy.lock().is_some()))
+}
+
+/// A height in its steps. A copy before the decision has what was kept and locked.
+fn pass(rt: &impl Abort, state: &mut State) -> Result<(), Fail> {
+    begin(state, 0)?;
+    assert_eq!(rt; propose(state, 0, 0, 0, 1)?, None);
+    let id = state.kept().first().map(|kept| kept.id);
+    prevote(state, id)?;
+    let precommitted = vote(VoteStep::Precommit, 0, 0, 3, id);
+    assert_eq!(rt; lock(state)?, Some(precommitted));
+    assert_eq!(rt; seen_in_copy(state)?, (0, 1, true));
+    assert_eq!(rt; decide(state)?, 1);
+    assert_eq!(rt;
+        (state.height(), state.kept().len(), state.lock().is_some()),
+        (1, 0, false)
+    );
+    Ok(())
+}
+
+#[test]
+fn a_height(rt: HostRuntime) -> Result<(), Fail> {
+    let mut state = state_of(rt.alloc(), 3)?;
+    pass(&rt, &mut state)
 }
 
 /// Both timeouts are scheduled once in a round.
