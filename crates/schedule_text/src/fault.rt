@@ -121,6 +121,11 @@ impl fmt::Display for Failure<'_> {
 }
 
 impl From<ReadFault> for Failure<'_> {
+    ghost use Rattle.std.specs.Prelude.{◌≡◌};
+    ghost use Rattle.schedule_text.specs.Failures.{of_reading};
+
+    ghost from_gives = { λ fault failure. failure ≡ of_reading fault };
+
     fn from(fault: ReadFault) -> Self {
         match fault {
             ReadFault::BadLine(line) => Failure::BadLine(line),
