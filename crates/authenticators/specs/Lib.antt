@@ -3,3 +3,4 @@ pub mod Tags
 pub mod Lines
 pub mod Ring
 pub mod Keys
+pub mod Pads

@@ -7,9 +7,13 @@ use Rattle.sha2.specs.Sha256.{sha256}
 abbrev pub padded : List ℕ → ℕ → List ℕ
 padded k pad = map (λ b. bit_xor b pad) (k ++ replicate (64 - length k) 0)
 
--- RFC 2104, section 2, with SHA-256: H(K xor opad, H(K xor ipad, text)); a key longer than 64 bytes is hashed first
+-- a key longer than 64 bytes is hashed first
+abbrev pub short_key : List ℕ → List ℕ
+short_key k = cond (nat_lt 64 (length k)) (sha256 k) k
+
+-- RFC 2104, section 2, with SHA-256: H(K xor opad, H(K xor ipad, text))
 unfoldable pub hmac : List ℕ → List ℕ → List ℕ
-hmac k text = let short = cond (nat_lt 64 (length k)) (sha256 k) k in sha256 (padded short 92 ++ sha256 (padded short 54 ++ text))
+hmac k text = sha256 (padded (short_key k) 92 ++ sha256 (padded (short_key k) 54 ++ text))
 
 -- there are n tags, and tag number p is right under this key
 unfoldable pub is_right : ℕ → List ℕ → ℕ → List ℕ → List (List ℕ) → Bool

@@ -6,7 +6,7 @@ ghost use Rattle.authenticators.specs.Keys.{Gives, is_skipped, is_line_feed, key
 ghost use Rattle.authenticators.specs.declared.party.Party.TheVariants.{Validator, Client};
 
 use crate::key_line::{CLIENTS, KeyLine};
-use crate::{KeysFault, Party};
+use crate::{Key, KeysFault, Party};
 use std::alloc::{AllocError, Global};
 
 /// Reads the lines of a key file of this party.
@@ -60,11 +60,11 @@ fn is_skipped(line: &[u8]) -> bool
 
 /// The key of what one party sends to a validator, by these lines.
 #[tactic(auto, unfolding(crate::specs::Keys::key_between))]
-pub fn key_between(lines: &[KeyLine], from: Party, to: u16) -> Option<[u8; 32]>
+pub fn key_between(lines: &[KeyLine], from: Party, to: u16) -> Option<Key>
     ensures { result ≡ key_between lines.now from to }
 {
     let line = lines.iter().find(|line| line.is_between(from, to))?;
-    Some(line.key)
+    Some(Key::new(line.key))
 }
 
 /// The keys of what one party sends to each validator.
@@ -73,7 +73,7 @@ pub fn keys_to_validators(
     lines: &[KeyLine],
     from: Party,
     validators: u16,
-) -> Result<Vec<[u8; 32]>, KeysFault>
+) -> Result<Vec<Key>, KeysFault>
     ensures { Gives (λ keys. keys.items) result
         (every_key (map (λ to. key_between lines.now from to) (range_with_len 0 validators))) }
 {
@@ -94,7 +94,7 @@ pub fn keys_from_validators(
     lines: &[KeyLine],
     me: Party,
     validators: u16,
-) -> Result<Vec<[u8; 32]>, KeysFault>
+) -> Result<Vec<Key>, KeysFault>
     ensures { Gives (λ keys. keys.items) result (every_key (keys_from lines.now me Validator validators)) }
 {
     match me {
@@ -109,7 +109,7 @@ pub fn keys_from_clients(
     alloc: Global,
     lines: &[KeyLine],
     me: Party,
-) -> Result<Vec<Option<[u8; 32]>>, AllocError>
+) -> Result<Vec<Option<Key>>, AllocError>
     ensures { IfOk result (λ keys. keys.items ≡ keys_from lines.now me Client 1024) }
 {
     match me {
@@ -124,7 +124,7 @@ fn validators_to(
     lines: &[KeyLine],
     validators: u16,
     to: u16,
-) -> Result<Vec<[u8; 32]>, KeysFault>
+) -> Result<Vec<Key>, KeysFault>
     ensures { Gives (λ keys. keys.items) result
         (every_key (map (λ from. key_between lines.now (Validator from) to) (range_with_len 0 validators))) }
 {
@@ -139,11 +139,7 @@ fn validators_to(
 }
 
 /// The keys of what each client sends to a validator, where it has one.
-fn clients_to(
-    alloc: Global,
-    lines: &[KeyLine],
-    to: u16,
-) -> Result<Vec<Option<[u8; 32]>>, AllocError>
+fn clients_to(alloc: Global, lines: &[KeyLine], to: u16) -> Result<Vec<Option<Key>>, AllocError>
     ensures { IfOk result (λ keys. keys.items ≡ map (λ from. key_between lines.now (Client from) to) (range_with_len 0 1024)) }
 {
     let mut keys = Vec::with_capacity(alloc, CLIENTS as usize)?;

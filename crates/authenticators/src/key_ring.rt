@@ -7,7 +7,7 @@ ghost use Rattle.authenticators.specs.Ring.{incoming, outgoing, tags_of, IsWhole
 
 use crate::key_file::{keys_from_clients, keys_from_validators, keys_to_validators, read_lines};
 use crate::key_line::KeyLine;
-use crate::{KeysFault, Party, hmac};
+use crate::{Key, KeysFault, Party};
 use std::alloc::{AllocError, Global};
 use std::marker::Model;
 
@@ -18,9 +18,9 @@ use std::marker::Model;
 pub struct KeyRing {
     me: Party,
     count: u16,
-    from_validators: Vec<[u8; 32]>,
-    from_clients: Vec<Option<[u8; 32]>>,
-    to_validators: Vec<[u8; 32]>,
+    from_validators: Vec<Key>,
+    from_clients: Vec<Option<Key>>,
+    to_validators: Vec<Key>,
 }
 
 impl Model for KeyRing {
@@ -105,7 +105,7 @@ impl KeyRing {
     }
 
     /// The key of what a party sends to this one, if it is a known party.
-    pub fn incoming(&self, from: Party) -> Option<&[u8; 32]>
+    pub fn incoming(&self, from: Party) -> Option<&Key>
         ensures { option_copied result ≡ incoming self.now from }
     {
         match from {
@@ -118,7 +118,7 @@ impl KeyRing {
     }
 
     /// The key of what this party sends to a validator, if the number is one's.
-    pub fn outgoing(&self, to: u16) -> Option<&[u8; 32]>
+    pub fn outgoing(&self, to: u16) -> Option<&Key>
         ensures { option_copied result ≡ outgoing self.now to }
     {
         self.to_validators.get(to as usize)
@@ -132,7 +132,7 @@ pub fn tag_all(alloc: Global, ring: &KeyRing, body: &[u8]) -> Result<Vec<[u8; 32
 {
     let mut tags = Vec::with_capacity(alloc, ring.to_validators.len())?;
     for key in &ring.to_validators {
-        tags.push(hmac(key, body))?;
+        tags.push(key.tag(body))?;
     }
     Ok(tags)
 }

@@ -2,6 +2,7 @@
 #![tactic(auto)]
 
 mod fault;
+mod key;
 mod key_file;
 mod key_line;
 mod key_ring;
@@ -9,6 +10,7 @@ mod party;
 mod tagging;
 
 pub use fault::KeysFault;
+pub use key::Key;
 pub use key_ring::{KeyRing, tag_all};
 pub use party::Party;
 pub use tagging::{check, hmac, is_right};

@@ -1,10 +1,12 @@
 //! HMAC-SHA-256 tags (RFC 2104, section 2, over FIPS 180-4, section 6.2).
 
-ghost use Rattle.std.specs.Prelude.{◌≡◌, ◌≤◌, ◌++◌, length};
+ghost use Rattle.std.specs.Prelude.{◌≡◌, ℕ, List, ◌≤◌, length};
 ghost use Rattle.std.specs.Str.{bytes_eq};
-ghost use Rattle.sha2.specs.Sha256.{sha256};
+ghost use Rattle.sha2.specs.Hashers.{Holds256};
 ghost use Rattle.authenticators.specs.Tags.{padded, hmac, is_right};
+ghost use Rattle.authenticators.specs.Pads.{IsPadded};
 
+use crate::Key;
 use sha2::{Digest, Sha256};
 
 /// The length of a block of SHA-256, in bytes: a longer key is hashed first.
@@ -19,15 +21,10 @@ const OUTER: u8 = 0x5c;
 /// The tag of a text under a key, each of any length.
 ///
 /// It takes no memory.
-#[tactic(auto, unfolding(crate::specs::Tags::hmac))]
 pub fn hmac(key: &[u8], text: &[u8]) -> [u8; 32]
     ensures { result ≡ hmac key.now text.now }
 {
-    if key.len() > BLOCK {
-        tag_under(&Sha256::digest(key), text)
-    } else {
-        tag_under(key, text)
-    }
+    Pads::new(key).tag(text)
 }
 
 /// Whether these bytes are the tag of the text under the key: only the 32 right bytes are.
@@ -44,35 +41,70 @@ pub fn check(key: &[u8], text: &[u8], tag: &[u8]) -> bool
 ///
 /// The tags for the others are under keys that `me` doesn't have. It takes no memory.
 #[tactic(auto, using(crate::proofs::Blocks::no_tag_is_wrong), unfolding(crate::specs::Tags::is_right))]
-pub fn is_right(count: u16, key: &[u8], me: u16, text: &[u8], tags: &[[u8; 32]]) -> bool
+pub fn is_right(count: u16, key: &Key, me: u16, text: &[u8], tags: &[[u8; 32]]) -> bool
     ensures { result ≡ is_right count key.now me text.now tags.now }
 {
     if tags.len() != count as usize {
         return false;
     }
     match tags.get(me as usize) {
-        Some(tag) => check(key, text, tag),
+        Some(tag) => are_same(tag, &key.tag(text)),
         None => false,
     }
 }
 
-/// The tag under a key of at most one block.
-fn tag_under(key: &[u8], text: &[u8]) -> [u8; 32]
-    requires { length key.now ≤ 64 }
-    ensures { result ≡ sha256 (padded key.now 92 ++ sha256 (padded key.now 54 ++ text.now)) }
-{
-    let inner = digest_of(&padded(key, INNER), text);
-    digest_of(&padded(key, OUTER), &inner)
+/// The hashers of HMAC's two digests, each after the block that the key makes.
+#[derive(Drop)]
+pub(crate) struct Pads {
+    inner: Sha256,
+    outer: Sha256,
 }
 
-/// The digest of two pieces taken as one message.
-fn digest_of(first: &[u8], second: &[u8]) -> [u8; 32]
-    ensures { result ≡ sha256 (first.now ++ second.now) }
+impl Pads {
+    /// Those of a key of any length.
+    pub(crate) fn new(key: &[u8]) -> Pads
+        ensures { IsPadded result key.now }
+    {
+        if key.len() > BLOCK {
+            Pads::of(&Sha256::digest(key))
+        } else {
+            Pads::of(key)
+        }
+    }
+
+    /// Those of a key of at most one block.
+    fn of(key: &[u8]) -> Pads
+        requires { length key.now ≤ 64 }
+        ensures inner { Holds256 result.inner (padded key.now 54) }
+        ensures outer { Holds256 result.outer (padded key.now 92) }
+    {
+        Pads {
+            inner: Sha256::new_with_prefix(&padded(key, INNER)),
+            outer: Sha256::new_with_prefix(&padded(key, OUTER)),
+        }
+    }
+
+    /// The tag of a text under the key.
+    #[tactic(auto, unfolding(crate::specs::Tags::hmac))]
+    pub(crate) fn tag(&self, text: &[u8]) -> [u8; 32]
+        ensures { (key : List ℕ) → IsPadded self.now key → result ≡ hmac key text.now }
+    {
+        let mut inner = copy_of(&self.inner);
+        inner.update(text);
+        let mut outer = copy_of(&self.outer);
+        outer.update(&inner.finalize());
+        outer.finalize()
+    }
+}
+
+/// A hasher that holds the same.
+fn copy_of(hasher: &Sha256) -> Sha256
+    ensures { result ≡ hasher.now }
 {
-    let mut hasher = Sha256::new();
-    hasher.update(first);
-    hasher.update(second);
-    hasher.finalize()
+    match hasher.clone() {
+        Ok(copy) => copy,
+        Err(_) => unreachable!(),
+    }
 }
 
 /// A block that begins with the key and ends in zeros, with each byte xor this one.

@@ -2,7 +2,7 @@
 
 use crate::fault::BenchFault;
 use crate::frames::{Frame, KEY};
-use authenticators::{KeyRing, Party, hmac};
+use authenticators::{Key, KeyRing, Party};
 use node_core::{Config, NodeCore};
 use powers::Powers;
 use sha2::{Digest, Sha256};
@@ -58,11 +58,12 @@ impl Turns {
 
     /// How long it takes to hash what has to be hashed.
     fn hashing(&self, rt: &impl Clock) -> Result<Duration, BenchFault> {
+        let key = Key::new(KEY);
         let start = Instant::now(rt)?;
         let mut seen = 0u8;
         for _ in 0..self.count {
             for frame in &self.frames {
-                seen ^= hashed(frame);
+                seen ^= hashed(frame, &key);
             }
         }
         let took = start.elapsed(rt)?;
@@ -80,11 +81,11 @@ fn nanoseconds_each(took: Duration, frames: u64) -> u128 {
         .unwrap_or_default()
 }
 
-/// A byte of all that is hashed for a frame.
-fn hashed(frame: &Frame) -> u8 {
+/// A byte of all that is hashed for a frame, whose tags are under the key.
+fn hashed(frame: &Frame, key: &Key) -> u8 {
     let mut seen = 0u8;
     for text in &frame.tagged {
-        seen ^= hmac(&KEY, text)[0];
+        seen ^= key.tag(text)[0];
     }
     if !frame.digested.is_empty() {
         seen ^= Sha256::digest(&frame.digested)[0];

@@ -9,7 +9,7 @@ ghost use Rattle.protocol.specs.Messages.{OfVote, precommit};
 ghost use Rattle.protocol.specs.Rings.{IsRingOf};
 ghost use Rattle.protocol.specs.Refusals.{is_vouching, bundle_senders, certified};
 
-use authenticators::{KeyRing, Party, is_right};
+use authenticators::{Key, KeyRing, Party, is_right};
 use messages::{Body, Bundle, Precommit, Step, Vote, spell_body};
 use powers::{MOST_VALIDATORS, Powers};
 use std::alloc::{AllocError, Global};
@@ -80,24 +80,24 @@ fn right_precommit<'a>(
 
 /// What a right precommit has: its sender, and among a tag for each validator the own one.
 #[derive(Drop)]
-struct Wanted {
+struct Wanted<'a> {
     sender: u16,
     validators: u16,
     me: u16,
-    key: [u8; 32],
+    key: &'a Key,
     body: Vec<u8>,
 }
 
-impl Wanted {
+impl<'a> Wanted<'a> {
     ghost use Rattle.height_catchup.specs.Vouching.{is_wanted, Finds};
 
     /// What a validator's precommit for the bundle's id has, if the ring has a key of the validator.
     fn of(
         alloc: Global,
         bundle: &Bundle,
-        ring: &KeyRing,
+        ring: &'a KeyRing,
         validator: u16,
-    ) -> Result<Option<Wanted>, AllocError>
+    ) -> Result<Option<Wanted<'a>>, AllocError>
         ensures { IfOk result (λ wanted. (c : Setting) (p : ℕ) → IsRingOf c p ring.now → validator < length c.powers → Finds wanted (is_vouching c p bundle.now validator)) }
     {
         let Party::Validator(me) = ring.me() else {
@@ -110,13 +110,13 @@ impl Wanted {
             sender: validator,
             validators: ring.count(),
             me,
-            key: *key,
+            key,
             body: spelling(alloc, bundle, validator)?,
         }))
     }
 
     /// The first that has it.
-    fn first_in<'a>(&self, precommits: &'a [Precommit]) -> Option<&'a Precommit>
+    fn first_in<'b>(&self, precommits: &'b [Precommit]) -> Option<&'b Precommit>
         ensures { option_copied result ≡ find (is_wanted self.now) precommits.now }
     {
         precommits.iter().find(|precommit| self.is_in(precommit))
@@ -128,7 +128,7 @@ impl Wanted {
         precommit.sender == self.sender
             && is_right(
                 self.validators,
-                &self.key,
+                self.key,
                 self.me,
                 &self.body,
                 precommit.tags.as_slice(),

@@ -14,7 +14,7 @@ ghost use Rattle.mempool.specs.Answers.{answer_of};
 
 use crate::SubmitFault;
 use arrayvec::ArrayVec;
-use authenticators::{KeyRing, Party, is_right};
+use authenticators::{Key, KeyRing, Party, is_right};
 use byteorder::{BigEndian, ByteOrder};
 use transactions::{Op, Tx};
 
@@ -44,7 +44,7 @@ pub fn check_tag(tx: &Tx, ring: &KeyRing) -> Result<(), SubmitFault>
 
 /// Whether there is one tag for each validator, and the ring's own one is right under this key of
 /// the client. The ring has to be a validator's.
-fn is_tagged(tx: &Tx, ring: &KeyRing, key: &[u8; 32]) -> bool
+fn is_tagged(tx: &Tx, ring: &KeyRing, key: &Key) -> bool
     requires short { is_long tx.now.op ≡ false }
     requires known { incoming ring.now (Party.Client tx.now.client) ≡ Some key.now }
     ensures { (c : Setting) (p : ℕ) → IsRingOf c p ring.now → result ≡ tx_is_right c p tx.now }

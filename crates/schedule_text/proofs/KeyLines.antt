@@ -1,5 +1,5 @@
 -- A line of a key file reads as its key.
-use Rattle.std.proofs.Common.{rules, ◌≡◌, ℕ, zero, suc, ◌+◌, ◌-◌, ◌*◌, ◌/◌, ◌<◌, ◌≤◌, ◌^◌, Bool, true, false, cond, ◌&&◌, ◌||◌, List, [], ◌∷◌, ◌++◌, length, get_or, Option, Some, None, Result, Ok, Err, inl, inr, refl, sym, ap, ◌∙◌, arith, lt-ltb, fold}
+use Rattle.std.proofs.Common.{rules, ◌≡◌, ℕ, zero, suc, ◌+◌, ◌-◌, ◌*◌, ◌/◌, ◌<◌, ◌^◌, true, false, ◌||◌, List, [], ◌∷◌, ◌++◌, length, get_or, Some, inl, inr, refl, ap, ◌∙◌, arith, lt-ltb, fold}
 use Rattle.std.specs.Prelude.{All, nat_lt, ◌==◌}
 use Rattle.std.specs.Int.{byte_at, bytes_high_first, to_be_bytes, w32}
 use Rattle.std.specs.List.{list_all, slice_index, slice_split}
@@ -24,7 +24,6 @@ use Rattle.authenticators.specs.Keys.{is_line_feed, is_skipped}
 use Rattle.authenticators.specs.Party.{shown}
 use Rattle.authenticators.specs.Lines.{decimal_value, number_in, party_in, is_space, line_of, key_in}
 use Rattle.authenticators.specs.Lines as words
-use Rattle.authenticators.specs.declared.key_line.KeyLine.{KeyLine}
 use Rattle.protocol.specs.Tags.{Party, Validator, Client}
 use Rattle.schedule_text.specs.Keys.{key_between}
 use Rattle.schedule_text.specs.KeyFile.{key_line}

@@ -6,3 +6,4 @@ pub mod Keys
 pub mod KeyFile
 pub mod Lines
 pub mod Events
+pub mod SenderKeys

@@ -15,7 +15,7 @@ use std::fmt::Write;
 /// The key of what a party sends to a validator: the SHA-256 digest (FIPS 180-4) of the text
 /// `tmsim FROM TO`, as `tmsim c7 v2`.
 #[tactic(auto, unfolding(crate::specs::Keys::key_between))]
-fn key_between(alloc: Global, from: Party, to: u16) -> Result<[u8; 32], AllocError>
+pub(crate) fn key_between(alloc: Global, from: Party, to: u16) -> Result<[u8; 32], AllocError>
     ensures { IfOk result (λ key. key ≡ key_between from to) }
 {
     let to = Party::Validator(to);

@@ -45,6 +45,7 @@ mod program;
 mod report;
 mod running;
 mod schedule;
+mod sender_keys;
 mod senders;
 mod values;
 mod world;

@@ -40,7 +40,7 @@ impl<'a> Run<'a> {
         let powers = world.powers.copy(alloc)?;
         Ok(Run {
             alloc,
-            senders: Senders { alloc, schedule },
+            senders: Senders::new(alloc, schedule)?,
             me,
             node: NodeCore::open(alloc, Config { me, powers }, ring),
             decisions_told: 0,

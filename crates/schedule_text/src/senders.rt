@@ -6,7 +6,9 @@ ghost use Rattle.messages.specs.Grammar.{body_spelling};
 ghost use Rattle.protocol.specs.Values.{id};
 ghost use Rattle.protocol.specs.Tags.{Validator};
 ghost use Rattle.protocol.specs.Messages.{sender_of, tagged};
+ghost use Rattle.schedule_text.specs.Keys.{tags_for};
 ghost use Rattle.schedule_text.specs.Lines.{value_at};
+ghost use Rattle.schedule_text.specs.declared.items.RightTags.TheVariants.{All};
 ghost use Rattle.schedule_text.specs.Events.{setting_of, IsContent, Brings, IsMessageCall, Makes, is_known, are_known, precommit_by};
 
 use crate::event::{Bundling, Event, Input, Proposing, Voting};
@@ -14,11 +16,12 @@ use crate::fault::EventFault;
 use crate::items::{RightTags, Tagged};
 use crate::keys::tags_of;
 use crate::schedule::Schedule;
+use crate::sender_keys::SenderKeys;
 use crate::values::tx_of;
 use authenticators::Party;
 use messages::{Body, Bundle, Message, Precommit, Proposal, Step, Vote, spell, spell_body};
 use protocol::Timeout;
-use std::alloc::Global;
+use std::alloc::{AllocError, Global};
 use transactions::{Duplicate, Fault, Id, Named, Seq, Tx};
 
 /// The greatest number of precommits in a bundle.
@@ -35,13 +38,31 @@ pub(crate) enum Call {
 }
 
 /// The liars and the clients of a schedule, who make what comes to the correct validator.
-#[derive(Clone, Copy)]
+#[derive(Drop)]
 pub(crate) struct Senders<'a> {
-    pub(crate) alloc: Global,
-    pub(crate) schedule: &'a Schedule,
+    alloc: Global,
+    schedule: &'a Schedule,
+    /// The keys of what each validator sends.
+    keys: Vec<SenderKeys>,
 }
 
 impl<'a> Senders<'a> {
+    /// Those of this schedule, with their keys.
+    pub(crate) fn new(alloc: Global, schedule: &'a Schedule) -> Result<Senders<'a>, AllocError>
+        ensures { IfOk result (λ senders. senders.schedule.now ≡ schedule.now) }
+    {
+        let validators = schedule.world.count();
+        let mut keys = Vec::with_capacity(alloc, usize::from(validators))?;
+        for sender in 0..validators {
+            keys.push(SenderKeys::new(alloc, sender, validators)?)?;
+        }
+        Ok(Senders {
+            alloc,
+            schedule,
+            keys,
+        })
+    }
+
     /// How many validators there are.
     fn validators(&self) -> u16
         ensures count { result ≡ length self.now.schedule.now.world.powers }
@@ -245,17 +266,26 @@ impl<'a> Senders<'a> {
         ensures err { IfErr result (λ fault. fault ≢ EventFault.NoSuchParty) }
     {
         let spelled = self.spelled(&body)?;
-        let tags = tags_of(
-            self.alloc,
-            Party::Validator(sender),
-            self.validators(),
-            &RightTags::All,
-            &spelled,
-        )?;
+        let tags = self.tags_by(sender, &spelled)?;
         Ok(Message {
             body,
             tags: Seq::from_vec(tags),
         })
+    }
+
+    /// A validator's tags of a body's bytes, all of them right.
+    fn tags_by(&self, sender: u16, body: &[u8]) -> Result<Vec<[u8; 32]>, AllocError>
+        ensures { IfOk result (λ tags. tags.items ≡ tags_for All (Validator sender) (length self.now.schedule.now.world.powers) body.now) }
+    {
+        let validators = self.validators();
+        match self.keys.get(usize::from(sender)) {
+            Some(keys) if keys.are_of(sender, validators) => keys.tags(self.alloc, body),
+            // No keys were made for it.
+            _ => {
+                let from = Party::Validator(sender);
+                tags_of(self.alloc, from, validators, &RightTags::All, body)
+            }
+        }
     }
 
     fn spelled(&self, body: &Body) -> Result<Vec<u8>, EventFault>

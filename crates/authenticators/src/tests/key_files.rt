@@ -1,6 +1,6 @@
 //! Key files and the rings that they give.
 
-use crate::{KeyRing, KeysFault, Party, hmac, is_right, tag_all};
+use crate::{Key, KeyRing, KeysFault, Party, hmac, is_right, tag_all};
 use std::alloc::Global;
 use std::fmt::Write;
 use std::process::Abort;
@@ -9,6 +9,11 @@ use std::test::Fail;
 const ONES: &str = "1111111111111111111111111111111111111111111111111111111111111111";
 
 const TWOS: &str = "2222222222222222222222222222222222222222222222222222222222222222";
+
+/// The bytes of a key, if it is there.
+fn bytes_of(key: Option<&Key>) -> Option<[u8; 32]> {
+    key.map(|key| *key.bytes())
+}
 
 /// What the text gives to the first of two validators.
 fn read_first(alloc: Global, text: &str) -> Result<KeyRing, KeysFault> {
@@ -63,20 +68,20 @@ fn ring_of_a_validator(rt: HostRuntime) -> Result<(), Fail> {
     assert_eq!(rt; ring.me(), Party::Validator(0));
     assert_eq!(rt; ring.count(), 2);
     assert_eq!(rt;
-        ring.incoming(Party::Validator(0)).copied(),
+        bytes_of(ring.incoming(Party::Validator(0))),
         Some([0x11; 32])
     );
     assert_eq!(rt;
-        ring.incoming(Party::Validator(1)).copied(),
+        bytes_of(ring.incoming(Party::Validator(1))),
         Some([0x22; 32])
     );
-    assert_eq!(rt; ring.incoming(Party::Validator(2)).copied(), None);
-    assert_eq!(rt; ring.outgoing(0).copied(), Some([0x11; 32]));
-    assert_eq!(rt; ring.outgoing(1).copied(), Some([0x22; 32]));
-    assert_eq!(rt; ring.outgoing(2).copied(), None);
-    assert_eq!(rt; ring.incoming(Party::Client(0)).copied(), None);
-    assert_eq!(rt; ring.incoming(Party::Client(1023)).copied(), None);
-    assert_eq!(rt; ring.incoming(Party::Client(1024)).copied(), None);
+    assert_eq!(rt; bytes_of(ring.incoming(Party::Validator(2))), None);
+    assert_eq!(rt; bytes_of(ring.outgoing(0)), Some([0x11; 32]));
+    assert_eq!(rt; bytes_of(ring.outgoing(1)), Some([0x22; 32]));
+    assert_eq!(rt; bytes_of(ring.outgoing(2)), None);
+    assert_eq!(rt; bytes_of(ring.incoming(Party::Client(0))), None);
+    assert_eq!(rt; bytes_of(ring.incoming(Party::Client(1023))), None);
+    assert_eq!(rt; bytes_of(ring.incoming(Party::Client(1024))), None);
     Ok(())
 }
 
@@ -86,10 +91,10 @@ fn known_clients(rt: HostRuntime) -> Result<(), Fail> {
         "c0 v0 {TWOS}\nv0 v0 {ONES}\nv1 v0 {ONES}\nv0 v1 {ONES}\nc1023 v0 {TWOS}"
     )?;
     let ring = read_first(rt.alloc(), &text)?;
-    assert_eq!(rt; ring.incoming(Party::Client(0)).copied(), Some([0x22; 32]));
-    assert_eq!(rt; ring.incoming(Party::Client(1)).copied(), None);
+    assert_eq!(rt; bytes_of(ring.incoming(Party::Client(0))), Some([0x22; 32]));
+    assert_eq!(rt; bytes_of(ring.incoming(Party::Client(1))), None);
     assert_eq!(rt;
-        ring.incoming(Party::Client(1023)).copied(),
+        bytes_of(ring.incoming(Party::Client(1023))),
         Some([0x22; 32])
     );
     Ok(())
@@ -100,10 +105,10 @@ fn ring_of_a_client(rt: HostRuntime) -> Result<(), Fail> {
     let text = format!(in rt.alloc(); "c7 v1 {TWOS}\nc7 v0 {ONES}\n")?;
     let ring = KeyRing::read(rt.alloc(), text.as_bytes(), Party::Client(7), 2)?;
     assert_eq!(rt; ring.me(), Party::Client(7));
-    assert_eq!(rt; ring.outgoing(0).copied(), Some([0x11; 32]));
-    assert_eq!(rt; ring.outgoing(1).copied(), Some([0x22; 32]));
-    assert_eq!(rt; ring.incoming(Party::Validator(0)).copied(), None);
-    assert_eq!(rt; ring.incoming(Party::Client(7)).copied(), None);
+    assert_eq!(rt; bytes_of(ring.outgoing(0)), Some([0x11; 32]));
+    assert_eq!(rt; bytes_of(ring.outgoing(1)), Some([0x22; 32]));
+    assert_eq!(rt; bytes_of(ring.incoming(Party::Validator(0))), None);
+    assert_eq!(rt; bytes_of(ring.incoming(Party::Client(7))), None);
     let one_more = KeyRing::read(rt.alloc(), text.as_bytes(), Party::Client(7), 3);
     assert_eq!(rt; one_more.err(), Some(KeysFault::Missing));
     let one_less = KeyRing::read(rt.alloc(), text.as_bytes(), Party::Client(7), 1);
@@ -226,7 +231,7 @@ fn keys_of_other_forms(rt: HostRuntime) -> Result<(), Fail> {
 fn digits_of_either_case(rt: HostRuntime) -> Result<(), Fail> {
     let text = "c7 v0 aBAbabABaBAbabABaBAbabABaBAbabABaBAbabABaBAbabABaBAbabABaBAbabAB\n";
     let ring = KeyRing::read(rt.alloc(), text.as_bytes(), Party::Client(7), 1)?;
-    assert_eq!(rt; ring.outgoing(0).copied(), Some([0xab; 32]));
+    assert_eq!(rt; bytes_of(ring.outgoing(0)), Some([0xab; 32]));
     Ok(())
 }
 
@@ -239,7 +244,8 @@ fn tags_for_all(rt: HostRuntime) -> Result<(), Fail> {
         tags.as_slice(),
         [hmac(&[0x11; 32], b"body"), hmac(&[0x22; 32], b"body")].as_slice()
     );
-    assert!(rt; is_right(2, &[0x22; 32], 1, b"body", tags.as_slice()));
-    assert!(rt; !is_right(2, &[0x22; 32], 0, b"body", tags.as_slice()));
+    let key = Key::new([0x22; 32]);
+    assert!(rt; is_right(2, &key, 1, b"body", tags.as_slice()));
+    assert!(rt; !is_right(2, &key, 0, b"body", tags.as_slice()));
     Ok(())
 }

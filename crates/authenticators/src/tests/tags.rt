@@ -1,6 +1,6 @@
 //! Tags, with the values of RFC 4231 (test cases 1 to 4, 6 and 7).
 
-use crate::{check, hmac, is_right};
+use crate::{Key, check, hmac, is_right};
 use hex::FromHex;
 use std::process::Abort;
 use std::test::Fail;
@@ -108,9 +108,9 @@ fn other_bytes_are_no_tag(rt: HostRuntime) -> Result<(), Fail> {
 
 #[test]
 fn one_tag_for_each_validator(rt: HostRuntime) -> Result<(), Fail> {
-    let right = hmac(b"the second's key", b"body");
-    let wrong = hmac(b"the first's key", b"body");
-    let key = b"the second's key";
+    let right = hmac(&[2; 32], b"body");
+    let wrong = hmac(&[1; 32], b"body");
+    let key = &Key::new([2; 32]);
     assert!(rt; is_right(2, key, 1, b"body", &[wrong, right]));
     assert!(rt; !is_right(2, key, 0, b"body", &[wrong, right]));
     assert!(rt; !is_right(2, key, 1, b"body", &[right, wrong]));
@@ -118,5 +118,20 @@ fn one_tag_for_each_validator(rt: HostRuntime) -> Result<(), Fail> {
     assert!(rt; !is_right(1, key, 1, b"body", &[wrong, right]));
     assert!(rt; !is_right(2, key, 2, b"body", &[wrong, right]));
     assert!(rt; !is_right(2, key, 1, b"body", &[]));
+    Ok(())
+}
+
+// Zeros behind a key shorter than a block change no tag, so a tag of the standard under a shorter key is one of these.
+#[test]
+fn key_made_ready(rt: HostRuntime) -> Result<(), Fail> {
+    let mut bytes = [0; 32];
+    bytes[..4].copy_from_slice(b"Jefe");
+    let key = Key::new(bytes);
+    let tag = <[u8; 32] as FromHex>::from_hex(
+        "5bdcc146bf60754e6a042426089575c75a003f089d2739839dec58b964ec3843",
+    )?;
+    assert_eq!(rt; key.tag(b"what do ya want for nothing?"), tag);
+    assert_eq!(rt; *key.bytes(), bytes);
+    assert_eq!(rt; format!(in rt.alloc(); "{key:?}")?.as_str(), "Key { .. }");
     Ok(())
 }

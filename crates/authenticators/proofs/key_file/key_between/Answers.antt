@@ -17,4 +17,4 @@ pub returns : goal.returns
 unfolding key_between
 returns c =
     let found = find_from_yields_List (is_between c.args.from c.args.to) _ _ c.find.result c.find.ensures.ran (YieldsList-from_slice c.args.lines.now cc) (λ x b q k. search (rules, tests)) in
-    ap (option_map (λ (line : KeyLine). line.key)) (rw c.in_ok-line.was at found)
+    rw c.new.ensures (ap (option_map (λ (line : KeyLine). line.key)) (rw c.in_ok-line.was at found))

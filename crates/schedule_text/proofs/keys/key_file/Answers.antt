@@ -1,8 +1,6 @@
-use Rattle.std.proofs.Common.{◌∙◌, sym, ap, ◌++◌, List, ℕ, append_assoc, ◌≡◌, arith}
-use Rattle.std.specs.List.{flat_map}
+use Rattle.std.proofs.Common.{◌∙◌, ap, ◌++◌, List, ℕ, append_assoc, ◌≡◌, arith}
 use Rattle.std.proofs.lemmas.List.{append-nil}
-use Rattle.protocol.specs.Messages.{below}
-use Rattle.schedule_text.specs.KeyFile.{lines_with, line_of_client}
+use Rattle.schedule_text.specs.KeyFile.{line_of_client}
 use Rattle.schedule_text.proofs.KeyFiles.{no_lines, more_lines}
 use Rattle.schedule_text.proofs.keys.key_file.Goals as goal
 
