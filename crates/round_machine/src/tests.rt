@@ -102,6 +102,12 @@ impl Validator {
         }
         Err(Fail::new("it never settles"))
     }
+
+    /// Fires until no rule is enabled, for nobody to hear.
+    fn settle_unheard(&mut self) -> Result<(), Fail> {
+        let mut bodies = Vec::new(self.alloc);
+        self.settle(&mut bodies)
+    }
 }
 
 /// Lets go what a firing leaves.
@@ -117,12 +123,26 @@ fn let_go(fired: Fired, bodies: &mut Vec<Body>) -> Result<(), Fail> {
     Ok(())
 }
 
+/// What a proposer says as its round begins: its proposal's round, valid round and value, and its
+/// prevote.
+type Opening = (u32, Option<u32>, Option<Id>, Vote);
+
+fn opening(alloc: Global, bodies: &[Body]) -> Result<Opening, Fail> {
+    match bodies {
+        [Body::Proposal(first), Body::Vote(last)] => {
+            let id = value_id(alloc, &first.value)?;
+            Ok((first.round, first.valid_round, Some(id), *last))
+        }
+        _ => Err(Fail::new("no proposal and prevote")),
+    }
+}
+
 /// The one transaction of client 7 with this number, which asks for this byte under zero tags.
 fn value_of(alloc: Global, number: u8, byte: u8) -> Result<Value, Fail>
     ensures { IfOk result (λ value. IsValue value) }
 {
-    let mut bytes = [0, 1, 1, 0, 7, 0, 0, 0, 0, 0, 0, 0, number, 0, 0, 1, byte, 4].to_vec(alloc)?;
-    bytes.extend_from_slice(&[0u8; 128])?;
+    let mut bytes = [0u8; 146];
+    bytes[..18].copy_from_slice(&[0, 1, 1, 0, 7, 0, 0, 0, 0, 0, 0, 0, number, 0, 0, 1, byte, 4]);
     Ok(read_value(alloc, &bytes)?)
 }
 

@@ -24,31 +24,25 @@ fn state_of(alloc: Global, me: u16) -> Result<State, Fail> {
 fn value_of(alloc: Global, number: u8) -> Result<Value, Fail>
     ensures { IfOk result (λ value. IsValue value) }
 {
-    let mut bytes = [0, 1, 1, 0, 7, 0, 0, 0, 0, 0, 0, 0, number, 0, 0, 1, 0x61, 4].to_vec(alloc)?;
-    bytes.extend_from_slice(&[0u8; 128])?;
+    let mut bytes = [0u8; 146];
+    bytes[..18].copy_from_slice(&[0, 1, 1, 0, 7, 0, 0, 0, 0, 0, 0, 0, number, 0, 0, 1, 0x61, 4]);
     Ok(read_value(alloc, &bytes)?)
 }
 
-fn proposal(
-    alloc: Global,
-    height: u64,
-    round: u32,
-    sender: u16,
-    number: u8,
-) -> Result<Message, Fail>
-    ensures { IfOk result (λ message. IsKept message.body) }
+fn proposal(alloc: Global, height: u64, round: u32, sender: u16, value: Value) -> Message
+    requires { IsValue value }
+    ensures { IsKept result.body }
 {
-    let body = Body::Proposal(Proposal {
-        height,
-        round,
-        sender,
-        valid_round: None,
-        value: value_of(alloc, number)?,
-    });
-    Ok(Message {
-        body,
+    Message {
+        body: Body::Proposal(Proposal {
+            height,
+            round,
+            sender,
+            valid_round: None,
+            value,
+        }),
         tags: Seq::new(alloc),
-    })
+    }
 }
 
 fn vote(step: VoteStep, height: u64, round: u32, sender: u16, content: Option<Id>) -> Vote
@@ -108,7 +102,8 @@ fn propose(
     sender: u16,
     number: u8,
 ) -> Result<Option<Refusal>, Fail> {
-    let arrived = proposal(state.alloc, height, round, sender, number)?;
+    let value = value_of(state.alloc, number)?;
+    let arrived = proposal(state.alloc, height, round, sender, value);
     Ok(state.take_in(arrived, true).err())
 }
 
@@ -143,50 +138,58 @@ fn precommit_nil(state: &mut State) -> Result<Option<Vote>, Fail> {
     Ok(vote_in(release(state.precommit(None)?)))
 }
 
+/// Why each of these fresh proposals is refused, if it is: after its height, its round, its sender
+/// and its value's number. At the end this many are kept.
+fn propose_each(
+    rt: &impl Abort,
+    state: &mut State,
+    proposals: &[(u64, u32, u16, u8, Option<Refusal>)],
+    kept: usize,
+) -> Result<(), Fail> {
+    for row in proposals {
+        let (height, round, sender, number, refusal) = *row;
+        assert_eq!(rt; propose(state, height, round, sender, number)?, refusal);
+    }
+    assert_eq!(rt; state.kept().len(), kept);
+    Ok(())
+}
+
 #[test]
 fn proposals_refused(rt: HostRuntime) -> Result<(), Fail> {
     let mut state = state_of(rt.alloc(), 3)?;
-    for (height, round, sender, refusal) in [
-        (1, 0, 1, Some(Refusal::OtherHeight)),
-        (0, 1_000_001, 1, Some(Refusal::RoundLimit)),
-        (0, 1_000_000, 0, Some(Refusal::RoundAhead)),
-        (0, 3, 3, Some(Refusal::RoundAhead)),
-        (0, 0, 1, Some(Refusal::WrongProposer)),
-        (0, 2, 2, None),
-    ] {
-        assert_eq!(rt; propose(&mut state, height, round, sender, 1)?, refusal);
-    }
-    Ok(())
+    let proposals = [
+        (1, 0, 1, 1, Some(Refusal::OtherHeight)),
+        (0, 1_000_001, 1, 1, Some(Refusal::RoundLimit)),
+        (0, 1_000_000, 0, 1, Some(Refusal::RoundAhead)),
+        (0, 3, 3, 1, Some(Refusal::RoundAhead)),
+        (0, 0, 1, 1, Some(Refusal::WrongProposer)),
+        (0, 2, 2, 1, None),
+    ];
+    propose_each(&rt, &mut state, &proposals, 1)
 }
 
 #[test]
 fn proposals_of_a_round(rt: HostRuntime) -> Result<(), Fail> {
     let mut state = state_of(rt.alloc(), 3)?;
-    for (number, refusal) in [
-        (1, None),
-        (1, Some(Refusal::Repeat)),
-        (2, None),
-        (3, Some(Refusal::VoterFull)),
-    ] {
-        assert_eq!(rt; propose(&mut state, 0, 0, 0, number)?, refusal);
-    }
-    assert_eq!(rt; state.kept().len(), 2);
-    Ok(())
+    let proposals = [
+        (0, 0, 0, 1, None),
+        (0, 0, 0, 1, Some(Refusal::Repeat)),
+        (0, 0, 0, 2, None),
+        (0, 0, 0, 3, Some(Refusal::VoterFull)),
+    ];
+    propose_each(&rt, &mut state, &proposals, 2)
 }
 
 #[test]
 fn proposals_ahead(rt: HostRuntime) -> Result<(), Fail> {
     let mut state = state_of(rt.alloc(), 3)?;
     assert!(rt; begin(&mut state, 1)?.is_none());
-    for (round, sender, refusal) in [(4, 0, Some(Refusal::RoundAhead)), (3, 3, None)] {
-        assert_eq!(rt; propose(&mut state, 0, round, sender, 1)?, refusal);
-    }
-    Ok(())
+    let proposals = [(0, 4, 0, 1, Some(Refusal::RoundAhead)), (0, 3, 3, 1, None)];
+    propose_each(&rt, &mut state, &proposals, 1)
 }
 
-#[test]
-fn votes_refused(rt: HostRuntime) -> Result<(), Fail> {
-    let mut state = state_of(rt.alloc(), 3)?;
+/// The votes of validator 1 for nil that are refused, and those that are kept.
+fn vote_each(rt: &impl Abort, state: &mut State) {
     for (step, height, round, refusal) in [
         (VoteStep::Prevote, 1, 0, Some(Refusal::OtherHeight)),
         (VoteStep::Prevote, 0, 1_000_001, Some(Refusal::RoundLimit)),
@@ -194,22 +197,42 @@ fn votes_refused(rt: HostRuntime) -> Result<(), Fail> {
         (VoteStep::Prevote, 0, 1_000_000, Some(Refusal::Repeat)),
         (VoteStep::Precommit, 0, 1_000_000, None),
     ] {
-        assert_eq!(rt; voted(&mut state, step, height, round), refusal);
+        assert_eq!(rt; voted(state, step, height, round), refusal);
     }
+}
+
+#[test]
+fn votes_refused(rt: HostRuntime) -> Result<(), Fail> {
+    let mut state = state_of(rt.alloc(), 3)?;
+    vote_each(&rt, &mut state);
     Ok(())
+}
+
+fn prevote_value(rt: &impl Abort, state: &mut State) -> Result<(), Fail> {
+    let prevoted = vote(VoteStep::Prevote, 0, 0, 3, Some(A));
+    assert_eq!(rt; prevote(state, Some(A))?, Some(prevoted));
+    Ok(())
+}
+
+fn precommit_nothing(rt: &impl Abort, state: &mut State) -> Result<(), Fail> {
+    let precommitted = vote(VoteStep::Precommit, 0, 0, 3, None);
+    assert_eq!(rt; precommit_nil(state)?, Some(precommitted));
+    let power = state.tally().power_for(0, VoteStep::Precommit, None);
+    assert_eq!(rt; (state.step(), power), (Step::Precommit, 1));
+    Ok(())
+}
+
+/// A round in its own votes.
+fn vote_in_round(rt: &impl Abort, state: &mut State) -> Result<(), Fail> {
+    begin(state, 0)?;
+    prevote_value(rt, state)?;
+    precommit_nothing(rt, state)
 }
 
 #[test]
 fn votes_of_a_round(rt: HostRuntime) -> Result<(), Fail> {
     let mut state = state_of(rt.alloc(), 3)?;
-    begin(&mut state, 0)?;
-    let prevoted = vote(VoteStep::Prevote, 0, 0, 3, Some(A));
-    assert_eq!(rt; prevote(&mut state, Some(A))?, Some(prevoted));
-    let precommitted = vote(VoteStep::Precommit, 0, 0, 3, None);
-    assert_eq!(rt; precommit_nil(&mut state)?, Some(precommitted));
-    let power = state.tally().power_for(0, VoteStep::Precommit, None);
-    assert_eq!(rt; (state.step(), power), (Step::Precommit, 1));
-    Ok(())
+    vote_in_round(&rt, &mut state)
 }
 
 /// The round of a copy in which round 7 has begun.
@@ -280,11 +303,9 @@ fn a_height(rt: HostRuntime) -> Result<(), Fail> {
 }
 
 /// Both timeouts are scheduled once in a round.
-#[test]
-fn timeouts_awaited(rt: HostRuntime) -> Result<(), Fail> {
-    let mut state = state_of(rt.alloc(), 3)?;
+fn await_each(rt: &impl Abort, state: &mut State) -> Result<(), Fail> {
     for round in 0..2 {
-        begin(&mut state, round)?;
+        begin(state, round)?;
         assert!(rt; !state.are_prevotes_awaited() && !state.are_precommits_awaited());
         state.await_prevotes();
         assert!(rt; state.are_prevotes_awaited() && !state.are_precommits_awaited());
@@ -295,29 +316,57 @@ fn timeouts_awaited(rt: HostRuntime) -> Result<(), Fail> {
 }
 
 #[test]
+fn timeouts_awaited(rt: HostRuntime) -> Result<(), Fail> {
+    let mut state = state_of(rt.alloc(), 3)?;
+    await_each(&rt, &mut state)
+}
+
+fn assert_new(rt: &impl Abort, state: &State) {
+    assert_eq!(rt; (state.me(), state.height(), state.round()), (3, 0, 0));
+    let total = state.powers().total();
+    let decided = state.decided().len();
+    let next = state.frontier().next(7);
+    assert_eq!(rt; (total, decided, next), (4, 0, 1));
+    let lock = state.lock().is_none();
+    let valid_value = state.valid_value().is_none();
+    assert_eq!(rt;
+        (lock, valid_value, state.is_value_found()),
+        (true, true, false)
+    );
+}
+
+#[test]
 fn a_new_state(rt: HostRuntime) -> Result<(), Fail> {
     let state = state_of(rt.alloc(), 3)?;
-    assert_eq!(rt; (state.me(), state.height(), state.round()), (3, 0, 0));
-    assert_eq!(rt; state.powers().total(), 4);
-    assert_eq!(rt; state.decided().len(), 0);
-    assert_eq!(rt; state.frontier().next(7), 1);
-    assert!(rt; state.lock().is_none() && state.valid_value().is_none());
-    assert!(rt; !state.is_value_found());
+    assert_new(&rt, &state);
+    Ok(())
+}
+
+/// A proposal's height, round, sender and valid round.
+fn place_in(body: Option<Body>) -> Option<(u64, u32, u16, Option<u32>)> {
+    match body {
+        Some(Body::Proposal(proposal)) => Some((
+            proposal.height,
+            proposal.round,
+            proposal.sender,
+            proposal.valid_round,
+        )),
+        _ => None,
+    }
+}
+
+/// Begins round 0 as its proposer.
+fn open_round(rt: &impl Abort, state: &mut State) -> Result<(), Fail> {
+    let opened = place_in(begin(state, 0)?);
+    assert_eq!(rt; opened, Some((0, 0, 0, None)));
+    assert_eq!(rt; state.kept().len(), 1);
     Ok(())
 }
 
 #[test]
 fn the_proposer_proposes(rt: HostRuntime) -> Result<(), Fail> {
     let mut state = state_of(rt.alloc(), 0)?;
-    match begin(&mut state, 0)? {
-        Some(Body::Proposal(proposal)) => {
-            let place = (proposal.height, proposal.round, proposal.sender);
-            assert_eq!(rt; (place, proposal.valid_round), ((0, 0, 0), None));
-        }
-        _ => return Err(Fail::new("no proposal")),
-    }
-    assert_eq!(rt; state.kept().len(), 1);
-    Ok(())
+    open_round(&rt, &mut state)
 }
 
 #[test]

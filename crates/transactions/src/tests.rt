@@ -39,108 +39,224 @@ fn sized(alloc: Global, bytes: usize, tags: usize) -> Result<Tx, AllocError> {
     })
 }
 
-/// A value of so many like transactions, and one more.
-fn value_of(alloc: Global, count: usize, each: &Tx, last: Tx) -> Result<Value, AllocError> {
-    let mut txs = Vec::new(alloc);
+/// Adds so many copies of a transaction.
+fn put_copies(txs: &mut Vec<Tx>, alloc: Global, count: usize, tx: &Tx) -> Result<(), AllocError> {
     for _ in 0..count {
-        txs.push(each.copy(alloc)?)?;
+        txs.push(tx.copy(alloc)?)?;
     }
-    txs.push(last)?;
+    Ok(())
+}
+
+/// A value of so many transactions of one size, and one more; a size is of bytes and tags.
+fn value_of(
+    alloc: Global,
+    count: usize,
+    each: (usize, usize),
+    last: (usize, usize),
+) -> Result<Value, AllocError> {
+    let mut txs = Vec::new(alloc);
+    put_copies(&mut txs, alloc, count, &sized(alloc, each.0, each.1)?)?;
+    put_copies(&mut txs, alloc, 1, &sized(alloc, last.0, last.1)?)?;
     Ok(Value {
         txs: Shared::from_vec(alloc, txs)?,
     })
 }
 
+/// Adds a body with one tag, of nines.
+fn put_with_tag(out: &mut Vec<u8>, body: &[u8]) -> Result<(), AllocError> {
+    out.extend_from_slice(body)?;
+    out.push(1)?;
+    out.extend_from_slice(&[9u8; 32])
+}
+
 /// A body with one tag, of nines.
 fn with_tag(alloc: Global, body: &[u8]) -> Result<Vec<u8>, AllocError> {
-    let mut bytes = body.to_vec(alloc)?;
-    bytes.push(1)?;
-    bytes.extend_from_slice(&[9u8; 32])?;
+    let mut bytes = Vec::new(alloc);
+    put_with_tag(&mut bytes, body)?;
     Ok(bytes)
+}
+
+/// The transaction of this body with one tag, of nines.
+fn read_with_tag(alloc: Global, body: &[u8]) -> Result<Tx, Fault> {
+    let bytes = with_tag(alloc, body)?;
+    read_tx(alloc, &bytes)
+}
+
+/// Why these bytes are no transaction.
+fn tx_fault(alloc: Global, bytes: &[u8]) -> Option<Fault> {
+    read_tx(alloc, bytes).err()
+}
+
+/// Why these bytes are no value.
+fn value_fault(alloc: Global, bytes: &[u8]) -> Option<Fault> {
+    read_value(alloc, bytes).err()
+}
+
+/// Whether the transaction's spelling is these bytes.
+fn is_spelling_of_tx(alloc: Global, bytes: &[u8], tx: &Tx) -> Result<bool, Fault> {
+    Ok(spell_tx(alloc, tx)?.as_slice() == bytes)
+}
+
+/// Whether the transaction's spelling is this body with one tag, of nines.
+fn is_spelled_with_tag(alloc: Global, body: &[u8], tx: &Tx) -> Result<bool, Fault> {
+    let bytes = with_tag(alloc, body)?;
+    is_spelling_of_tx(alloc, &bytes, tx)
+}
+
+/// Whether the value's spelling is these bytes.
+fn is_spelling_of_value(alloc: Global, bytes: &[u8], value: &Value) -> Result<bool, Fault> {
+    Ok(spell_value(alloc, value)?.as_slice() == bytes)
+}
+
+/// Whether a copy of the value is the same value.
+fn is_same_as_its_copy(alloc: Global, value: &Value) -> Result<bool, AllocError> {
+    Ok(same_value(value, &value.copy(alloc)?))
+}
+
+/// Whether the value is empty, and has the spelling and the id of the empty one.
+fn is_empty_value(alloc: Global, value: &Value) -> Result<bool, Fault> {
+    Ok(
+        value.txs.len() == 0
+            && is_spelling_of_value(alloc, &[0, 0], value)?
+            && value_id(alloc, value)? == EMPTY_ID,
+    )
 }
 
 #[test]
 fn empty_value(rt: HostRuntime) -> Result<(), Fail> {
     let value = read_value(rt.alloc(), &[0, 0])?;
-    assert_eq!(rt; value.txs.len(), 0);
-    assert_eq!(rt;
-        spell_value(rt.alloc(), &value)?.as_slice(),
-        [0, 0].as_slice()
-    );
-    assert_eq!(rt; value_id(rt.alloc(), &value)?, EMPTY_ID);
-    let again = value.copy(rt.alloc())?;
-    assert!(rt; same_value(&value, &again));
-    assert_eq!(rt; value_id(rt.alloc(), &again)?, EMPTY_ID);
+    assert!(rt; is_empty_value(rt.alloc(), &value)?);
     Ok(())
+}
+
+#[test]
+fn copy_of_the_empty_value(rt: HostRuntime) -> Result<(), Fail> {
+    let value = read_value(rt.alloc(), &[0, 0])?;
+    assert!(rt; is_same_as_its_copy(rt.alloc(), &value)?);
+    let again = value.copy(rt.alloc())?;
+    assert!(rt; is_empty_value(rt.alloc(), &again)?);
+    Ok(())
+}
+
+/// Whether this is client 7's transaction 1, which asks for the byte `a`.
+fn is_one_byte(tx: &Tx) -> bool {
+    tx.client == 7
+        && tx.number == 1
+        && matches!(&tx.op, Op::Bytes(contents) if contents.as_slice() == b"a".as_slice())
+        && tx.tags.as_slice() == [[9u8; 32]].as_slice()
 }
 
 #[test]
 fn transaction_of_one_byte(rt: HostRuntime) -> Result<(), Fail> {
-    let bytes = with_tag(rt.alloc(), &ONE_BYTE)?;
-    let tx = read_tx(rt.alloc(), &bytes)?;
-    assert_eq!(rt; tx.client, 7);
-    assert_eq!(rt; tx.number, 1);
-    assert!(rt; matches!(&tx.op, Op::Bytes(contents) if contents.as_slice() == b"a".as_slice()));
-    assert_eq!(rt; tx.tags.as_slice(), [[9u8; 32]].as_slice());
-    assert_eq!(rt; spell_tx(rt.alloc(), &tx)?.as_slice(), bytes.as_slice());
+    let tx = read_with_tag(rt.alloc(), &ONE_BYTE)?;
+    assert!(rt; is_one_byte(&tx));
+    assert!(rt; is_spelled_with_tag(rt.alloc(), &ONE_BYTE, &tx)?);
     Ok(())
+}
+
+/// Whether this is client 7's transaction 2, which is a close.
+fn is_close(tx: &Tx) -> bool {
+    tx.client == 7 && tx.number == 2 && matches!(&tx.op, Op::Close)
 }
 
 #[test]
 fn closing_transaction(rt: HostRuntime) -> Result<(), Fail> {
-    let mut bytes = with_tag(rt.alloc(), &CLOSE)?;
-    let tx = read_tx(rt.alloc(), &bytes)?;
-    assert_eq!(rt; tx.client, 7);
-    assert_eq!(rt; tx.number, 2);
-    assert!(rt; matches!(&tx.op, Op::Close));
-    assert_eq!(rt; spell_tx(rt.alloc(), &tx)?.as_slice(), bytes.as_slice());
-    bytes.push(0)?;
-    assert_eq!(rt; read_tx(rt.alloc(), &bytes).err(), Some(Fault::BadSpelling));
+    let tx = read_with_tag(rt.alloc(), &CLOSE)?;
+    assert!(rt; is_close(&tx));
+    assert!(rt; is_spelled_with_tag(rt.alloc(), &CLOSE, &tx)?);
     Ok(())
+}
+
+#[test]
+fn byte_after_a_transaction(rt: HostRuntime) -> Result<(), Fail> {
+    let mut bytes = with_tag(rt.alloc(), &CLOSE)?;
+    bytes.push(0)?;
+    assert_eq!(rt; tx_fault(rt.alloc(), &bytes), Some(Fault::BadSpelling));
+    Ok(())
+}
+
+/// The spelling of the value of the two transactions.
+fn spelling_of_two(alloc: Global) -> Result<Vec<u8>, AllocError> {
+    let mut bytes = Vec::new(alloc);
+    bytes.extend_from_slice(&[0, 2])?;
+    put_with_tag(&mut bytes, &ONE_BYTE)?;
+    put_with_tag(&mut bytes, &CLOSE)?;
+    Ok(bytes)
+}
+
+/// The value of the two transactions.
+fn read_two(alloc: Global) -> Result<Value, Fault> {
+    let bytes = spelling_of_two(alloc)?;
+    read_value(alloc, &bytes)
+}
+
+/// Whether the value is spelled as that of the two transactions.
+fn is_spelled_as_two(alloc: Global, value: &Value) -> Result<bool, Fault> {
+    let bytes = spelling_of_two(alloc)?;
+    is_spelling_of_value(alloc, &bytes, value)
 }
 
 #[test]
 fn value_of_two(rt: HostRuntime) -> Result<(), Fail> {
-    let mut bytes = [0, 2].to_vec(rt.alloc())?;
-    bytes.extend_from_slice(&with_tag(rt.alloc(), &ONE_BYTE)?)?;
-    bytes.extend_from_slice(&with_tag(rt.alloc(), &CLOSE)?)?;
-    let value = read_value(rt.alloc(), &bytes)?;
-    assert_eq!(rt; value.txs.len(), 2);
-    assert_eq!(rt;
-        spell_value(rt.alloc(), &value)?.as_slice(),
-        bytes.as_slice()
-    );
-    assert!(rt; same_value(&value, &value.copy(rt.alloc())?));
-    assert!(rt; !same_value(&value, &read_value(rt.alloc(), &[0, 0])?));
+    let value = read_two(rt.alloc())?;
+    assert!(rt; value.txs.len() == 2);
+    assert!(rt; is_spelled_as_two(rt.alloc(), &value)?);
+    Ok(())
+}
+
+/// Whether the value is the empty one.
+fn is_same_as_empty(alloc: Global, value: &Value) -> Result<bool, Fault> {
+    Ok(same_value(value, &read_value(alloc, &[0, 0])?))
+}
+
+#[test]
+fn value_of_two_is_compared(rt: HostRuntime) -> Result<(), Fail> {
+    let value = read_two(rt.alloc())?;
+    assert!(rt; is_same_as_its_copy(rt.alloc(), &value)?);
+    assert!(rt; !is_same_as_empty(rt.alloc(), &value)?);
+    Ok(())
+}
+
+/// The first cut before which the bytes are not too few for a transaction.
+fn whole_tx_before(alloc: Global, bytes: &[u8]) -> Option<usize> {
     for cut in 0..bytes.len() {
-        assert_eq!(rt;
-            read_value(rt.alloc(), &bytes[..cut]).err(),
-            Some(Fault::Truncated),
-            "cut at {cut}"
-        );
+        if tx_fault(alloc, &bytes[..cut]) != Some(Fault::Truncated) {
+            return Some(cut);
+        }
     }
+    None
+}
+
+/// The first cut before which the bytes are not too few for a value.
+fn whole_value_before(alloc: Global, bytes: &[u8]) -> Option<usize> {
+    for cut in 0..bytes.len() {
+        if value_fault(alloc, &bytes[..cut]) != Some(Fault::Truncated) {
+            return Some(cut);
+        }
+    }
+    None
+}
+
+#[test]
+fn beginnings_of_transactions_are_truncated(rt: HostRuntime) -> Result<(), Fail> {
+    let bytes = with_tag(rt.alloc(), &ONE_BYTE)?;
+    assert_eq!(rt; whole_tx_before(rt.alloc(), &bytes), None);
+    let bytes = with_tag(rt.alloc(), &CLOSE)?;
+    assert_eq!(rt; whole_tx_before(rt.alloc(), &bytes), None);
     Ok(())
 }
 
 #[test]
-fn beginnings_are_truncated(rt: HostRuntime) -> Result<(), Fail> {
-    for body in [ONE_BYTE.as_slice(), CLOSE.as_slice()] {
-        let bytes = with_tag(rt.alloc(), body)?;
-        for cut in 0..bytes.len() {
-            assert_eq!(rt;
-                read_tx(rt.alloc(), &bytes[..cut]).err(),
-                Some(Fault::Truncated),
-                "cut at {cut}"
-            );
-        }
-    }
-    for cut in 0..2 {
-        assert_eq!(rt;
-            read_value(rt.alloc(), &[0u8, 0][..cut]).err(),
-            Some(Fault::Truncated)
-        );
-    }
+fn beginnings_of_values_are_truncated(rt: HostRuntime) -> Result<(), Fail> {
+    let bytes = spelling_of_two(rt.alloc())?;
+    assert_eq!(rt; whole_value_before(rt.alloc(), &bytes), None);
+    assert_eq!(rt; whole_value_before(rt.alloc(), &[0, 0]), None);
     Ok(())
+}
+
+/// Whether the fault has this number and this text.
+fn is_told(alloc: Global, fault: Fault, number: u8, text: &str) -> Result<bool, AllocError> {
+    Ok(fault as u8 == number && fault.to_string(alloc)?.as_str() == text)
 }
 
 #[test]
@@ -157,21 +273,31 @@ fn messages_of_faults(rt: HostRuntime) -> Result<(), Fail> {
         (Fault::BadKind, 5, "no such kind of message"),
     ];
     for (fault, number, text) in told {
-        assert_eq!(rt; fault as u8, number);
-        assert_eq!(rt; fault.to_string(rt.alloc())?.as_str(), text);
+        assert!(rt; is_told(rt.alloc(), fault, number, text)?, "fault {number}");
     }
     Ok(())
 }
 
+/// The empty value with its id.
+fn named_empty_value(alloc: Global) -> Result<Named, Fault> {
+    let value = read_value(alloc, &[0, 0])?;
+    let id = value_id(alloc, &value)?;
+    Ok(Named::new(value, id))
+}
+
 #[test]
 fn value_with_its_id(rt: HostRuntime) -> Result<(), Fail> {
-    let value = read_value(rt.alloc(), &[0, 0])?;
-    let id = value_id(rt.alloc(), &value)?;
-    let named = Named::new(value, id);
+    let named = named_empty_value(rt.alloc())?;
     assert_eq!(rt; named.id(), EMPTY_ID);
+    assert_eq!(rt; named.into_value().txs.len(), 0);
+    Ok(())
+}
+
+#[test]
+fn copy_of_a_value_with_its_id(rt: HostRuntime) -> Result<(), Fail> {
+    let named = named_empty_value(rt.alloc())?;
     let again = named.copy(rt.alloc())?;
     assert_eq!(rt; again.value().txs.len(), 0);
     assert_eq!(rt; again.id(), EMPTY_ID);
-    assert_eq!(rt; named.into_value().txs.len(), 0);
     Ok(())
 }

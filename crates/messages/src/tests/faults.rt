@@ -1,12 +1,28 @@
 //! Bytes that spell no body, and bodies without a spelling.
 
-use super::{ASK, CLOSE, ONE_BYTE, PREVOTE, PROPOSAL, bundle_front, bundle_of, nines, value_of};
+use super::{
+    ASK, CLOSE, ONE_BYTE, PREVOTE, PROPOSAL, bundle_front, bundle_of, nines, there_and_back,
+    value_of,
+};
 use crate::{Body, Proposal, read_body, spell_body};
+use std::alloc::{AllocError, Global};
+use std::process::Abort;
 use std::test::Fail;
 use transactions::{Fault, Op, Tx};
 
+/// Each beginning of the bytes is truncated.
+fn assert_beginnings_truncated(rt: &impl Abort, alloc: Global, bytes: &[u8]) {
+    for cut in 0..bytes.len() {
+        assert_eq!(rt;
+            read_body(alloc, &bytes[..cut]).err(),
+            Some(Fault::Truncated),
+            "cut at {cut}"
+        );
+    }
+}
+
 #[test]
-fn beginnings_are_truncated(rt: HostRuntime) -> Result<(), Fail> {
+fn beginnings_are_truncated(rt: HostRuntime) {
     let vectors = [
         ONE_BYTE.as_slice(),
         CLOSE.as_slice(),
@@ -15,29 +31,34 @@ fn beginnings_are_truncated(rt: HostRuntime) -> Result<(), Fail> {
         ASK.as_slice(),
     ];
     for bytes in vectors {
-        for cut in 0..bytes.len() {
-            assert_eq!(rt;
-                read_body(rt.alloc(), &bytes[..cut]).err(),
-                Some(Fault::Truncated),
-                "cut at {cut}"
-            );
-        }
+        assert_beginnings_truncated(&rt, rt.alloc(), bytes);
     }
-    Ok(())
+}
+
+/// The spelling of a bundle with so many transactions, precommits and tags of each precommit.
+fn bundle_with(
+    alloc: Global,
+    txs: usize,
+    precommits: usize,
+    tags: usize,
+) -> Result<Vec<u8>, Fault> {
+    let value = value_of(alloc, txs)?;
+    let bundle = bundle_of(alloc, value, precommits, tags)?;
+    spell_body(alloc, &Body::Bundle(bundle))
 }
 
 #[test]
 fn beginnings_of_a_bundle_are_truncated(rt: HostRuntime) -> Result<(), Fail> {
-    let bundle = bundle_of(rt.alloc(), value_of(rt.alloc(), 0)?, 2, 1)?;
-    let bytes = spell_body(rt.alloc(), &Body::Bundle(bundle))?;
-    for cut in 0..bytes.len() {
-        assert_eq!(rt;
-            read_body(rt.alloc(), &bytes[..cut]).err(),
-            Some(Fault::Truncated),
-            "cut at {cut}"
-        );
-    }
+    let bytes = bundle_with(rt.alloc(), 0, 2, 1)?;
+    assert_beginnings_truncated(&rt, rt.alloc(), &bytes);
     Ok(())
+}
+
+/// The fault at these bytes with one more behind them.
+fn fault_of_longer(alloc: Global, bytes: &[u8]) -> Result<Option<Fault>, AllocError> {
+    let mut longer = bytes.to_vec(alloc)?;
+    longer.push(0)?;
+    Ok(read_body(alloc, &longer).err())
 }
 
 #[test]
@@ -49,11 +70,9 @@ fn bytes_after_the_end(rt: HostRuntime) -> Result<(), Fail> {
         PREVOTE.as_slice(),
         ASK.as_slice(),
     ];
-    for vector in vectors {
-        let mut bytes = vector.to_vec(rt.alloc())?;
-        bytes.push(0)?;
+    for bytes in vectors {
         assert_eq!(rt;
-            read_body(rt.alloc(), &bytes).err(),
+            fault_of_longer(rt.alloc(), bytes)?,
             Some(Fault::BadSpelling)
         );
     }
@@ -83,33 +102,47 @@ fn flag_of_a_vote(rt: HostRuntime) -> Result<(), Fail> {
     Ok(())
 }
 
+/// The fault at the front of a bundle with these bytes behind it.
+fn fault_behind_front(alloc: Global, behind: &[u8]) -> Result<Option<Fault>, AllocError> {
+    let mut bytes = bundle_front(alloc)?;
+    bytes.extend_from_slice(behind)?;
+    Ok(read_body(alloc, &bytes).err())
+}
+
 #[test]
 fn counts_of_precommits(rt: HostRuntime) -> Result<(), Fail> {
-    let mut bytes = bundle_front(rt.alloc())?;
-    bytes.push(65)?;
-    assert_eq!(rt; read_body(rt.alloc(), &bytes).err(), Some(Fault::TooLong));
-    let mut bytes = bundle_front(rt.alloc())?;
-    bytes.push(64)?;
-    assert_eq!(rt; read_body(rt.alloc(), &bytes).err(), Some(Fault::Truncated));
+    assert_eq!(rt;
+        fault_behind_front(rt.alloc(), &[65])?,
+        Some(Fault::TooLong)
+    );
+    assert_eq!(rt;
+        fault_behind_front(rt.alloc(), &[64])?,
+        Some(Fault::Truncated)
+    );
+    Ok(())
+}
+
+#[test]
+fn bundle_without_precommits(rt: HostRuntime) -> Result<(), Fail> {
     let mut bytes = bundle_front(rt.alloc())?;
     bytes.push(0)?;
-    let body = read_body(rt.alloc(), &bytes)?;
-    assert_eq!(rt; spell_body(rt.alloc(), &body)?.as_slice(), bytes.as_slice());
+    assert!(rt; there_and_back(rt.alloc(), &bytes)?);
     Ok(())
 }
 
 #[test]
 fn tags_of_precommits(rt: HostRuntime) -> Result<(), Fail> {
     for (count, fault) in [(0, Fault::BadSpelling), (65, Fault::TooLong)] {
-        let mut bytes = bundle_front(rt.alloc())?;
-        bytes.extend_from_slice(&[1, 0, 3, count])?;
-        assert_eq!(rt; read_body(rt.alloc(), &bytes).err(), Some(fault));
+        assert_eq!(rt;
+            fault_behind_front(rt.alloc(), &[1, 0, 3, count])?,
+            Some(fault)
+        );
     }
     Ok(())
 }
 
 #[test]
-fn bundles_without_spelling(rt: HostRuntime) -> Result<(), Fail> {
+fn bundles_without_spelling(rt: HostRuntime) {
     let cases = [
         (0, 65, 1, Fault::TooLong),
         (0, 1, 0, Fault::BadSpelling),
@@ -119,44 +152,63 @@ fn bundles_without_spelling(rt: HostRuntime) -> Result<(), Fail> {
         (0, 65, 0, Fault::TooLong),
     ];
     for (txs, precommits, tags, fault) in cases {
-        let bundle = bundle_of(rt.alloc(), value_of(rt.alloc(), txs)?, precommits, tags)?;
         assert_eq!(rt;
-            spell_body(rt.alloc(), &Body::Bundle(bundle)).err(),
+            bundle_with(rt.alloc(), txs, precommits, tags).err(),
             Some(fault),
             "{txs} transactions, {precommits} precommits, {tags} tags"
         );
     }
-    Ok(())
+}
+
+/// The spelling of a proposal of the empty value with this valid round.
+fn proposal_with(alloc: Global, valid_round: Option<u32>) -> Result<Vec<u8>, Fault> {
+    let proposal = Proposal {
+        height: 1,
+        round: 2,
+        sender: 3,
+        valid_round,
+        value: value_of(alloc, 0)?,
+    };
+    spell_body(alloc, &Body::Proposal(proposal))
+}
+
+/// Whether a proposal with this valid round is read with it again.
+fn valid_round_is_read(alloc: Global, valid_round: Option<u32>) -> Result<bool, Fault> {
+    let bytes = proposal_with(alloc, valid_round)?;
+    let body = read_body(alloc, &bytes)?;
+    Ok(matches!(&body, Body::Proposal(proposal) if proposal.valid_round == valid_round))
 }
 
 #[test]
 fn valid_rounds(rt: HostRuntime) -> Result<(), Fail> {
     let last_good = u32::MAX - 1;
-    let cases = [
-        (None, None),
-        (Some(0), None),
-        (Some(last_good), None),
-        (Some(u32::MAX), Some(Fault::BadSpelling)),
-    ];
-    for (valid_round, fault) in cases {
-        let proposal = Proposal {
-            height: 1,
-            round: 2,
-            sender: 3,
-            valid_round,
-            value: value_of(rt.alloc(), 0)?,
-        };
-        let spelled = spell_body(rt.alloc(), &Body::Proposal(proposal));
-        assert_eq!(rt; spelled.as_ref().err().copied(), fault);
-        if let Ok(bytes) = spelled {
-            let again = read_body(rt.alloc(), &bytes)?;
-            assert!(rt;
-                matches!(&again, Body::Proposal(proposal)
-                if proposal.valid_round == valid_round)
-            );
-        }
+    for valid_round in [None, Some(0), Some(last_good)] {
+        assert!(rt;
+            valid_round_is_read(rt.alloc(), valid_round)?,
+            "{valid_round:?}"
+        );
     }
+    assert_eq!(rt;
+        proposal_with(rt.alloc(), Some(u32::MAX)).err(),
+        Some(Fault::BadSpelling)
+    );
     Ok(())
+}
+
+/// The fault at spelling a close of this client, with this number and so many tags.
+fn fault_of_close(
+    alloc: Global,
+    client: u16,
+    number: u64,
+    tags: usize,
+) -> Result<Option<Fault>, AllocError> {
+    let tx = Tx {
+        client,
+        number,
+        op: Op::Close,
+        tags: nines(alloc, tags)?,
+    };
+    Ok(spell_body(alloc, &Body::Tx(tx)).err())
 }
 
 #[test]
@@ -171,14 +223,8 @@ fn transactions_without_spelling(rt: HostRuntime) -> Result<(), Fail> {
         (1023, 1, 1, Some(Fault::BadSpelling)),
     ];
     for (client, number, tags, fault) in cases {
-        let tx = Tx {
-            client,
-            number,
-            op: Op::Close,
-            tags: nines(rt.alloc(), tags)?,
-        };
         assert_eq!(rt;
-            spell_body(rt.alloc(), &Body::Tx(tx)).err(),
+            fault_of_close(rt.alloc(), client, number, tags)?,
             fault,
             "client {client}, number {number}, {tags} tags"
         );

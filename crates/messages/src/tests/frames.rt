@@ -1,39 +1,52 @@
 //! Messages as frames, and frames that spell none.
 
-use super::{ASK, PREVOTE, nines};
-use crate::{Body, Message, Proposal, body_in, frame_of, read, read_body, spell, spell_body};
-use std::alloc::Global;
+use super::{ASK, PREVOTE, message_of, nines};
+use crate::{Body, Message, Proposal, body_in, frame_of, read, spell};
+use std::alloc::{AllocError, Global};
 use std::test::Fail;
 use transactions::{Fault, Shared, Value};
 
-/// The prevote for nil with this many tags.
-fn prevote_with(alloc: Global, tags: usize) -> Result<Message, Fault> {
-    Ok(Message {
-        body: read_body(alloc, &PREVOTE)?,
-        tags: nines(alloc, tags)?,
-    })
+/// The frame of the prevote for nil with this many tags.
+fn prevote_frame(alloc: Global, tags: usize) -> Result<Vec<u8>, Fault> {
+    let message = message_of(alloc, &PREVOTE, tags)?;
+    spell(alloc, &message)
+}
+
+/// Whether the frame is that of the prevote's bytes with four tags.
+fn is_frame_of_parts(alloc: Global, frame: &[u8]) -> Result<bool, AllocError> {
+    let again = frame_of(alloc, &PREVOTE, &[[9; 32]; 4])?;
+    Ok(again.as_slice() == frame)
 }
 
 #[test]
-fn frame_there_and_back(rt: HostRuntime) -> Result<(), Fail> {
-    let message = prevote_with(rt.alloc(), 4)?;
-    let frame = spell(rt.alloc(), &message)?;
+fn frame_is_spelled(rt: HostRuntime) -> Result<(), Fail> {
+    let frame = prevote_frame(rt.alloc(), 4)?;
     assert_eq!(rt; frame.len(), 149);
     assert_eq!(rt; &frame[..4], [0, 0, 0, 0x91].as_slice());
-    let body = spell_body(rt.alloc(), &message.body)?;
-    assert_eq!(rt; message.tags.len(), 4);
-    let again = frame_of(rt.alloc(), &body, message.tags.as_slice())?;
-    assert_eq!(rt; again.as_slice(), frame.as_slice());
-    let message = read(rt.alloc(), &frame)?;
-    assert!(rt; matches!(&message.body, Body::Vote(vote) if vote.sender == 2));
-    assert!(rt; message.tags == nines(rt.alloc(), 4)?);
-    assert_eq!(rt; body_in(&frame, &message), PREVOTE.as_slice());
+    assert!(rt; is_frame_of_parts(rt.alloc(), &frame)?);
+    Ok(())
+}
+
+/// Whether the frame spells the prevote for nil, with four tags.
+fn spells_prevote(alloc: Global, frame: &[u8]) -> Result<bool, Fault> {
+    let message = read(alloc, frame)?;
+    Ok(
+        matches!(&message.body, Body::Vote(vote) if vote.sender == 2)
+            && message.tags.as_slice() == [[9u8; 32]; 4].as_slice()
+            && body_in(frame, &message) == PREVOTE.as_slice(),
+    )
+}
+
+#[test]
+fn frame_is_read(rt: HostRuntime) -> Result<(), Fail> {
+    let frame = prevote_frame(rt.alloc(), 4)?;
+    assert!(rt; spells_prevote(rt.alloc(), &frame)?);
     Ok(())
 }
 
 #[test]
 fn beginnings_of_a_frame_are_truncated(rt: HostRuntime) -> Result<(), Fail> {
-    let mut frame = spell(rt.alloc(), &prevote_with(rt.alloc(), 4)?)?;
+    let mut frame = prevote_frame(rt.alloc(), 4)?;
     for cut in 0..frame.len() {
         assert_eq!(rt;
             read(rt.alloc(), &frame[..cut]).err(),
@@ -62,6 +75,14 @@ fn frames_without_a_message(rt: HostRuntime) -> Result<(), Fail> {
     Ok(())
 }
 
+/// The fault at the frame of the prevote with these bytes behind it, and this length of its content.
+fn fault_at_tags(alloc: Global, len: u8, tags: &[u8]) -> Result<Option<Fault>, AllocError> {
+    let mut frame = [0, 0, 0, len].to_vec(alloc)?;
+    frame.extend_from_slice(&PREVOTE)?;
+    frame.extend_from_slice(tags)?;
+    Ok(read(alloc, &frame).err())
+}
+
 #[test]
 fn tags_behind_a_body(rt: HostRuntime) -> Result<(), Fail> {
     let cases = [
@@ -70,12 +91,14 @@ fn tags_behind_a_body(rt: HostRuntime) -> Result<(), Fail> {
         (0x11, [65].as_slice(), Fault::TooLong),
     ];
     for (len, tags, fault) in cases {
-        let mut frame = [0, 0, 0, len].to_vec(rt.alloc())?;
-        frame.extend_from_slice(&PREVOTE)?;
-        frame.extend_from_slice(tags)?;
-        assert_eq!(rt; read(rt.alloc(), &frame).err(), Some(fault), "{tags:?}");
+        assert_eq!(rt; fault_at_tags(rt.alloc(), len, tags)?, Some(fault));
     }
-    // A byte behind the tags, within the content.
+    Ok(())
+}
+
+#[test]
+fn byte_behind_the_tags(rt: HostRuntime) -> Result<(), Fail> {
+    // It stands within the content.
     let mut frame = frame_of(rt.alloc(), &ASK, &[[9; 32]])?;
     frame.push(0)?;
     assert_eq!(rt; frame.len(), 49);
@@ -87,22 +110,30 @@ fn tags_behind_a_body(rt: HostRuntime) -> Result<(), Fail> {
 #[test]
 fn messages_without_spelling(rt: HostRuntime) -> Result<(), Fail> {
     for (tags, fault) in [(0, Fault::BadSpelling), (65, Fault::TooLong)] {
-        let message = prevote_with(rt.alloc(), tags)?;
-        assert_eq!(rt; spell(rt.alloc(), &message).err(), Some(fault));
+        assert_eq!(rt; prevote_frame(rt.alloc(), tags).err(), Some(fault));
     }
-    // The body stands before the tags.
-    let proposal = Proposal {
+    Ok(())
+}
+
+/// A proposal of the empty value, without a spelling.
+fn unspellable(alloc: Global) -> Result<Proposal, AllocError> {
+    Ok(Proposal {
         height: 1,
         round: 2,
         sender: 3,
         valid_round: Some(u32::MAX),
         value: Value {
-            txs: Shared::from_vec(rt.alloc(), Vec::new(rt.alloc()))?,
+            txs: Shared::from_vec(alloc, Vec::new(alloc))?,
         },
-    };
+    })
+}
+
+#[test]
+fn body_stands_before_the_tags(rt: HostRuntime) -> Result<(), Fail> {
+    let tags = nines(rt.alloc(), 65)?;
     let message = Message {
-        body: Body::Proposal(proposal),
-        tags: nines(rt.alloc(), 65)?,
+        body: Body::Proposal(unspellable(rt.alloc())?),
+        tags,
     };
     assert_eq!(rt; spell(rt.alloc(), &message).err(), Some(Fault::BadSpelling));
     Ok(())

@@ -27,7 +27,7 @@ enum Says {
 type Scene = (Comes, Says);
 
 /// What was said.
-#[derive(Debug, Drop, PartialEq, Eq)]
+#[derive(Clone, Copy, Debug, PartialEq, Eq)]
 enum Said {
     Nothing,
     Vote(Vote),
@@ -35,11 +35,11 @@ enum Said {
     Else,
 }
 
-fn outcome(mut bodies: Vec<Body>) -> Said {
-    match (bodies.pop(), bodies.pop()) {
-        (None, _) => Said::Nothing,
-        (Some(Body::Vote(vote)), None) => Said::Vote(vote),
-        (Some(Body::Bundle(bundle)), None) if bundle.height == 0 => {
+fn outcome(bodies: &[Body]) -> Said {
+    match bodies {
+        [] => Said::Nothing,
+        [Body::Vote(vote)] => Said::Vote(*vote),
+        [Body::Bundle(bundle)] if bundle.height == 0 => {
             Said::Decision(bundle.sender, bundle.round, bundle.precommits.len())
         }
         _ => Said::Else,
@@ -58,31 +58,37 @@ fn wanted(validator: &Validator, says: Says) -> Result<Said, Fail> {
     })
 }
 
-/// What a validator says after what comes.
-fn play(validator: &mut Validator, comes: Comes) -> Result<Said, Fail> {
-    let mut bodies = Vec::new(validator.alloc);
+/// Lets come what comes. What is let go at once joins these bodies.
+fn bring(validator: &mut Validator, comes: Comes, bodies: &mut Vec<Body>) -> Result<(), Fail> {
     match comes {
         Comes::Proposal(round, number, byte, valid_round) => {
             let value = value_of(validator.alloc, number, byte)?;
-            hear_proposal(validator, round, value, valid_round)?;
+            hear_proposal(validator, round, value, valid_round)
         }
         Comes::Votes(step, round, senders, byte) => {
             let content = id_of(validator.alloc, byte)?;
-            hear_votes(validator, step, round, senders, content)?;
+            hear_votes(validator, step, round, senders, content)
         }
         Comes::Due(kind) => match validator.time_out(kind)? {
-            None => return Err(Fail::new("the timeout does not hold")),
-            Some(fired) => let_go(fired, &mut bodies)?,
+            None => Err(Fail::new("the timeout does not hold")),
+            Some(fired) => let_go(fired, bodies),
         },
     }
+}
+
+/// What a validator says after what comes.
+fn play(validator: &mut Validator, comes: Comes) -> Result<Said, Fail> {
+    let mut bodies = Vec::new(validator.alloc);
+    bring(validator, comes, &mut bodies)?;
     validator.settle(&mut bodies)?;
-    Ok(outcome(bodies))
+    Ok(outcome(&bodies))
 }
 
 fn follow(rt: &impl Abort, validator: &mut Validator, scenes: &[Scene]) -> Result<(), Fail> {
-    for (comes, says) in scenes {
-        let wanted = wanted(validator, *says)?;
-        assert_eq!(rt; play(validator, *comes)?, wanted);
+    for scene in scenes {
+        let (comes, says) = *scene;
+        let wanted = wanted(validator, says)?;
+        assert_eq!(rt; play(validator, comes)?, wanted);
     }
     Ok(())
 }
@@ -103,23 +109,37 @@ const LOCKING: [Scene; 3] = [
     ),
 ];
 
-#[test]
-fn decides(rt: HostRuntime) -> Result<(), Fail> {
-    let mut validator = Validator::new(rt.alloc(), 3, true)?;
-    follow(&rt, &mut validator, &LOCKING)?;
+/// Locks that value, and then follows these scenes.
+fn lock_and_follow(
+    rt: &impl Abort,
+    validator: &mut Validator,
+    scenes: &[Scene],
+) -> Result<(), Fail> {
+    follow(rt, validator, &LOCKING)?;
+    follow(rt, validator, scenes)
+}
+
+fn assert_decided(rt: &impl Abort, state: &State) {
+    let place = (state.height(), state.round(), state.step());
+    assert_eq!(rt; place, (1, 0, Step::Propose));
+    assert_eq!(rt; state.decided().len(), 1);
+    assert!(rt; state.lock().is_none());
+}
+
+fn decide(rt: &impl Abort, validator: &mut Validator) -> Result<(), Fail> {
     let precommits = Comes::Votes(VoteStep::Precommit, 0, (0, 2), Some(b'a'));
-    follow(&rt, &mut validator, &[(precommits, Says::Decision(0, 3))])?;
-    assert_eq!(rt; validator.state.height(), 1);
-    assert_eq!(rt; validator.state.round(), 0);
-    assert_eq!(rt; validator.state.step(), Step::Propose);
-    assert_eq!(rt; validator.state.decided().len(), 1);
-    assert!(rt; validator.state.lock().is_none());
+    lock_and_follow(rt, validator, &[(precommits, Says::Decision(0, 3))])?;
+    assert_decided(rt, &validator.state);
     Ok(())
 }
 
 #[test]
-fn a_value_that_is_not_next(rt: HostRuntime) -> Result<(), Fail> {
+fn decides(rt: HostRuntime) -> Result<(), Fail> {
     let mut validator = Validator::new(rt.alloc(), 3, true)?;
+    decide(&rt, &mut validator)
+}
+
+fn refuse_later_value(rt: &impl Abort, validator: &mut Validator) -> Result<(), Fail> {
     let scenes = [
         (
             Comes::Proposal(0, 3, b'a', None),
@@ -130,9 +150,15 @@ fn a_value_that_is_not_next(rt: HostRuntime) -> Result<(), Fail> {
             Says::Vote(VoteStep::Precommit, 0, None),
         ),
     ];
-    follow(&rt, &mut validator, &scenes)?;
+    follow(rt, validator, &scenes)?;
     assert!(rt; validator.state.lock().is_none());
     Ok(())
+}
+
+#[test]
+fn a_value_that_is_not_next(rt: HostRuntime) -> Result<(), Fail> {
+    let mut validator = Validator::new(rt.alloc(), 3, true)?;
+    refuse_later_value(&rt, &mut validator)
 }
 
 /// It is prevoted nil, and decided all the same.
@@ -156,28 +182,39 @@ fn a_value_with_wrong_tags(rt: HostRuntime) -> Result<(), Fail> {
     follow(&rt, &mut validator, &scenes)
 }
 
+/// After a lock, what is prevoted for the value with this byte in round 1.
+fn prevote_after_lock(
+    rt: &impl Abort,
+    validator: &mut Validator,
+    byte: u8,
+    prevoted: Option<u8>,
+) -> Result<(), Fail> {
+    let scenes = [
+        (Comes::Due(Step::Precommit), Says::Nothing),
+        (
+            Comes::Proposal(1, 1, byte, None),
+            Says::Vote(VoteStep::Prevote, 1, prevoted),
+        ),
+    ];
+    lock_and_follow(rt, validator, &scenes)
+}
+
+#[test]
+fn a_lock_allows_its_value(rt: HostRuntime) -> Result<(), Fail> {
+    let mut validator = Validator::new(rt.alloc(), 3, true)?;
+    prevote_after_lock(&rt, &mut validator, b'a', Some(b'a'))
+}
+
 #[test]
 fn a_lock_forbids_another_value(rt: HostRuntime) -> Result<(), Fail> {
-    for (byte, prevoted) in [(b'a', Some(b'a')), (b'b', None)] {
-        let mut validator = Validator::new(rt.alloc(), 3, true)?;
-        follow(&rt, &mut validator, &LOCKING)?;
-        let scenes = [
-            (Comes::Due(Step::Precommit), Says::Nothing),
-            (
-                Comes::Proposal(1, 1, byte, None),
-                Says::Vote(VoteStep::Prevote, 1, prevoted),
-            ),
-        ];
-        follow(&rt, &mut validator, &scenes)?;
-    }
-    Ok(())
+    let mut validator = Validator::new(rt.alloc(), 3, true)?;
+    prevote_after_lock(&rt, &mut validator, b'b', None)
 }
 
 /// A quorum of round 1 lets go of the lock of round 0: the value of round 1 is decided in round 2.
 #[test]
 fn unlocks(rt: HostRuntime) -> Result<(), Fail> {
     let mut validator = Validator::new(rt.alloc(), 3, true)?;
-    follow(&rt, &mut validator, &LOCKING)?;
     let scenes = [
         (Comes::Due(Step::Precommit), Says::Nothing),
         (
@@ -206,41 +243,47 @@ fn unlocks(rt: HostRuntime) -> Result<(), Fail> {
             Says::Decision(2, 3),
         ),
     ];
-    follow(&rt, &mut validator, &scenes)
+    lock_and_follow(&rt, &mut validator, &scenes)
 }
 
-#[test]
-fn skips_rounds(rt: HostRuntime) -> Result<(), Fail> {
-    let mut validator = Validator::new(rt.alloc(), 3, true)?;
+fn skip_rounds(rt: &impl Abort, validator: &mut Validator) -> Result<(), Fail> {
     for (step, round, sender, skipped_to) in [
         (VoteStep::Prevote, 5, 0, 0),
         (VoteStep::Prevote, 6, 1, 0),
         (VoteStep::Precommit, 5, 1, 5),
     ] {
         let votes = Comes::Votes(step, round, (sender, sender + 1), None);
-        assert_eq!(rt; play(&mut validator, votes)?, Said::Nothing);
+        assert_eq!(rt; play(validator, votes)?, Said::Nothing);
         assert_eq!(rt; validator.state.round(), skipped_to);
     }
+    Ok(())
+}
+
+#[test]
+fn skips_rounds(rt: HostRuntime) -> Result<(), Fail> {
+    let mut validator = Validator::new(rt.alloc(), 3, true)?;
+    skip_rounds(&rt, &mut validator)
+}
+
+/// What a validator says as its round's precommits time out, if it then proposes.
+fn open_next_round(validator: &mut Validator) -> Result<Opening, Fail> {
+    let mut bodies = Vec::new(validator.alloc);
+    bring(validator, Comes::Due(Step::Precommit), &mut bodies)?;
+    validator.settle(&mut bodies)?;
+    opening(validator.alloc, &bodies)
+}
+
+fn propose_again(rt: &impl Abort, validator: &mut Validator) -> Result<(), Fail> {
+    follow(rt, validator, &LOCKING)?;
+    let id = id_of(validator.alloc, Some(b'a'))?;
+    let prevote = vote(VoteStep::Prevote, 1, 1, id);
+    assert_eq!(rt; open_next_round(validator)?, (1, Some(0), id, prevote));
     Ok(())
 }
 
 /// Validator 1 locks a value in round 0. As round 1 begins it proposes it again, and prevotes it.
 #[test]
 fn proposes_the_valid_value(rt: HostRuntime) -> Result<(), Fail> {
-    let id = id_of(rt.alloc(), Some(b'a'))?;
     let mut validator = Validator::new(rt.alloc(), 1, true)?;
-    follow(&rt, &mut validator, &LOCKING)?;
-    let mut bodies = Vec::new(rt.alloc());
-    if let Some(fired) = validator.time_out(Step::Precommit)? {
-        let_go(fired, &mut bodies)?;
-    }
-    validator.settle(&mut bodies)?;
-    match (bodies.pop(), bodies.pop()) {
-        (Some(Body::Vote(last)), Some(Body::Proposal(first))) => {
-            assert_eq!(rt; last, vote(VoteStep::Prevote, 1, 1, id));
-            assert_eq!(rt; (first.round, first.valid_round), (1, Some(0)));
-        }
-        _ => return Err(Fail::new("no proposal and prevote")),
-    }
-    Ok(())
+    propose_again(&rt, &mut validator)
 }

@@ -8,27 +8,23 @@ use super::*;
 use messages::Bundle;
 use round_states::MOST_ROUNDS;
 
-#[test]
-fn proposes(rt: HostRuntime) -> Result<(), Fail> {
-    let id = id_of(rt.alloc(), Some(b'p'))?;
-    let mut validator = Validator::new(rt.alloc(), 0, true)?;
-    let mut bodies = Vec::new(rt.alloc());
+fn propose(rt: &impl Abort, validator: &mut Validator) -> Result<(), Fail> {
+    let mut bodies = Vec::new(validator.alloc);
     validator.settle(&mut bodies)?;
-    match (bodies.pop(), bodies.pop()) {
-        (Some(Body::Vote(last)), Some(Body::Proposal(first))) => {
-            assert_eq!(rt; last, vote(VoteStep::Prevote, 0, 0, id));
-            assert_eq!(rt; Some(value_id(rt.alloc(), &first.value)?), id);
-            assert_eq!(rt; (first.round, first.valid_round), (0, None));
-        }
-        _ => return Err(Fail::new("no proposal and prevote")),
-    }
+    let id = id_of(validator.alloc, Some(b'p'))?;
+    let prevote = vote(VoteStep::Prevote, 0, 0, id);
+    assert_eq!(rt; opening(validator.alloc, &bodies)?, (0, None, id, prevote));
     Ok(())
 }
 
 #[test]
-fn timeouts(rt: HostRuntime) -> Result<(), Fail> {
-    let mut validator = Validator::new(rt.alloc(), 3, true)?;
-    validator.settle(&mut Vec::new(rt.alloc()))?;
+fn proposes(rt: HostRuntime) -> Result<(), Fail> {
+    let mut validator = Validator::new(rt.alloc(), 0, true)?;
+    propose(&rt, &mut validator)
+}
+
+/// Which timeouts hold in round 0 before a proposal comes.
+fn time_out_each(rt: &impl Abort, state: &State) {
     for (kind, height, round, holds) in [
         (Step::Propose, 0, 0, true),
         (Step::Propose, 1, 0, false),
@@ -41,30 +37,46 @@ fn timeouts(rt: HostRuntime) -> Result<(), Fail> {
             height,
             round,
         };
-        assert_eq!(rt; holds_timeout(&validator.state, timeout), holds);
-        assert_eq!(rt; timeout_refusal(&validator.state, timeout), None);
+        assert_eq!(rt; holds_timeout(state, timeout), holds);
+        assert_eq!(rt; timeout_refusal(state, timeout), None);
     }
+}
+
+fn await_proposal(rt: &impl Abort, validator: &mut Validator) -> Result<(), Fail> {
+    validator.settle_unheard()?;
+    time_out_each(rt, &validator.state);
     Ok(())
 }
 
-/// It ends by no timeout.
 #[test]
-fn the_last_round(rt: HostRuntime) -> Result<(), Fail> {
+fn timeouts(rt: HostRuntime) -> Result<(), Fail> {
     let mut validator = Validator::new(rt.alloc(), 3, true)?;
-    hear_votes(&mut validator, VoteStep::Prevote, MOST_ROUNDS, (0, 2), None)?;
-    validator.settle(&mut Vec::new(rt.alloc()))?;
-    assert_eq!(rt; validator.state.round(), 1_000_000);
+    await_proposal(&rt, &mut validator)
+}
+
+/// It ends by no timeout.
+fn end_last_round(rt: &impl Abort, state: &State) {
+    assert_eq!(rt; state.round(), 1_000_000);
     let timeout = Timeout {
         kind: Step::Precommit,
         height: 0,
         round: 1_000_000,
     };
-    assert!(rt; !holds_timeout(&validator.state, timeout));
-    assert_eq!(rt;
-        timeout_refusal(&validator.state, timeout),
-        Some(Refusal::RoundLimit)
-    );
+    assert!(rt; !holds_timeout(state, timeout));
+    assert_eq!(rt; timeout_refusal(state, timeout), Some(Refusal::RoundLimit));
+}
+
+fn skip_to_last_round(rt: &impl Abort, validator: &mut Validator) -> Result<(), Fail> {
+    hear_votes(validator, VoteStep::Prevote, MOST_ROUNDS, (0, 2), None)?;
+    validator.settle_unheard()?;
+    end_last_round(rt, &validator.state);
     Ok(())
+}
+
+#[test]
+fn the_last_round(rt: HostRuntime) -> Result<(), Fail> {
+    let mut validator = Validator::new(rt.alloc(), 3, true)?;
+    skip_to_last_round(&rt, &mut validator)
 }
 
 /// Validator 0 at the beginning.
@@ -75,21 +87,31 @@ fn first_of_four(alloc: Global) -> Result<State, Fail>
     Ok(State::new(alloc, powers, 0))
 }
 
-#[test]
+/// A proposal's sender and round.
+fn place_in(body: Option<Body>) -> Option<(u16, u32)> {
+    match body {
+        Some(Body::Proposal(proposal)) => Some((proposal.sender, proposal.round)),
+        _ => None,
+    }
+}
+
 #[tactic(auto, unfolding(protocol::specs::Restart::restart))]
-fn foretells(rt: HostRuntime) -> Result<(), Fail> {
-    let state = first_of_four(rt.alloc())?;
+fn foretell_start(rt: &impl Abort, state: &State, alloc: Global) -> Result<(), Fail>
+    requires { (state.now.state ≡ restart 0 []) × (state.now.me ≡ 0) × (state.now.genuine ≡ []) }
+{
     let input = Input::Picked(Picked {
-        value: value_of(rt.alloc(), 1, b'p')?,
+        value: value_of(alloc, 1, b'p')?,
         genuine: true,
     });
-    match next_message(&state, Rule::Start, &input)? {
-        Some(Body::Proposal(proposal)) => {
-            assert_eq!(rt; (proposal.sender, proposal.round), (0, 0));
-        }
-        _ => return Err(Fail::new("no proposal")),
-    }
+    let message = next_message(state, Rule::Start, &input)?;
+    assert_eq!(rt; place_in(message), Some((0, 0)));
     Ok(())
+}
+
+#[test]
+fn foretells(rt: HostRuntime) -> Result<(), Fail> {
+    let state = first_of_four(rt.alloc())?;
+    foretell_start(&rt, &state, rt.alloc())
 }
 
 /// Decides by a bundle of validator 1, of which every precommit is right.
@@ -113,19 +135,34 @@ fn decide_by(state: &mut State, alloc: Global, value: Value) -> Result<Option<Fi
     Ok(Some(decide_by_bundle(state, bundle)?))
 }
 
+/// The sender and the round of the bundle that a firing lets go.
+fn bundle_in(fired: Fired) -> Option<(u16, u32)> {
+    let Fired {
+        unsaved,
+        timeout: _,
+    } = fired;
+    match release(unsaved?) {
+        Body::Bundle(bundle) => Some((bundle.sender, bundle.round)),
+        _ => None,
+    }
+}
+
+fn take_decision(rt: &impl Abort, state: &mut State, alloc: Global) -> Result<(), Fail>
+    requires { (state.old.state.height ≡ 0) × (state.old.state.proposals ≡ []) × (state.old.genuine ≡ []) }
+{
+    let value = value_of(alloc, 1, b'a')?;
+    let bundle = match decide_by(state, alloc, value)? {
+        None => None,
+        Some(fired) => bundle_in(fired),
+    };
+    assert_eq!(rt; bundle, Some((0, 4)));
+    assert_eq!(rt; state.height(), 1);
+    Ok(())
+}
+
 #[test]
 #[tactic(auto, unfolding(protocol::specs::Restart::restart))]
 fn decides_by_a_bundle(rt: HostRuntime) -> Result<(), Fail> {
     let mut state = first_of_four(rt.alloc())?;
-    let value = value_of(rt.alloc(), 1, b'a')?;
-    let mut bodies = Vec::new(rt.alloc());
-    if let Some(fired) = decide_by(&mut state, rt.alloc(), value)? {
-        let_go(fired, &mut bodies)?;
-    }
-    match bodies.pop() {
-        Some(Body::Bundle(bundle)) => assert_eq!(rt; (bundle.sender, bundle.round), (0, 4)),
-        _ => return Err(Fail::new("no decision")),
-    }
-    assert_eq!(rt; state.height(), 1);
-    Ok(())
+    take_decision(&rt, &mut state, rt.alloc())
 }
