@@ -1,6 +1,9 @@
 //! Validator 3 of four of power 1. The key of what validator S sends to it is 32 times the byte 0xSS, and that of what
 //! client C sends 32 times the byte 0xCC.
 
+ghost use Rattle.std.specs.Prelude.{◌≡◌, IfOk, length};
+ghost use Rattle.protocol.specs.Tags.{Validator};
+
 mod answers;
 mod bundles;
 mod memory;
@@ -16,7 +19,7 @@ use powers::Powers;
 use std::alloc::Global;
 use std::process::Abort;
 use std::test::Fail;
-use transactions::{Id, Value, read_value};
+use transactions::{Id, Value, read_value, value_id};
 
 const KEYS: &[u8] = b"v0 v3 0000000000000000000000000000000000000000000000000000000000000000
 v1 v3 1111111111111111111111111111111111111111111111111111111111111111
@@ -29,6 +32,45 @@ c7 v3 7777777777777777777777777777777777777777777777777777777777777777
 c8 v3 8888888888888888888888888888888888888888888888888888888888888888
 ";
 
+/// What is answered to a frame.
+type Answer = Result<(), Refusal>;
+
+/// A validator's ring among so many.
+fn ring_of(
+    rt: &impl Abort,
+    alloc: Global,
+    keys: &[u8],
+    me: u16,
+    count: u16,
+) -> Result<KeyRing, Fail>
+    ensures { IfOk result (λ ring. (ring.me ≡ Validator me) × (ring.count ≡ count)) }
+{
+    let ring = KeyRing::read(alloc, keys, Party::Validator(me), count)?;
+    assert_ring(rt, &ring, me, count);
+    Ok(ring)
+}
+
+fn assert_ring(rt: &impl Abort, ring: &KeyRing, me: u16, count: u16)
+    ensures { (ring.now.me ≡ Validator me) × (ring.now.count ≡ count) }
+{
+    assert_eq!(rt; ring.me(), Party::Validator(me));
+    assert_eq!(rt; ring.count(), count);
+}
+
+fn powers_of(rt: &impl Abort, each: Vec<u32>) -> Result<Powers, Fail>
+    ensures { IfOk result (λ powers. length powers ≡ length each.items) }
+{
+    let count = each.len();
+    let powers = Powers::new(each)?;
+    assert_eq!(rt; usize::from(powers.count()), count);
+    Ok(powers)
+}
+
+fn begin(rt: &impl Abort, core: &mut NodeCore) {
+    assert!(rt; !core.is_settled());
+    assert_eq!(rt; core.settle(), Ok(()));
+}
+
 /// The validator and what comes to it.
 #[derive(Drop)]
 struct Node {
@@ -39,14 +81,10 @@ struct Node {
 impl Node {
     /// It has begun.
     fn new(rt: &impl Abort, alloc: Global) -> Result<Node, Fail> {
-        let ring = KeyRing::read(alloc, KEYS, Party::Validator(3), 4)?;
-        let powers = Powers::new(vec![in alloc; 1, 1, 1, 1]?)?;
-        assert_eq!(rt; ring.me(), Party::Validator(3));
-        assert_eq!(rt; ring.count(), 4);
-        assert_eq!(rt; powers.count(), 4);
+        let powers = powers_of(rt, vec![in alloc; 1, 1, 1, 1]?)?;
+        let ring = ring_of(rt, alloc, KEYS, 3, 4)?;
         let mut core = NodeCore::open(alloc, Config { me: 3, powers }, ring);
-        assert!(rt; !core.is_settled());
-        assert_eq!(rt; core.settle(), Ok(()));
+        begin(rt, &mut core);
         Ok(Node { alloc, core })
     }
 
@@ -59,7 +97,7 @@ impl Node {
     }
 
     /// What is answered to that frame.
-    fn told(&mut self, rt: &impl Abort, key: u8, body: &Body) -> Result<Result<(), Refusal>, Fail> {
+    fn told(&mut self, rt: &impl Abort, key: u8, body: &Body) -> Result<Answer, Fail> {
         let frame = self.frame(rt, key, body)?;
         Ok(self.core.handle(&frame))
     }
@@ -67,12 +105,18 @@ impl Node {
     /// The value of one transaction of client 7 with this number, the byte 0x61 under right tags.
     fn value(&self, number: u8) -> Result<Value, Fail> {
         let tx = [1, 0, 7, 0, 0, 0, 0, 0, 0, 0, number, 0, 0, 1, 0x61];
-        let mut bytes = [0, 1].to_vec(self.alloc)?;
-        bytes.extend_from_slice(&tx)?;
-        bytes.push(4)?;
-        bytes.extend_from_slice(&[0; 96])?;
-        bytes.extend_from_slice(&hmac(&[0x77; 32], &tx))?;
+        let mut bytes = [0u8; 146];
+        bytes[1] = 1;
+        bytes[2..17].copy_from_slice(&tx);
+        bytes[17] = 4;
+        bytes[114..].copy_from_slice(&hmac(&[0x77; 32], &tx));
         Ok(read_value(self.alloc, &bytes)?)
+    }
+
+    /// Its id.
+    fn id(&self, number: u8) -> Result<Id, Fail> {
+        let value = self.value(number)?;
+        Ok(value_id(self.alloc, &value)?)
     }
 
     /// A proposal of the value with this number.

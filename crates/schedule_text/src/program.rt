@@ -1,6 +1,7 @@
 //! The program, after its file was opened.
 
-ghost use Rattle.std.specs.Prelude.{◌≡◌, ◌≢◌, ◌≤◌, ◌⊎◌, IfErr};
+ghost use Rattle.std.specs.Prelude.{◌≡◌, ◌≢◌, ◌≤◌, ◌⊎◌, IfErr, OnOk};
+ghost use Rattle.std.specs.Io.KnownBytes.{IsAtEnd};
 ghost use Rattle.schedule_text.specs.Failures.{status_of};
 
 use crate::fault::{EventFault, Failure};
@@ -30,6 +31,9 @@ pub fn simulate<R: BufRead, W: Write, E: Write>(
 ) -> u8
     ensures status { (result ≡ 0) ⊎ ((2 ≤ result) × (result ≤ 5)) }
     ensures quiet { result ≡ 2 → out.new ≡ out.old }
+
+    // Nothing of the text is left unread.
+    ensures read { result ≡ 0 → IsAtEnd (R.remaining reader.new) }
 {
     match report(alloc, name, reader, out) {
         Ok(()) => 0,
@@ -58,7 +62,8 @@ fn report<'a, R: BufRead, W: Write>(
     reader: &mut R,
     out: &mut W,
 ) -> Result<(), Failure<'a>>
-    ensures { IfErr result (λ failure. status_of failure ≡ 2 → out.new ≡ out.old) }
+    ensures quiet { IfErr result (λ failure. status_of failure ≡ 2 → out.new ≡ out.old) }
+    ensures read { OnOk result (IsAtEnd (R.remaining reader.new)) }
 {
     let text = read_text(alloc, name, reader)?;
     let schedule = Schedule::read(alloc, &text)?;
@@ -74,7 +79,9 @@ fn read_text<'a, R: BufRead>(
     alloc: Global,
     name: &'a str,
     reader: &mut R,
-) -> Result<Vec<u8>, Failure<'a>> {
+) -> Result<Vec<u8>, Failure<'a>>
+    ensures { OnOk result (IsAtEnd (R.remaining reader.new)) }
+{
     let mut text = Vec::new(alloc);
     match reader.read_to_end(&mut text) {
         Ok(_) => Ok(text),

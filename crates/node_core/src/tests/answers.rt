@@ -3,10 +3,9 @@
 use crate::Refusal;
 use height_catchup::JudgeFault;
 use mempool::SubmitFault;
-use std::test::Fail;
 
 #[test]
-fn refusals_are_numbered(rt: HostRuntime) -> Result<(), Fail> {
+fn refusals_are_numbered(rt: HostRuntime) {
     for (refusal, number, inner) in [
         (Refusal::Truncated, 1, 0),
         (Refusal::TooLong, 2, 0),
@@ -36,5 +35,4 @@ fn refusals_are_numbered(rt: HostRuntime) -> Result<(), Fail> {
         assert_eq!(rt; refusal.number(), number);
         assert_eq!(rt; refusal.inner(), inner);
     }
-    Ok(())
 }

@@ -1,6 +1,6 @@
 //! Decisions by bundles, and asks for them.
 
-use super::{Node, vote};
+use super::{Answer, Node, vote};
 use crate::Refusal;
 use authenticators::hmac;
 use height_catchup::JudgeFault;
@@ -8,22 +8,15 @@ use messages::{Ask, Body, Bundle, Precommit, Step, frame_of, spell_body};
 use std::alloc::Global;
 use std::process::Abort;
 use std::test::Fail;
-use transactions::{Id, Seq, value_id};
+use transactions::{Id, Seq};
 
 /// The right precommits of a quorum, each as its sender and the byte of its key.
 pub(super) const RIGHT: [(u16, u8); 3] = [(0, 0x00), (1, 0x11), (2, 0x22)];
 
-/// A bundle's height, the number of its value, an id that is not its value's, its precommits and its key; and the answer.
-type Bundled<'a> = (
-    u64,
-    u8,
-    Option<Id>,
-    &'a [(u16, u8)],
-    u8,
-    Result<(), Refusal>,
-);
+/// A bundle's height, the number of its value, an id that is not its value's, its precommits and its key.
+type Bundled<'a> = (u64, u8, Option<Id>, &'a [(u16, u8)], u8);
 
-fn decides_nothing(fault: JudgeFault) -> Result<(), Refusal> {
+fn decides_nothing(fault: JudgeFault) -> Answer {
     Err(Refusal::Bundle(fault))
 }
 
@@ -38,6 +31,22 @@ fn precommit(alloc: Global, id: Id, sender: u16, key: u8) -> Result<Precommit, F
     })
 }
 
+/// These precommits.
+fn precommits(alloc: Global, id: Id, signers: &[(u16, u8)]) -> Result<Seq<Precommit>, Fail> {
+    let mut signed = Seq::new(alloc);
+    for signer in signers {
+        let (sender, key) = *signer;
+        signed.push(precommit(alloc, id, sender, key)?)?;
+    }
+    Ok(signed)
+}
+
+fn assert_frames(rt: &impl Abort, frames: &[Vec<u8>], first: &[u8], second: &[u8]) {
+    assert_eq!(rt; frames.len(), 2);
+    assert_eq!(rt; frames[0].as_slice(), first);
+    assert_eq!(rt; frames[1].as_slice(), second);
+}
+
 impl Node {
     /// Validator 0's bundle of the value with this number, under its own id or another one.
     pub(super) fn bundle(
@@ -45,22 +54,25 @@ impl Node {
         height: u64,
         number: u8,
         other: Option<Id>,
-        precommits: &[(u16, u8)],
+        signers: &[(u16, u8)],
     ) -> Result<Bundle, Fail> {
-        let value = self.value(number)?;
-        let id = other.unwrap_or(value_id(self.alloc, &value)?);
-        let mut signed = Seq::new(self.alloc);
-        for (sender, key) in precommits {
-            signed.push(precommit(self.alloc, id, *sender, *key)?)?;
-        }
+        let id = other.unwrap_or(self.id(number)?);
+        let precommits = precommits(self.alloc, id, signers)?;
         Ok(Bundle {
             height,
             sender: 0,
             round: 1_000_001,
             id,
-            value,
-            precommits: signed,
+            value: self.value(number)?,
+            precommits,
         })
+    }
+
+    /// What is answered to such a bundle.
+    fn told_bundle(&mut self, rt: &impl Abort, bundled: Bundled) -> Result<Answer, Fail> {
+        let (height, number, other, signers, key) = bundled;
+        let bundle = Body::Bundle(self.bundle(height, number, other, signers)?);
+        self.told(rt, key, &bundle)
     }
 
     /// The frame that this validator lets out of a body.
@@ -72,43 +84,55 @@ impl Node {
         Ok(frame_of(self.alloc, &spelled, &[others, others, others, own])?)
     }
 
-    fn judges_bundles(&mut self, rt: &impl Abort, cases: &[Bundled]) -> Result<(), Fail> {
-        for (height, number, other, precommits, key, answer) in cases {
-            let bundle = self.bundle(*height, *number, *other, precommits)?;
-            assert_eq!(rt; self.told(rt, *key, &Body::Bundle(bundle))?, *answer);
+    fn judges_bundles(&mut self, rt: &impl Abort, cases: &[(Bundled, Answer)]) -> Result<(), Fail> {
+        for case in cases {
+            let (bundled, answer) = *case;
+            assert_eq!(rt; self.told_bundle(rt, bundled)?, answer);
         }
         assert_eq!(rt; self.core.height(), 1);
         Ok(())
     }
 
     /// Height 0 is decided by a bundle, and two asks go: another's for it, and the own one for the next.
-    fn is_asked(&mut self, rt: &impl Abort, bundle: Bundle) -> Result<(), Fail> {
-        assert_eq!(rt; self.told(rt, 0x00, &Body::Bundle(bundle))?, Ok(()));
+    fn is_asked(&mut self, rt: &impl Abort) -> Result<(), Fail> {
+        assert_eq!(rt; self.told_bundle(rt, (0, 1, None, &RIGHT, 0x00))?, Ok(()));
         assert_eq!(rt; self.core.outgoing().len(), 0);
-        let ask = Body::Ask(Ask {
-            height: 0,
-            sender: 1,
-        });
-        assert_eq!(rt; self.told(rt, 0x11, &ask)?, Ok(()));
+        assert_eq!(rt; self.told_ask(rt, 1, 0x11)?, Ok(()));
         assert_eq!(rt; self.core.ask(), Ok(()));
         Ok(())
     }
 
-    fn answers_an_ask(&mut self, rt: &impl Abort) -> Result<(), Fail> {
-        let came = self.bundle(0, 1, None, &RIGHT)?;
-        self.is_asked(rt, came)?;
+    /// What is answered to an ask for height 0.
+    pub(super) fn told_ask(
+        &mut self,
+        rt: &impl Abort,
+        sender: u16,
+        key: u8,
+    ) -> Result<Answer, Fail> {
+        self.told(rt, key, &Body::Ask(Ask { height: 0, sender }))
+    }
+
+    /// The frame of the own bundle for height 0.
+    fn own_bundle(&self, rt: &impl Abort) -> Result<Vec<u8>, Fail> {
         let mut bundle = self.bundle(0, 1, None, &RIGHT)?;
         bundle.sender = 3;
-        let wanted = self.own_frame(rt, &Body::Bundle(bundle))?;
-        let ask = Body::Ask(Ask {
+        self.own_frame(rt, &Body::Bundle(bundle))
+    }
+
+    /// The frame of the own ask for height 1.
+    fn own_ask(&self, rt: &impl Abort) -> Result<Vec<u8>, Fail> {
+        let ask = Ask {
             height: 1,
             sender: 3,
-        });
-        let asked = self.own_frame(rt, &ask)?;
-        let frames = self.core.outgoing();
-        assert_eq!(rt; frames.len(), 2);
-        assert_eq!(rt; frames[0].as_slice(), wanted.as_slice());
-        assert_eq!(rt; frames[1].as_slice(), asked.as_slice());
+        };
+        self.own_frame(rt, &Body::Ask(ask))
+    }
+
+    fn answers_an_ask(&mut self, rt: &impl Abort) -> Result<(), Fail> {
+        self.is_asked(rt)?;
+        let bundle = self.own_bundle(rt)?;
+        let ask = self.own_ask(rt)?;
+        assert_frames(rt, &self.core.outgoing(), &bundle, &ask);
         Ok(())
     }
 }
@@ -120,45 +144,21 @@ fn causes_against_a_bundle(rt: HostRuntime) -> Result<(), Fail> {
     let few = [(0, 0x00), (1, 0x22), (1, 0x11)];
     let wrong = [(0, 0x00), (1, 0x11), (2, 0x11)];
     let other = Some([7; 32]);
+    let wrong_digest = decides_nothing(JudgeFault::WrongDigest);
+    let no_quorum = decides_nothing(JudgeFault::NoQuorum);
+    let bad_tag = decides_nothing(JudgeFault::BadTag);
+    let not_valid = decides_nothing(JudgeFault::NotValid);
     node.judges_bundles(
         &rt,
         &[
-            (1, 2, other, &few, 0x99, Err(Refusal::BadTag)),
-            (1, 2, other, &few, 0x00, Err(Refusal::OtherHeight)),
-            (
-                0,
-                2,
-                other,
-                &few,
-                0x00,
-                decides_nothing(JudgeFault::WrongDigest),
-            ),
-            (
-                0,
-                2,
-                None,
-                &few,
-                0x00,
-                decides_nothing(JudgeFault::NoQuorum),
-            ),
-            (
-                0,
-                2,
-                None,
-                &wrong,
-                0x00,
-                decides_nothing(JudgeFault::BadTag),
-            ),
-            (
-                0,
-                2,
-                None,
-                &RIGHT,
-                0x00,
-                decides_nothing(JudgeFault::NotValid),
-            ),
-            (0, 1, None, &RIGHT, 0x00, Ok(())),
-            (0, 1, None, &RIGHT, 0x00, Err(Refusal::OtherHeight)),
+            ((1, 2, other, &few, 0x99), Err(Refusal::BadTag)),
+            ((1, 2, other, &few, 0x00), Err(Refusal::OtherHeight)),
+            ((0, 2, other, &few, 0x00), wrong_digest),
+            ((0, 2, None, &few, 0x00), no_quorum),
+            ((0, 2, None, &wrong, 0x00), bad_tag),
+            ((0, 2, None, &RIGHT, 0x00), not_valid),
+            ((0, 1, None, &RIGHT, 0x00), Ok(())),
+            ((0, 1, None, &RIGHT, 0x00), Err(Refusal::OtherHeight)),
         ],
     )
 }

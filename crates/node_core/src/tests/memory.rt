@@ -8,7 +8,7 @@ use messages::{Ask, Body, Step as VoteStep};
 use protocol::Step;
 use std::process::Abort;
 use std::test::Fail;
-use transactions::value_id;
+use transactions::Id;
 
 impl Node {
     /// Takes the frame in, and once more where memory was refused: it may have been taken in by then.
@@ -34,33 +34,52 @@ impl Node {
         Ok(())
     }
 
-    fn decides_by_votes(&mut self, rt: &impl Abort) -> Result<(), Fail> {
-        let id = value_id(self.alloc, &self.value(1)?)?;
-        let proposal = self.proposal(0, 0, 0, 1)?;
-        let frame = self.frame(rt, 0x00, &proposal)?;
-        self.takes_in(rt, &frame)?;
+    /// Takes the frame of a body in.
+    fn takes(&mut self, rt: &impl Abort, key: u8, body: &Body) -> Result<(), Fail> {
+        let frame = self.frame(rt, key, body)?;
+        self.takes_in(rt, &frame)
+    }
+
+    fn takes_votes(&mut self, rt: &impl Abort, id: Id) -> Result<(), Fail> {
         for (step, sender, key) in [
             (VoteStep::Prevote, 0, 0x00),
             (VoteStep::Prevote, 1, 0x11),
             (VoteStep::Precommit, 0, 0x00),
             (VoteStep::Precommit, 1, 0x11),
         ] {
-            let frame = self.frame(rt, key, &vote(step, 0, sender, Some(id)))?;
-            self.takes_in(rt, &frame)?;
+            self.takes(rt, key, &vote(step, 0, sender, Some(id)))?;
         }
+        Ok(())
+    }
+
+    fn takes_a_proposal(&mut self, rt: &impl Abort) -> Result<(), Fail> {
+        let proposal = self.proposal(0, 0, 0, 1)?;
+        self.takes(rt, 0x00, &proposal)
+    }
+
+    fn takes_a_bundle(&mut self, rt: &impl Abort) -> Result<(), Fail> {
+        let bundle = Body::Bundle(self.bundle(0, 1, None, &RIGHT)?);
+        self.takes(rt, 0x00, &bundle)
+    }
+
+    fn takes_an_ask(&mut self, rt: &impl Abort) -> Result<(), Fail> {
+        let ask = Ask {
+            height: 0,
+            sender: 1,
+        };
+        self.takes(rt, 0x11, &Body::Ask(ask))
+    }
+
+    fn decides_by_votes(&mut self, rt: &impl Abort) -> Result<(), Fail> {
+        self.takes_a_proposal(rt)?;
+        let id = self.id(1)?;
+        self.takes_votes(rt, id)?;
         self.has_decided(rt, 2)
     }
 
     fn decides_by_a_bundle(&mut self, rt: &impl Abort) -> Result<(), Fail> {
-        let bundle = Body::Bundle(self.bundle(0, 1, None, &RIGHT)?);
-        let decided = self.frame(rt, 0x00, &bundle)?;
-        let ask = Body::Ask(Ask {
-            height: 0,
-            sender: 1,
-        });
-        let asked = self.frame(rt, 0x11, &ask)?;
-        self.takes_in(rt, &decided)?;
-        self.takes_in(rt, &asked)?;
+        self.takes_a_bundle(rt)?;
+        self.takes_an_ask(rt)?;
         self.has_decided(rt, 1)
     }
 

@@ -1,6 +1,6 @@
 //! Transactions that come to a validator.
 
-use super::Node;
+use super::{Answer, Node};
 use crate::Refusal;
 use mempool::SubmitFault;
 use messages::Body;
@@ -17,7 +17,7 @@ impl Node {
         client: u16,
         number: u64,
         closes: bool,
-    ) -> Result<Result<(), Refusal>, Fail> {
+    ) -> Result<Answer, Fail> {
         let op = if closes {
             Op::Close
         } else {
@@ -40,19 +40,25 @@ impl Node {
         Ok(())
     }
 
-    /// Where client 7 has 64 transactions queued, and client 8 has 64 of which the last is its close. Each that comes has
-    /// the later causes too, as far as they can stand beside the first.
+    /// Client 7 has 64 transactions queued, and client 8 has 64 of which the last is its close.
+    fn fill_queues(&mut self, rt: &impl Abort) -> Result<(), Fail> {
+        self.fill(rt, 0x77, 7, 64)?;
+        self.fill(rt, 0x88, 8, 63)?;
+        assert_eq!(rt; self.told_of(rt, 0x88, 8, 64, true)?, Ok(()));
+        Ok(())
+    }
+
+    /// Where the queues are full. Each that comes has the later causes too, as far as they can stand beside the first.
     fn refuses_transactions(
         &mut self,
         rt: &impl Abort,
         cases: &[(u8, u16, u64, SubmitFault)],
     ) -> Result<(), Fail> {
-        self.fill(rt, 0x77, 7, 64)?;
-        self.fill(rt, 0x88, 8, 63)?;
-        assert_eq!(rt; self.told_of(rt, 0x88, 8, 64, true)?, Ok(()));
-        for (key, client, number, fault) in cases {
-            let answer = self.told_of(rt, *key, *client, *number, false)?;
-            assert_eq!(rt; answer, Err(Refusal::Submit(*fault)));
+        self.fill_queues(rt)?;
+        for case in cases {
+            let (key, client, number, fault) = *case;
+            let answer = self.told_of(rt, key, client, number, false)?;
+            assert_eq!(rt; answer, Err(Refusal::Submit(fault)));
         }
         Ok(())
     }

@@ -1,8 +1,8 @@
 //! Which cause is told of several. Each frame has the later ones too, as far as they can stand beside the first.
 
-use super::{Node, vote};
+use super::{Answer, Node, vote};
 use crate::Refusal;
-use messages::{Ask, Body, Step};
+use messages::Step;
 use std::process::Abort;
 use std::test::Fail;
 use transactions::Id;
@@ -18,26 +18,20 @@ type Prevoted = (u32, u16, u8, Option<Id>);
 
 impl Node {
     fn refuses(&mut self, rt: &impl Abort, cases: &[(&[u8], Refusal)]) -> Result<(), Fail> {
-        for (frame, cause) in cases {
-            assert_eq!(rt; self.core.handle(frame), Err(*cause));
+        for case in cases {
+            let (frame, cause) = *case;
+            assert_eq!(rt; self.core.handle(frame), Err(cause));
         }
         Ok(())
     }
 
-    /// That prevote and so many further bytes, of which these are the first and the others are zeros, are refused.
-    fn refuses_rest(
-        &mut self,
-        rt: &impl Abort,
-        len: u8,
-        first: &[u8],
-        cause: Refusal,
-    ) -> Result<(), Fail> {
+    /// What is answered to that prevote and so many further bytes, of which these are the first and the others are zeros.
+    fn told_rest(&mut self, len: u8, first: &[u8]) -> Result<Answer, Fail> {
         let mut frame = [0, 0, 0, len].to_vec(self.alloc)?;
         frame.extend_from_slice(&PREVOTE)?;
         frame.extend_from_slice(first)?;
         frame.resize(usize::from(len) + 4, 0)?;
-        assert_eq!(rt; self.core.handle(&frame), Err(cause));
-        Ok(())
+        Ok(self.core.handle(&frame))
     }
 
     fn refuses_rests(
@@ -45,20 +39,32 @@ impl Node {
         rt: &impl Abort,
         cases: &[(u8, &[u8], Refusal)],
     ) -> Result<(), Fail> {
-        for (len, first, cause) in cases {
-            self.refuses_rest(rt, *len, first, *cause)?;
+        for case in cases {
+            let (len, first, cause) = *case;
+            assert_eq!(rt; self.told_rest(len, first)?, Err(cause));
         }
         Ok(())
+    }
+
+    fn told_proposal(&mut self, rt: &impl Abort, proposed: Proposed) -> Result<Answer, Fail> {
+        let (height, round, sender, key, number) = proposed;
+        let body = self.proposal(height, round, sender, number)?;
+        self.told(rt, key, &body)
+    }
+
+    fn told_prevote(&mut self, rt: &impl Abort, prevoted: Prevoted) -> Result<Answer, Fail> {
+        let (round, sender, key, content) = prevoted;
+        self.told(rt, key, &vote(Step::Prevote, round, sender, content))
     }
 
     fn judges_proposals(
         &mut self,
         rt: &impl Abort,
-        cases: &[(Proposed, Result<(), Refusal>)],
+        cases: &[(Proposed, Answer)],
     ) -> Result<(), Fail> {
-        for ((height, round, sender, key, number), answer) in cases {
-            let body = self.proposal(*height, *round, *sender, *number)?;
-            assert_eq!(rt; self.told(rt, *key, &body)?, *answer);
+        for case in cases {
+            let (proposed, answer) = *case;
+            assert_eq!(rt; self.told_proposal(rt, proposed)?, answer);
         }
         Ok(())
     }
@@ -66,11 +72,11 @@ impl Node {
     fn judges_prevotes(
         &mut self,
         rt: &impl Abort,
-        cases: &[(Prevoted, Result<(), Refusal>)],
+        cases: &[(Prevoted, Answer)],
     ) -> Result<(), Fail> {
-        for ((round, sender, key, content), answer) in cases {
-            let body = vote(Step::Prevote, *round, *sender, *content);
-            assert_eq!(rt; self.told(rt, *key, &body)?, *answer);
+        for case in cases {
+            let (prevoted, answer) = *case;
+            assert_eq!(rt; self.told_prevote(rt, prevoted)?, answer);
         }
         Ok(())
     }
@@ -81,7 +87,7 @@ impl Node {
             let [high, low] = number.to_be_bytes();
             let mut id = [high; 32];
             id[31] = low;
-            self.judges_prevotes(rt, &[((0, 0, 0x00, Some(id)), Ok(()))])?;
+            assert_eq!(rt; self.told_prevote(rt, (0, 0, 0x00, Some(id)))?, Ok(()));
         }
         Ok(())
     }
@@ -116,12 +122,9 @@ impl Node {
 
     /// An ask for the own height.
     fn refuses_asks(&mut self, rt: &impl Abort, cases: &[(u16, u8, Refusal)]) -> Result<(), Fail> {
-        for (sender, key, cause) in cases {
-            let body = Body::Ask(Ask {
-                height: 0,
-                sender: *sender,
-            });
-            assert_eq!(rt; self.told(rt, *key, &body)?, Err(*cause));
+        for case in cases {
+            let (sender, key, cause) = *case;
+            assert_eq!(rt; self.told_ask(rt, sender, key)?, Err(cause));
         }
         assert_eq!(rt; self.core.outgoing().len(), 0);
         Ok(())

@@ -26,11 +26,12 @@ impl Node {
 
     fn comes_to(&mut self, rt: &impl Abort, cases: &[Due]) -> Result<(), Fail> {
         assert_eq!(rt; self.begun(), Some(0));
-        for (kind, height, round, frames, next) in cases {
-            let timeout = due(*kind, *height, *round);
+        for case in cases {
+            let (kind, height, round, frames, next) = *case;
+            let timeout = due(kind, height, round);
             assert_eq!(rt; self.core.fire_timeout(timeout), Ok(()));
-            assert_eq!(rt; self.core.outgoing().len(), *frames);
-            assert_eq!(rt; self.begun(), *next);
+            assert_eq!(rt; self.core.outgoing().len(), frames);
+            assert_eq!(rt; self.begun(), next);
         }
         assert_eq!(rt; self.core.round(), 3);
         assert_eq!(rt; self.core.fired(), 1);

@@ -54,8 +54,8 @@ fn timeouts(rt: HostRuntime) -> Result<(), Fail> {
     await_proposal(&rt, &mut validator)
 }
 
-/// It ends by no timeout.
-fn end_last_round(rt: &impl Abort, state: &State) {
+/// The last round has begun, and ends by no timeout.
+fn assert_last_round(rt: &impl Abort, state: &State) {
     assert_eq!(rt; state.round(), 1_000_000);
     let timeout = Timeout {
         kind: Step::Precommit,
@@ -69,7 +69,7 @@ fn end_last_round(rt: &impl Abort, state: &State) {
 fn skip_to_last_round(rt: &impl Abort, validator: &mut Validator) -> Result<(), Fail> {
     hear_votes(validator, VoteStep::Prevote, MOST_ROUNDS, (0, 2), None)?;
     validator.settle_unheard()?;
-    end_last_round(rt, &validator.state);
+    assert_last_round(rt, &validator.state);
     Ok(())
 }
 

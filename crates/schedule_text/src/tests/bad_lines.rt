@@ -1,21 +1,32 @@
-use super::{run, world};
+use super::{assert_report, assert_run, world};
 use std::alloc::{AllocError, Global};
+use std::process::Abort;
 use std::test::Fail;
 
-/// Status, standard output and standard error of a run.
-fn told(alloc: Global, schedule: &[u8]) -> Result<String, AllocError> {
-    let outcome = run(alloc, schedule);
-    let out = str::from_utf8(&outcome.out).unwrap_or("");
-    let err = str::from_utf8(&outcome.err).unwrap_or("");
-    let status = outcome.status;
-    format!(in alloc; "{status} {out}{err}")
+/// Of each schedule this line is the first bad one: nothing is run.
+fn assert_each_bad(rt: &impl Abort, alloc: Global, schedules: &[(&str, u32)]) -> Result<(), Fail> {
+    for row in schedules {
+        let (schedule, line) = *row;
+        let err = format!(in alloc; "tmsim: line {line}\n")?;
+        assert_run(rt, alloc, schedule.as_bytes(), 2, "", err.as_str());
+    }
+    Ok(())
+}
+
+/// In a world with the value A each of these lines is bad: nothing is run.
+fn assert_each_bad_in_world(rt: &impl Abort, alloc: Global, lines: &[&str]) -> Result<(), Fail> {
+    for line in lines {
+        let lines = format!(in alloc; "value A 7:1:61\n{line}\nvote 0 3 prevote 0 0 A\n")?;
+        let schedule = world(alloc, lines.as_str())?;
+        assert_run(rt, alloc, schedule.as_bytes(), 2, "", "tmsim: line 5\n");
+    }
+    Ok(())
 }
 
 /// Setup lines that are bad, or stand where they may not, and texts that end too early.
 #[test]
 fn setup(rt: HostRuntime) -> Result<(), Fail> {
-    let alloc = rt.alloc();
-    for (schedule, line) in [
+    let schedules = [
         ("", 1),
         ("\n", 2),
         ("# nothing", 2),
@@ -76,19 +87,14 @@ fn setup(rt: HostRuntime) -> Result<(), Fail> {
         ("Powers 1 1 1 1\n", 1),
         ("powers 1 1 1 +1\n", 1),
         (" \n", 1),
-    ] {
-        let wanted = format!(in alloc; "2 tmsim: line {line}\n")?;
-        let told = told(alloc, schedule.as_bytes())?;
-        assert_eq!(rt; told.as_str(), wanted.as_str(), "{schedule:?}");
-    }
-    Ok(())
+    ];
+    assert_each_bad(&rt, rt.alloc(), &schedules)
 }
 
 /// Value lines and executed lines that are bad: nothing is run.
 #[test]
 fn lines_of_a_world(rt: HostRuntime) -> Result<(), Fail> {
-    let alloc = rt.alloc();
-    for line in [
+    let lines = [
         "value",
         "value ",
         "value a",
@@ -179,29 +185,45 @@ fn lines_of_a_world(rt: HostRuntime) -> Result<(), Fail> {
         "deliver 0 3",
         "pass",
         "restart 3",
-    ] {
-        let lines = format!(in alloc; "value A 7:1:61\n{line}\nvote 0 3 prevote 0 0 A\n")?;
-        let schedule = world(alloc, lines.as_str())?;
-        let told = told(alloc, schedule.as_bytes())?;
-        assert_eq!(rt; told.as_str(), "2 tmsim: line 5\n", "{line:?}");
-    }
-    Ok(())
+    ];
+    assert_each_bad_in_world(&rt, rt.alloc(), &lines)
 }
 
-/// A byte that is no text; 1,024 bytes in an item are taken, and 1,025 aren't.
+/// A byte that is no text.
 #[test]
-fn bytes_of_lines(rt: HostRuntime) -> Result<(), Fail> {
-    let alloc = rt.alloc();
-    let told_of = told(alloc, b"powers 1 1 1 1\nclients \xff\n")?;
-    assert_eq!(rt; told_of.as_str(), "2 tmsim: line 2\n");
-    for (count, wanted) in [(1024, "0 v3 at 0 0:\n"), (1025, "2 tmsim: line 4\n")] {
-        let mut lines = String::from_str(alloc, "value A 7:1:")?;
-        for _ in 0..count {
-            lines.push_str("0a")?;
-        }
-        let schedule = world(alloc, lines.as_str())?;
-        let told = told(alloc, schedule.as_bytes())?;
-        assert_eq!(rt; told.as_str(), wanted, "{count}");
+fn byte_of_no_text(rt: HostRuntime) {
+    let schedule = b"powers 1 1 1 1\nclients \xff\n";
+    assert_run(&rt, rt.alloc(), schedule, 2, "", "tmsim: line 2\n");
+}
+
+/// The line of a value of one item that has so many bytes.
+fn value_of_bytes(alloc: Global, count: u32) -> Result<String, AllocError> {
+    let mut line = String::from_str(alloc, "value A 7:1:")?;
+    for _ in 0..count {
+        line.push_str("0a")?;
     }
+    Ok(line)
+}
+
+/// 1,024 bytes in an item are taken.
+#[test]
+fn longest_item(rt: HostRuntime) -> Result<(), Fail> {
+    let line = value_of_bytes(rt.alloc(), 1024)?;
+    assert_report(&rt, rt.alloc(), line.as_str(), "v3 at 0 0:\n")
+}
+
+/// 1,025 bytes in an item are too many.
+#[test]
+fn item_too_long(rt: HostRuntime) -> Result<(), Fail> {
+    let line = value_of_bytes(rt.alloc(), 1025)?;
+    let schedule = world(rt.alloc(), line.as_str())?;
+    assert_run(
+        &rt,
+        rt.alloc(),
+        schedule.as_bytes(),
+        2,
+        "",
+        "tmsim: line 4\n",
+    );
     Ok(())
 }

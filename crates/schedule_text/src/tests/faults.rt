@@ -1,11 +1,10 @@
-use super::{run, world};
+use super::{assert_report, assert_run, world};
 use std::alloc::{AllocError, Global};
+use std::process::Abort;
 use std::test::Fail;
 
-/// Runs these lines after a proposal of A, which is the first event.
-fn failure(alloc: Global, lines: &str) -> Result<String, AllocError> {
-    let lines = format!(in alloc;
-        "\
+/// Values, and a proposal of A, which is the first event.
+const BEGINNING: &str = "\
 value A 7:1:61
 value B 1024:1:61
 value C 65535:1:61
@@ -15,22 +14,36 @@ value G 7:18446744073709551615:close
 propose 0 3 0 0 -1 A
 # a comment is no event
 
-{lines}
-vote 0 3 prevote 0 0 nil
-"
-    )?;
-    let outcome = run(alloc, world(alloc, lines.as_str())?.as_bytes());
-    let out = str::from_utf8(&outcome.out).unwrap_or("");
-    let err = str::from_utf8(&outcome.err).unwrap_or("");
-    let status = outcome.status;
-    format!(in alloc; "{status}\n{out}{err}")
+";
+
+/// A schedule in which this line comes after that beginning.
+fn second_event(alloc: Global, line: &str) -> Result<String, AllocError> {
+    let lines = format!(in alloc; "{BEGINNING}{line}\nvote 0 3 prevote 0 0 nil\n")?;
+    world(alloc, lines.as_str())
+}
+
+/// Each of these lines fails with the fault of this number.
+fn assert_each_fails(rt: &impl Abort, alloc: Global, faults: &[(&str, u8)]) -> Result<(), Fail> {
+    for row in faults {
+        let (line, number) = *row;
+        let schedule = second_event(alloc, line)?;
+        let err = format!(in alloc; "tmsim: event 2: fault {number}\n")?;
+        assert_run(
+            rt,
+            alloc,
+            schedule.as_bytes(),
+            3,
+            "0 v3 prevote 0 0 A\n",
+            err.as_str(),
+        );
+    }
+    Ok(())
 }
 
 /// A number that is no validator's, and what can't be spelled.
 #[test]
 fn each_fault(rt: HostRuntime) -> Result<(), Fail> {
-    let alloc = rt.alloc();
-    for (line, number) in [
+    let faults = [
         ("vote 4 3 prevote 0 0 A", 2),
         ("vote 0 4 prevote 0 0 nil", 2),
         ("propose 64 3 0 0 -1 A", 2),
@@ -59,40 +72,44 @@ fn each_fault(rt: HostRuntime) -> Result<(), Fail> {
         ("raw 4 -", 2),
         ("timeout 4 propose 0 0", 2),
         ("ask 18446744073709551616", 2),
-    ] {
-        let wanted = format!(in alloc; "3\n0 v3 prevote 0 0 A\ntmsim: event 2: fault {number}\n")?;
-        assert_eq!(rt; failure(alloc, line)?.as_str(), wanted.as_str(), "{line}");
-    }
-    Ok(())
+    ];
+    assert_each_fails(&rt, rt.alloc(), &faults)
 }
 
 /// A valid round that isn't below the round, and the last one that is spelled.
 #[test]
 fn lawful_valid_rounds(rt: HostRuntime) -> Result<(), Fail> {
-    let alloc = rt.alloc();
     for line in ["propose 0 3 0 0 4294967294 A", "propose 0 3 0 0 0 A"] {
-        let report = failure(alloc, line)?;
-        assert_eq!(rt;
-            report.as_str(),
-            "0\n0 v3 prevote 0 0 A\nv3 at 0 0:\n",
-            "{line}"
-        );
+        let schedule = second_event(rt.alloc(), line)?;
+        let out = "0 v3 prevote 0 0 A\nv3 at 0 0:\n";
+        assert_run(&rt, rt.alloc(), schedule.as_bytes(), 0, out, "");
     }
     Ok(())
 }
 
-/// A value of 256 items is spelled, and one of 257 isn't.
-#[test]
-fn long_values(rt: HostRuntime) -> Result<(), Fail> {
-    let alloc = rt.alloc();
-    for (count, status) in [(256u32, 0), (257, 3)] {
-        let mut lines = String::from_str(alloc, "value A")?;
-        for number in 1..count + 1 {
-            lines.push_str(format!(in alloc; " 7:{number}:-")?.as_str())?;
-        }
-        lines.push_str("\nvote 0 3 prevote 0 0 A\n")?;
-        let outcome = run(alloc, world(alloc, lines.as_str())?.as_bytes());
-        assert_eq!(rt; outcome.status, status, "{count}");
+/// A vote for a value of so many items.
+fn vote_for_items(alloc: Global, count: u32) -> Result<String, AllocError> {
+    let mut lines = String::from_str(alloc, "value A")?;
+    for number in 1..=count {
+        lines.push_str(format!(in alloc; " 7:{number}:-")?.as_str())?;
     }
+    lines.push_str("\nvote 0 3 prevote 0 0 A\n")?;
+    Ok(lines)
+}
+
+/// A value of 256 items is spelled.
+#[test]
+fn longest_value(rt: HostRuntime) -> Result<(), Fail> {
+    let lines = vote_for_items(rt.alloc(), 256)?;
+    assert_report(&rt, rt.alloc(), lines.as_str(), "v3 at 0 0:\n")
+}
+
+/// A value of 257 items isn't.
+#[test]
+fn value_too_long(rt: HostRuntime) -> Result<(), Fail> {
+    let lines = vote_for_items(rt.alloc(), 257)?;
+    let schedule = world(rt.alloc(), lines.as_str())?;
+    let err = "tmsim: event 1: fault 4\n";
+    assert_run(&rt, rt.alloc(), schedule.as_bytes(), 3, "", err);
     Ok(())
 }

@@ -1,4 +1,6 @@
-use super::{run, world};
+use super::{assert_report, assert_run};
+use std::alloc::Global;
+use std::process::Abort;
 use std::test::Fail;
 
 const DECISION: &str = "\
@@ -19,36 +21,35 @@ v3 at 1 0: 7:1:61
 
 #[test]
 fn first_decision(rt: HostRuntime) -> Result<(), Fail> {
-    let alloc = rt.alloc();
-    let outcome = run(alloc, world(alloc, DECISION)?.as_bytes());
-    assert_eq!(rt; str::from_utf8(&outcome.out), Ok(DECIDED));
-    assert_eq!(rt; outcome.status, 0);
-    assert!(rt; outcome.err.is_empty());
-    Ok(())
+    assert_report(&rt, rt.alloc(), DECISION, DECIDED)
 }
 
 /// Comments of any bytes and empty lines are skipped, and the last line may lack its line feed.
 #[test]
-fn skipped_lines(rt: HostRuntime) -> Result<(), Fail> {
-    let alloc = rt.alloc();
-    let outcome = run(
-        alloc,
-        b"# \xff\r\n\n#powers\npowers 1 1 1 1\nclients 1024\n\nliars 2 0 1 0 2\n#\nvote 0 3 prevote 0 0 nil",
-    );
-    assert_eq!(rt; str::from_utf8(&outcome.out), Ok("v3 at 0 0:\n"));
-    assert_eq!(rt; outcome.status, 0);
+fn skipped_lines(rt: HostRuntime) {
+    let schedule =
+        b"# \xff\r\n\n#powers\npowers 1 1 1 1\nclients 1024\n\nliars 2 0 1 0 2\n#\nvote 0 3 prevote 0 0 nil";
+    assert_run(&rt, rt.alloc(), schedule, 0, "v3 at 0 0:\n", "");
+}
+
+/// Where validator 0 is the correct one, each of these lines of values gives this report.
+fn assert_each_report(
+    rt: &impl Abort,
+    alloc: Global,
+    reports: &[(&str, &str)],
+) -> Result<(), Fail> {
+    for row in reports {
+        let (values, report) = *row;
+        let schedule = format!(in alloc; "powers 1 1 1 1\nclients 8\nliars 1 2 3\n{values}")?;
+        assert_run(rt, alloc, schedule.as_bytes(), 0, report, "");
+    }
     Ok(())
 }
 
-/// Validator 0 proposes the empty value at height 0.
+/// Validator 0 proposes the empty value at height 0, by its first name, or by its id.
 #[test]
 fn own_proposal(rt: HostRuntime) -> Result<(), Fail> {
-    let alloc = rt.alloc();
-    let id = "96a296d224f285c67bee93c30f8a309157f0daa35dc5b87e410b78630a09cfc7";
-    let unnamed = format!(in alloc;
-        "0 v0 proposal 0 0 -1 {id}\n1 v0 prevote 0 0 {id}\nv0 at 0 0:\n"
-    )?;
-    for (value, report) in [
+    let reports = [
         (
             "value E\n",
             "0 v0 proposal 0 0 -1 E\n1 v0 prevote 0 0 E\nv0 at 0 0:\n",
@@ -57,23 +58,23 @@ fn own_proposal(rt: HostRuntime) -> Result<(), Fail> {
             "value A 7:1:61\nvalue F\nvalue E\n",
             "0 v0 proposal 0 0 -1 F\n1 v0 prevote 0 0 F\nv0 at 0 0:\n",
         ),
-        ("", unnamed.as_str()),
-    ] {
-        let schedule = format!(in alloc; "powers 1 1 1 1\nclients 8\nliars 1 2 3\n{value}")?;
-        let outcome = run(alloc, schedule.as_bytes());
-        assert_eq!(rt; str::from_utf8(&outcome.out), Ok(report));
-    }
-    Ok(())
+        (
+            "",
+            "\
+0 v0 proposal 0 0 -1 96a296d224f285c67bee93c30f8a309157f0daa35dc5b87e410b78630a09cfc7
+1 v0 prevote 0 0 96a296d224f285c67bee93c30f8a309157f0daa35dc5b87e410b78630a09cfc7
+v0 at 0 0:
+",
+        ),
+    ];
+    assert_each_report(&rt, rt.alloc(), &reports)
 }
 
 /// Three heights, the second of which a quorum prevotes before its proposal comes; the validator
 /// proposes the fourth.
 #[test]
 fn several_heights(rt: HostRuntime) -> Result<(), Fail> {
-    let alloc = rt.alloc();
-    let schedule = world(
-        alloc,
-        "\
+    let lines = "\
 value A 7:1:61 3:1:- 3:2:close
 value B 7:2:6263
 value E
@@ -92,13 +93,8 @@ vote 1 3 precommit 2 0 E
 vote 0 3 precommit 2 0 E
 vote 2 3 precommit 2 0 E
 propose 2 3 2 0 -1 E
-",
-    )?;
-    let outcome = run(alloc, schedule.as_bytes());
-    assert_eq!(rt;
-        str::from_utf8(&outcome.out),
-        Ok(
-            "\
+";
+    let report = "\
 0 v3 prevote 0 0 A
 1 v3 precommit 0 0 A
 v3 decides 0 0 A
@@ -109,30 +105,19 @@ v3 decides 2 0 E
 4 v3 proposal 3 0 -1 E
 5 v3 prevote 3 0 E
 v3 at 3 0: 7:1:61 3:1:- 3:2:close 7:2:6263
-"
-        )
-    );
-    assert_eq!(rt; outcome.status, 0);
-    Ok(())
+";
+    assert_report(&rt, rt.alloc(), lines, report)
 }
 
 /// A value that may not be delivered is prevoted as nil, and a quorum for nil is precommitted.
 #[test]
 fn nil_votes(rt: HostRuntime) -> Result<(), Fail> {
-    let alloc = rt.alloc();
-    let schedule = world(
-        alloc,
-        "\
+    let lines = "\
 value A 7:2:61
 propose 0 3 0 0 -1 A
 vote 0 3 prevote 0 0 nil
 vote 1 3 prevote 0 0 nil
-",
-    )?;
-    let outcome = run(alloc, schedule.as_bytes());
-    assert_eq!(rt;
-        str::from_utf8(&outcome.out),
-        Ok("0 v3 prevote 0 0 nil\n1 v3 precommit 0 0 nil\nv3 at 0 0:\n")
-    );
-    Ok(())
+";
+    let report = "0 v3 prevote 0 0 nil\n1 v3 precommit 0 0 nil\nv3 at 0 0:\n";
+    assert_report(&rt, rt.alloc(), lines, report)
 }

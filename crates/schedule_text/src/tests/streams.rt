@@ -1,7 +1,9 @@
 use super::world;
 use crate::{Failure, HELP, simulate};
+use std::alloc::Global;
 use std::io;
 use std::io::{BufRead, ErrorKind, Read, Write};
+use std::process::Abort;
 use std::test::Fail;
 
 /// A reader that gives its bytes, and then fails.
@@ -52,44 +54,50 @@ impl Write for Full {
     }
 }
 
-/// A read that fails in the middle.
-#[test]
-fn failing_reader(rt: HostRuntime) -> Result<(), Fail> {
-    let alloc = rt.alloc();
-    let schedule = world(alloc, "value A 7:1:61\npropose 0 3 0 0 -1 A\n")?;
-    let mut reader = Broken {
-        rest: schedule.as_bytes(),
-    };
+/// The reader fails behind these bytes.
+fn assert_cannot_read(rt: &impl Abort, alloc: Global, rest: &[u8]) {
+    let mut reader = Broken { rest };
     let mut out = Vec::new(alloc);
     let mut err = Vec::new(alloc);
     let status = simulate(alloc, "some file", &mut reader, &mut out, &mut err);
     assert_eq!(rt; status, 2);
     assert!(rt; out.is_empty());
     assert_eq!(rt; str::from_utf8(&err), Ok("tmsim: cannot read some file\n"));
+}
+
+/// A read that fails in the middle.
+#[test]
+fn failing_reader(rt: HostRuntime) -> Result<(), Fail> {
+    let schedule = world(rt.alloc(), "value A 7:1:61\npropose 0 3 0 0 -1 A\n")?;
+    assert_cannot_read(&rt, rt.alloc(), schedule.as_bytes());
     Ok(())
+}
+
+/// Where the writer takes so many bytes, this is the status, and nothing is told.
+fn assert_status(rt: &impl Abort, alloc: Global, schedule: &[u8], room: usize, wanted: u8) {
+    let mut reader = schedule;
+    let mut out = Full { room };
+    let mut err = Vec::new(alloc);
+    let status = simulate(alloc, "f", &mut reader, &mut out, &mut err);
+    assert_eq!(rt; status, wanted, "{room}");
+    assert!(rt; err.is_empty());
 }
 
 /// A write that fails, at each byte of the report.
 #[test]
 fn failing_writer(rt: HostRuntime) -> Result<(), Fail> {
-    let alloc = rt.alloc();
-    let schedule = world(alloc, "value A 7:1:61\npropose 0 3 0 0 -1 A\n")?;
-    let report = "0 v3 prevote 0 0 A\nv3 at 0 0:\n";
-    for room in 0..report.len() + 1 {
-        let mut reader = schedule.as_bytes();
-        let mut out = Full { room };
-        let mut err = Vec::new(alloc);
-        let status = simulate(alloc, "f", &mut reader, &mut out, &mut err);
-        let wanted = if room == report.len() { 0 } else { 5 };
-        assert_eq!(rt; status, wanted, "{room}");
-        assert!(rt; err.is_empty());
+    let schedule = world(rt.alloc(), "value A 7:1:61\npropose 0 3 0 0 -1 A\n")?;
+    let length = "0 v3 prevote 0 0 A\nv3 at 0 0:\n".len();
+    for room in 0..length {
+        assert_status(&rt, rt.alloc(), schedule.as_bytes(), room, 5);
     }
+    assert_status(&rt, rt.alloc(), schedule.as_bytes(), length, 0);
     Ok(())
 }
 
 /// A failure that can't be told.
 #[test]
-fn failing_error_writer(rt: HostRuntime) -> Result<(), Fail> {
+fn failing_error_writer(rt: HostRuntime) {
     let alloc = rt.alloc();
     let mut out = Vec::new(alloc);
     let status = simulate(
@@ -100,23 +108,23 @@ fn failing_error_writer(rt: HostRuntime) -> Result<(), Fail> {
         &mut Full { room: 5 },
     );
     assert_eq!(rt; status, 5);
-    Ok(())
+}
+
+fn assert_failure(rt: &impl Abort, alloc: Global, failure: Failure<'_>, status: u8, text: &str) {
+    let mut err = Vec::new(alloc);
+    assert_eq!(rt; failure.tell(&mut err), status);
+    assert_eq!(rt; str::from_utf8(&err), Ok(text));
 }
 
 /// The texts and statuses that need no file.
 #[test]
-fn failures(rt: HostRuntime) -> Result<(), Fail> {
-    let alloc = rt.alloc();
-    for (failure, status, text) in [
-        (Failure::Usage, 2, "tmsim: usage: tmsim FILE\n"),
-        (Failure::CannotRead("a b"), 2, "tmsim: cannot read a b\n"),
-        (Failure::OutOfMemory, 4, "tmsim: out of memory\n"),
-        (Failure::CannotWrite, 5, ""),
-    ] {
-        let mut err = Vec::new(alloc);
-        assert_eq!(rt; failure.tell(&mut err), status);
-        assert_eq!(rt; str::from_utf8(&err), Ok(text));
-    }
+fn failures(rt: HostRuntime) {
+    let usage = "tmsim: usage: tmsim FILE\n";
+    assert_failure(&rt, rt.alloc(), Failure::Usage, 2, usage);
+    let cannot_read = "tmsim: cannot read a b\n";
+    assert_failure(&rt, rt.alloc(), Failure::CannotRead("a b"), 2, cannot_read);
+    let out_of_memory = "tmsim: out of memory\n";
+    assert_failure(&rt, rt.alloc(), Failure::OutOfMemory, 4, out_of_memory);
+    assert_failure(&rt, rt.alloc(), Failure::CannotWrite, 5, "");
     assert!(rt; HELP.contains("tmsim FILE"));
-    Ok(())
 }

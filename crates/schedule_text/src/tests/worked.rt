@@ -1,11 +1,26 @@
-use super::run;
+use super::{assert_report, assert_run};
+use std::alloc::Global;
+use std::process::Abort;
 use std::test::Fail;
+
+/// Among four validators of power 1 and eight clients these lines give these reports.
+fn assert_each_runs(
+    rt: &impl Abort,
+    alloc: Global,
+    schedules: &[(&str, &str)],
+) -> Result<(), Fail> {
+    for row in schedules {
+        let (lines, report) = *row;
+        let schedule = format!(in alloc; "powers 1 1 1 1\nclients 8\n{lines}")?;
+        assert_run(rt, alloc, schedule.as_bytes(), 0, report, "");
+    }
+    Ok(())
+}
 
 /// Wrong tags, clients' queues, unlocking, bundles, repeats, timeouts and frames that can't be read.
 #[test]
 fn worked_schedules(rt: HostRuntime) -> Result<(), Fail> {
-    let alloc = rt.alloc();
-    for (lines, report) in [
+    let schedules = [
         (
             "\
 liars 0 1 2
@@ -178,19 +193,13 @@ v3 refuses 1
 v3 at 0 0:
 ",
         ),
-    ] {
-        let schedule = format!(in alloc; "powers 1 1 1 1\nclients 8\n{lines}")?;
-        let outcome = run(alloc, schedule.as_bytes());
-        assert_eq!(rt; str::from_utf8(&outcome.out), Ok(report), "{lines}");
-        assert_eq!(rt; outcome.status, 0);
-    }
-    Ok(())
+    ];
+    assert_each_runs(&rt, rt.alloc(), &schedules)
 }
 
 /// The validator asks; a message that it sends again is told once.
 #[test]
 fn asks(rt: HostRuntime) -> Result<(), Fail> {
-    let alloc = rt.alloc();
     let lines = "\
 value A 7:1:61
 ask 3
@@ -198,10 +207,6 @@ ask 3
 bundle 0 3 0 0 A A 2,0,1,0
 ask 3
 ";
-    let outcome = run(alloc, super::world(alloc, lines)?.as_bytes());
-    assert_eq!(rt;
-        str::from_utf8(&outcome.out),
-        Ok("0 v3 ask 0\nv3 decides 0 0 A\n1 v3 ask 1\nv3 at 1 0: 7:1:61\n")
-    );
-    Ok(())
+    let report = "0 v3 ask 0\nv3 decides 0 0 A\n1 v3 ask 1\nv3 at 1 0: 7:1:61\n";
+    assert_report(&rt, rt.alloc(), lines, report)
 }
