@@ -19,7 +19,7 @@ pub struct Key {
 }
 
 impl Model for Key {
-    ghost use Rattle.std.specs.Prelude.{ℕ, List, length};
+    ghost use Rattle.std.specs.Prelude.{ℕ, List};
     ghost use Rattle.authenticators.specs.Pads.{IsPadded};
 
     ghost Value = { List ℕ };
