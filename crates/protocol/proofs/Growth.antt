@@ -23,14 +23,14 @@ pub record Longer (old new : List Record) : Type 0 where
   pub more : List Record
   pub is : new ≡ more ++ old
 
-same_long : (j : List Record) → Longer j j
+pub same_long : (j : List Record) → Longer j j
 same_long j = record { more = []; is = refl }
 
-longer_at : (p q : ℕ) (nodes : ℕ → Node) (n : Node) → Longer (nodes p).journal n.journal → Longer (nodes q).journal (cond (q == p) n (nodes q)).journal
+pub longer_at : (p q : ℕ) (nodes : ℕ → Node) (n : Node) → Longer (nodes p).journal n.journal → Longer (nodes q).journal (cond (q == p) n (nodes q)).journal
 longer_at p q nodes n b = cond_both (q == p) n (nodes q) (λ (o : Node). Longer (nodes q).journal o.journal)
     (λ e. subst (λ i. Longer (nodes i).journal n.journal) (sym (eqb-true q p e)) b) (λ _. same_long (nodes q).journal)
 
-fired_longer : (c : Setting) (p : ℕ) (n : Node) (k : Rule) → Longer n.journal (firing c p n k).node.journal
+pub fired_longer : (c : Setting) (p : ℕ) (n : Node) (k : Rule) → Longer n.journal (firing c p n k).node.journal
 fired_longer c p n k = record { more = option_to_list (saved (context c p) (pick n.queues) n.state k); is = refl }
 
 pub happens_longer : (c : Setting) (w : World) (e : Event) (q : ℕ) → Longer (w.nodes q).journal ((happens c w e).nodes q).journal

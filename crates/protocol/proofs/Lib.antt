@@ -19,10 +19,13 @@ pub mod Sent
 pub mod Headline
 pub mod Searches
 pub mod Order
+pub mod First
 pub mod Certificates
+pub mod Votes
 pub mod Judging
 pub mod Timeouts
 pub mod Reports
+pub mod Frames
 pub mod Tagging
 pub mod Replays
 pub mod Runs

@@ -14,7 +14,7 @@ use Rattle.protocol.specs.Queues.{pick, is_closed}
 use Rattle.protocol.specs.Refusals.{context}
 use Rattle.protocol.specs.Arrivals.{firing, taken_in, kept_message}
 use Rattle.protocol.specs.World.{World, Event, Sends, Comes, Fires, Asks, Resends, Restarts, happens, run, beginning, cut_record, moved, Cut}
-use Rattle.protocol.specs.Laws.{place, IsAfter, Grows, OneVoteLaw, LockLaw}
+use Rattle.protocol.specs.Laws.{place, IsAfter, Grows, LockLaw}
 use Rattle.protocol.proofs.Asked.{asked}
 use Rattle.protocol.proofs.Arrivals.{come_cases, try_cases, cut_cases}
 
@@ -208,9 +208,6 @@ beginning_tied c p = restart_tied p [] tt
 -- after every run
 pub always_tied : (c : Setting) (events : List Event) (p : ℕ) → IsTied ((run c (beginning c) events).nodes p)
 always_tied c events = run_tied c (beginning c) events (beginning_tied c)
-
-pub one_vote_law : OneVoteLaw
-one_vote_law c events p = (always_tied c events p).grows
 
 pub lock_law : LockLaw
 lock_law c events p = let t = always_tied c events p in (t.delivered, t.height, t.lock)

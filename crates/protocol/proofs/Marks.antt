@@ -1,11 +1,33 @@
 -- A journal as a list of marks, of which the lemmas on locks speak.
 use Rattle.std.proofs.Common.{◌≡◌, ℕ, suc, ◌<◌, ◌≤◌, ◌⊎◌, inl, inr, List, [], ◌∷◌, refl, sym, ◌∙◌, ap, subst, arith, Option, Some, None, eq-eqb, ne_eqb, option_map, le_of_eq, le_of_lt}
+use Rattle.messages.specs.declared.body.Step.{Step as VoteStep}
+use Rattle.messages.specs.declared.body.Step.TheVariants as vote_steps
 use Rattle.protocol.specs.Values.{Id, id}
-use Rattle.protocol.specs.Messages.{◌∈◌, Step, step_of, step_of_vote, Vote, Act, Proposing, Prevoting, Precommitting, Record, Own, Decided}
+use Rattle.protocol.specs.Messages.{◌∈◌, Step, Propose, Prevote, Precommit, step_of, step_of_vote, Vote, Act, Proposing, Prevoting, Precommitting, Record, Own, Decided}
 use Rattle.protocol.specs.State.{ValueAt}
 use Rattle.protocol.specs.Restart.{height_of, last_place, lock_of, lock_by}
 use Rattle.protocol.specs.Laws.{place, IsAfter, Grows}
 use Rattle.protocol.proofs.Locking.{Mark, mark, place_of, lock_at, lock_of_vote, StandsAfter}
+
+-- ---- votes
+
+pub not_proposing : (step : VoteStep) → step_of_vote step ≡ Propose → ⊥
+not_proposing vote_steps.Prevote e = absurd (let k : Prevote ≡ Propose = e in cc)
+not_proposing vote_steps.Precommit e = absurd (let k : Precommit ≡ Propose = e in cc)
+
+pub is_prevote : (step : VoteStep) → step_of_vote step ≡ Prevote → step ≡ vote_steps.Prevote
+is_prevote vote_steps.Prevote e = refl
+is_prevote vote_steps.Precommit e = absurd (let k : Precommit ≡ Prevote = e in cc)
+
+pub is_precommit : (step : VoteStep) → step_of_vote step ≡ Precommit → step ≡ vote_steps.Precommit
+is_precommit vote_steps.Precommit e = refl
+is_precommit vote_steps.Prevote e = absurd (let k : Prevote ≡ Precommit = e in cc)
+
+-- votes with equal fields are equal
+pub same_vote : (v u : Vote) → v.step ≡ u.step → v.height ≡ u.height → v.round ≡ u.round → v.sender ≡ u.sender → v.content ≡ u.content → v ≡ u
+same_vote v u step height round sender content =
+    let same : record { step = v.step; height = v.height; round = v.round; sender = v.sender; content = v.content } ≡ record { step = u.step; height = u.height; round = u.round; sender = u.sender; content = u.content } = cc (step, height, round, sender, content) in
+    same
 
 -- ---- marks
 

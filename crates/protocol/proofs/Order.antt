@@ -159,7 +159,7 @@ in_rounds s round i e =
           in_right round of_proposals of_votes (subst (λ r. r ∈ of_votes) (eqb-true _ _ (and_parts (v.0.round == round) (v.0.sender == i) v.2).0) (map_in (λ (x : Vote). x.round) v.0 s.votes v.1)))
     ]
 
-weak_round : (powers : List ℕ) (s : State) (round : ℕ) → weak_at powers s round ≡ true → round ∈ rounds_of s
+pub weak_round : (powers : List ℕ) (s : State) (round : ℕ) → weak_at powers s round ≡ true → round ∈ rounds_of s
 unfolding is_weak
 weak_round powers s round e =
     let k : total powers < 3 * power powers (speakers s.proposals s.votes round) = ltb-true _ _ e in
@@ -189,24 +189,40 @@ kept_from powers s round vr v e =
     record { kept = record { proposal = f.0; there = f.1; stands = b.0; value = (value_eq_decides f.0.value v).0 a.1 }; valid_round = (round_eq_decides f.0.valid_round vr).0 b.1 }
 
 module _ (g : Context) (s : State) where
-  no_decide : (r : ℕ) (v : Value) → deciding g.powers s ≡ None → holds g s (Decide r v) ≡ true → ⊥
-  no_decide r v n e =
+  -- a kept proposal of this round that the first stages may decide
+  pub record Decidable (round : ℕ) : Type 0 where
+    pub proposal : Proposal
+    pub there : proposal ∈ s.proposals
+    pub passes : is_decidable g.powers s proposal ≡ true
+    pub round_is : proposal.round ≡ round
+
+  pub decidable : (r : ℕ) (v : Value) → holds g s (Decide r v) ≡ true → Decidable r
+  decidable r v e =
       let a = asked g s (Decide r v) e in
       let k = kept_proposal g.powers s r v a.proposed in
       let q = k.proposal in
       let same : q.round ≡ r = eqb-true _ _ (and_parts _ _ k.stands).0 in
       let is_valid : valid s.delivered q.value ≡ true = subst (λ u. valid s.delivered u ≡ true) (sym k.value) a.is_valid in
       let quorum : quorum_for g.powers s q.round Precommit (Some (id q.value)) ≡ true = subst (λ u. quorum_for g.powers s q.round Precommit (Some (id u)) ≡ true) (sym k.value) (subst (λ n. quorum_for g.powers s n Precommit (Some (id v)) ≡ true) (sym same) a.quorum) in
-      let none = option_map_none (λ (p : Proposal). Decide p.round p.value) (soonest (is_decidable g.powers s) s.proposals) (cond_none (nat_lt s.height (2 ^ 48)) _ n (lt-ltb _ _ a.room)) in
-      soonest_none (is_decidable g.powers s) s.proposals none q k.there (and_from _ _ (and_from _ _ (stands_again g.powers s r q k.stands) is_valid) quorum)
+      record { proposal = q; there = k.there; passes = and_from _ _ (and_from _ _ (stands_again g.powers s r q k.stands) is_valid) quorum; round_is = same }
 
-  no_skip : (r : ℕ) → skipping g.powers s ≡ None → holds g s (SkipRound r) ≡ true → ⊥
+  pub no_start : starting s ≡ None → holds g s Start ≡ true → ⊥
+  no_start n e = let a : s.begun ≡ false = asked g s Start e in let b : s.begun ≡ true = has_begun g s n in let f : true ≡ false = sym b ∙ a in cc
+
+  pub no_decide : (r : ℕ) (v : Value) → deciding g.powers s ≡ None → holds g s (Decide r v) ≡ true → ⊥
+  no_decide r v n e =
+      let a = asked g s (Decide r v) e in
+      let d = decidable r v e in
+      let none = option_map_none (λ (p : Proposal). Decide p.round p.value) (soonest (is_decidable g.powers s) s.proposals) (cond_none (nat_lt s.height (2 ^ 48)) _ n (lt-ltb _ _ a.room)) in
+      soonest_none (is_decidable g.powers s) s.proposals none d.proposal d.there d.passes
+
+  pub no_skip : (r : ℕ) → skipping g.powers s ≡ None → holds g s (SkipRound r) ≡ true → ⊥
   no_skip r n e =
       let a = asked g s (SkipRound r) e in
       let none = option_map_none SkipRound (highest (λ m. nat_lt s.round m && weak_at g.powers s m) (rounds_of s)) n in
       highest_none (λ m. nat_lt s.round m && weak_at g.powers s m) (rounds_of s) none r (weak_round g.powers s r a.weak) (and_from _ _ (lt-ltb _ _ a.above) a.weak)
 
-  no_prevote : (v : Value) → prevoting g.powers s ≡ None → holds g s (PrevoteFresh v) ≡ true → ⊥
+  pub no_prevote : (v : Value) → prevoting g.powers s ≡ None → holds g s (PrevoteFresh v) ≡ true → ⊥
   no_prevote v n e =
       let a = asked g s (PrevoteFresh v) e in
       let k = kept_from g.powers s s.round None v a.proposed in
@@ -221,7 +237,7 @@ module _ (g : Context) (s : State) where
       by_round None b e = let f : false ≡ true = b in cc
       by_round (Some r) b e = none_some (PrevoteAgain r q.value) (sym e)
 
-  no_prevote_again : (r : ℕ) (v : Value) → prevoting_again g.powers s ≡ None → holds g s (PrevoteAgain r v) ≡ true → ⊥
+  pub no_prevote_again : (r : ℕ) (v : Value) → prevoting_again g.powers s ≡ None → holds g s (PrevoteAgain r v) ≡ true → ⊥
   no_prevote_again r v n e =
       let a = asked g s (PrevoteAgain r v) e in
       let k = kept_from g.powers s s.round (Some r) v a.proposed in
@@ -231,7 +247,7 @@ module _ (g : Context) (s : State) where
       let none = again_none (find (is_again g.powers s) s.proposals) refl (cond_none (step_eq s.step Propose) _ n (and_parts _ _ a.at).1) in
       found_none (is_again g.powers s) s.proposals none q k.kept.there (and_from _ _ k.kept.stands backed_here)
 
-  no_lock : (v : Value) → locking g.powers s ≡ None → holds g s (Lock v) ≡ true → ⊥
+  pub no_lock : (v : Value) → locking g.powers s ≡ None → holds g s (Lock v) ≡ true → ⊥
   no_lock v n e =
       let a = asked g s (Lock v) e in
       let k = kept_proposal g.powers s s.round v a.proposed in
@@ -243,6 +259,15 @@ module _ (g : Context) (s : State) where
 
   no_last : (b : Bool) (k : Rule) → cond b (Some k) None ≡ None → b ≡ true → ⊥
   no_last b k n e = none_some k (sym (cond_none b (Some k) n e))
+
+  pub no_give_up : giving_up g.powers s ≡ None → holds g s PrecommitNil ≡ true → ⊥
+  no_give_up n e = let a = asked g s PrecommitNil e in no_last _ PrecommitNil n (and_from _ _ (and_parts _ _ a.at).1 a.quorum)
+
+  pub no_await_prevotes : awaiting_prevotes g.powers s ≡ None → holds g s AwaitPrevotes ≡ true → ⊥
+  no_await_prevotes n e = let a = asked g s AwaitPrevotes e in no_last _ AwaitPrevotes n (and_from _ _ (and_from _ _ (and_parts _ _ a.at).1 (negated _ a.first)) a.quorum)
+
+  pub no_await_precommits : awaiting_precommits g.powers s ≡ None → holds g s AwaitPrecommits ≡ true → ⊥
+  no_await_precommits n e = let a = asked g s AwaitPrecommits e in no_last _ AwaitPrecommits n (and_from _ _ (negated _ a.first) a.quorum)
 
   -- no stage names a rule
   record NoStage : Type 0 where
@@ -270,15 +295,15 @@ module _ (g : Context) (s : State) where
       record { starts = a.0; decides = b.0; skips = c.0; prevotes = d.0; prevotes_again = f.0; locks = l.0; gives_up = u.0; awaits_prevotes = w.0; awaits_precommits = w.1 }
 
   no_rule : NoStage → (k : Rule) → IsInternal k → holds g s k ≡ true → ⊥
-  no_rule n Start i e = let a : s.begun ≡ false = asked g s Start e in let b : s.begun ≡ true = has_begun g s n.starts in let f : true ≡ false = sym b ∙ a in cc
+  no_rule n Start i e = no_start n.starts e
   no_rule n (Decide r v) i e = no_decide r v n.decides e
   no_rule n (SkipRound r) i e = no_skip r n.skips e
   no_rule n (PrevoteFresh v) i e = no_prevote v n.prevotes e
   no_rule n (PrevoteAgain r v) i e = no_prevote_again r v n.prevotes_again e
   no_rule n (Lock v) i e = no_lock v n.locks e
-  no_rule n PrecommitNil i e = let a = asked g s PrecommitNil e in no_last _ PrecommitNil n.gives_up (and_from _ _ (and_parts _ _ a.at).1 a.quorum)
-  no_rule n AwaitPrevotes i e = let a = asked g s AwaitPrevotes e in no_last _ AwaitPrevotes n.awaits_prevotes (and_from _ _ (and_from _ _ (and_parts _ _ a.at).1 (negated _ a.first)) a.quorum)
-  no_rule n AwaitPrecommits i e = let a = asked g s AwaitPrecommits e in no_last _ AwaitPrecommits n.awaits_precommits (and_from _ _ (negated _ a.first) a.quorum)
+  no_rule n PrecommitNil i e = no_give_up n.gives_up e
+  no_rule n AwaitPrevotes i e = no_await_prevotes n.awaits_prevotes e
+  no_rule n AwaitPrecommits i e = no_await_precommits n.awaits_precommits e
   no_rule n (DecideByBundle b) i e = absurd i
   no_rule n (TimedOut t) i e = absurd i
 

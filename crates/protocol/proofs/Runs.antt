@@ -4,3 +4,4 @@ pub mod Relocking
 pub mod Bundling
 pub mod Reporting
 pub mod Cases
+pub mod Meeting

@@ -1,5 +1,5 @@
--- What the searches for the lowest and the highest round find, and when they find nothing.
-use Rattle.std.proofs.Common.{◌≡◌, ℕ, ◌⊎◌, inl, inr, Bool, true, false, cond, ◌&&◌, List, [], ◌∷◌, refl, sym, ◌∙◌, subst, arith, Option, Some, None, max, fold, option_map}
+-- What the searches for the lowest and the highest round find, that it is the lowest and the highest, and when they find nothing.
+use Rattle.std.proofs.Common.{◌≡◌, ℕ, ◌<◌, ◌≤◌, ◌⊎◌, inl, inr, Bool, true, false, cond, ◌&&◌, List, [], ◌∷◌, refl, sym, ◌∙◌, ap, subst, arith, Option, Some, None, max, fold, option_map, ltb-true, ltb-false}
 use Rattle.std.proofs.lemmas.Bool.{and_parts, and_from, cases_Bool, cond_both, cases_lt}
 use Rattle.protocol.specs.Messages.{◌∈◌, Proposal}
 use Rattle.protocol.specs.Order.{is_sooner, sooner, soonest, higher, highest}
@@ -11,6 +11,13 @@ none_some x e = cc
 pub option_map_none : {X Y : Type 0} (f : X → Y) (o : Option X) → option_map f o ≡ None → o ≡ None
 option_map_none f None e = refl
 option_map_none f (Some x) e = absurd (none_some (f x) (sym e))
+
+pub option_map_some : {X Y : Type 0} (f : X → Y) (o : Option X) (y : Y) → option_map f o ≡ Some y → (x : X) × (o ≡ Some x) × (f x ≡ y)
+option_map_some f None y e = absurd (none_some y e)
+option_map_some f (Some x) y e = (x, refl, cc)
+
+pub cond_some : {X : Type 0} (b : Bool) (o : Option X) (x : X) → cond b o None ≡ Some x → o ≡ Some x
+cond_some b o x e = cond_both b o None (λ a. a ≡ Some x → o ≡ Some x) (λ _ k. k) (λ _ k. absurd (none_some x k)) e
 
 -- ---- the lowest
 
@@ -52,6 +59,44 @@ none_from test best (x ∷ qs) e =
 pub soonest_none : (test : Proposal → Bool) (qs : List Proposal) → soonest test qs ≡ None → (q : Proposal) → q ∈ qs → test q ≡ true → ⊥
 soonest_none test qs e = (none_from test None qs e).each
 
+-- no lower round stood before, or is of one that passes
+record Least (test : Proposal → Bool) (best : Option Proposal) (qs : List Proposal) (y : Proposal) : Type 0 where
+  before : (b : Proposal) → best ≡ Some b → y.round ≤ b.round
+  each : (x : Proposal) → x ∈ qs → test x ≡ true → y.round ≤ x.round
+
+-- where the search doesn't take x, the best so far isn't of a higher round
+not_sooner : (x y : Proposal) (best : Option Proposal) → is_sooner x best ≡ false → ((b : Proposal) → best ≡ Some b → y.round ≤ b.round) → y.round ≤ x.round
+not_sooner x y None e before = absurd (let f : true ≡ false = e in cc)
+not_sooner x y (Some b) e before = let low : b.round ≤ x.round = ltb-false x.round b.round e in let k : y.round ≤ b.round = before b refl in omega arith
+
+least_from : (test : Proposal → Bool) (best : Option Proposal) (qs : List Proposal) (y : Proposal) → fold (sooner test) best qs ≡ Some y → Least test best qs y
+least_from test best [] y e = record {
+  before = λ b eb. (let same : y ≡ b = cc in let at : y.round ≡ b.round = ap (λ (q : Proposal). q.round) same in omega arith);
+  each = λ x i. absurd i;
+}
+least_from test best (x ∷ qs) y e = cond_both (test x && is_sooner x best) (Some x) best (λ o. Least test o qs y → Least test best (x ∷ qs) y)
+    (λ t l. record {
+      before = λ b eb. (
+          let low : x.round < b.round = ltb-true x.round b.round (subst (λ o. is_sooner x o ≡ true) eb (and_parts (test x) (is_sooner x best) t).1) in
+          let k : y.round ≤ x.round = l.before x refl in
+          omega arith);
+      each = λ z i p. elim i [ inl same ↦ subst (λ (q : Proposal). y.round ≤ q.round) (sym same) (l.before x refl) | inr j ↦ l.each z j p ];
+    })
+    (λ t l. record {
+      before = l.before;
+      each = λ z i p. elim i [
+        | inl same ↦ subst (λ (q : Proposal). y.round ≤ q.round) (sym same) (elim (cases_Bool (is_sooner x best)) [
+          | inl low ↦ absurd (let both : test x && is_sooner x best ≡ true = and_from (test x) (is_sooner x best) (subst (λ (q : Proposal). test q ≡ true) same p) low in let f : true ≡ false = sym both ∙ t in cc)
+          | inr high ↦ not_sooner x y best high l.before
+        ])
+        | inr j ↦ l.each z j p
+      ];
+    })
+    (least_from test (sooner test best x) qs y e)
+
+pub soonest_least : (test : Proposal → Bool) (qs : List Proposal) (y : Proposal) → soonest test qs ≡ Some y → (x : Proposal) → x ∈ qs → test x ≡ true → y.round ≤ x.round
+soonest_least test qs y e = (least_from test None qs y e).each
+
 -- ---- the highest
 
 abbrev taking : (ℕ → Bool) → Option ℕ → ℕ → Option ℕ
@@ -85,3 +130,28 @@ highest_none test (x ∷ rs) e r i t = cond_both (test x) (Some x) None (λ o. (
     (λ _ _ l. some_stays test x rs l)
     (λ f _ l. elim i [ inl same ↦ (let p : test x ≡ true = subst (λ n. test n ≡ true) same t in let g : true ≡ false = sym p ∙ f in cc) | inr j ↦ highest_none test rs l r j t ])
     (λ l. elim (cases_Bool (test x)) [ inl p ↦ absurd (let q : cond (test x) (Some x) None ≡ None = l in let s : Some x ≡ None = rw p at q in none_some x (sym s)) | inr p ↦ p ]) e
+
+-- no higher number stood before, or passes
+record Most (test : ℕ → Bool) (best : Option ℕ) (rs : List ℕ) (y : ℕ) : Type 0 where
+  before : (b : ℕ) → best ≡ Some b → b ≤ y
+  each : (r : ℕ) → r ∈ rs → test r ≡ true → r ≤ y
+
+up_to_higher : (best : Option ℕ) (r : ℕ) → r ≤ higher best r
+up_to_higher None r = omega arith
+up_to_higher (Some b) r = omega arith
+
+most_from : (test : ℕ → Bool) (best : Option ℕ) (rs : List ℕ) (y : ℕ) → fold (taking test) best rs ≡ Some y → Most test best rs y
+most_from test best [] y e = record { before = λ b eb. (let same : y ≡ b = cc in omega arith); each = λ r i. absurd i }
+most_from test best (x ∷ rs) y e = cond_both (test x) (Some (higher best x)) best (λ o. Most test o rs y → Most test best (x ∷ rs) y)
+    (λ t m. let top : higher best x ≤ y = m.before (higher best x) refl in record {
+      before = λ b eb. (let k : max b x ≤ y = subst (λ o. higher o x ≤ y) eb top in omega arith);
+      each = λ r i p. elim i [ inl same ↦ (let k = up_to_higher best x in omega arith) | inr j ↦ m.each r j p ];
+    })
+    (λ t m. record {
+      before = m.before;
+      each = λ r i p. elim i [ inl same ↦ absurd (let k : test x ≡ true = subst (λ n. test n ≡ true) same p in let f : true ≡ false = sym k ∙ t in cc) | inr j ↦ m.each r j p ];
+    })
+    (most_from test (taking test best x) rs y e)
+
+pub highest_most : (test : ℕ → Bool) (rs : List ℕ) (y : ℕ) → highest test rs ≡ Some y → (r : ℕ) → r ∈ rs → test r ≡ true → r ≤ y
+highest_most test rs y e = (most_from test None rs y e).each

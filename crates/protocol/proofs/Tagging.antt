@@ -167,7 +167,7 @@ is_message c b one few h =
     let tags = tagged_tags c b one few in
     record { body = h; tags = tags; short = omega (arith, body_short b h, tags_short (tagged c b).tags tags, length-append (body_spelling b) (tags_spelling (tagged c b).tags)) }
 
-all_right : (c : Setting) (b : Body) (q : ℕ) → q < length c.powers → right c q (sender_of b) (body_spelling b) (tagged c b).tags ≡ true
+pub all_right : (c : Setting) (b : Body) (q : ℕ) → q < length c.powers → right c q (sender_of b) (body_spelling b) (tagged c b).tags ≡ true
 unfolding tagged right is_right
 all_right c b q h =
     let f : ℕ → List ℕ = λ r. hmac (c.key (sender_of b) r) (body_spelling b) in

@@ -18,3 +18,4 @@ pub mod Premises
 pub mod Reports
 pub mod Laws
 pub mod Examples
+pub mod Witness

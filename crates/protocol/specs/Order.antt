@@ -1,5 +1,5 @@
 -- The one order in which the code fires rules: the first stage that names a rule names the next one.
-use Rattle.std.specs.Prelude.{◌≡◌, ℕ, ◌^◌, Bool, true, false, cond, not, ◌&&◌, Option, Some, None, List, ◌++◌, map, find, option_map, is_none, nat_lt, max, fold}
+use Rattle.std.specs.Prelude.{◌≡◌, ℕ, ◌<◌, ◌^◌, Bool, true, false, cond, not, ◌&&◌, Option, Some, None, List, ◌++◌, map, find, option_map, is_none, nat_lt, max, fold}
 use Rattle.protocol.specs.Values.{Value, id, valid}
 use Rattle.protocol.specs.Messages.{Propose, Prevote, Precommit, step_eq, Proposal, Vote}
 use Rattle.protocol.specs.State.{Context, State, Rule, Start, PrevoteFresh, PrevoteAgain, AwaitPrevotes, Lock, PrecommitNil, AwaitPrecommits, Decide, DecideByBundle, SkipRound, TimedOut}
@@ -125,3 +125,29 @@ QuietLaw = (g : Context) (s : State) → enabled g.powers s ≡ None → (k : Ru
 -- a rule that the order names holds
 abbrev pub EnabledLaw : Type 0
 EnabledLaw = (g : Context) (s : State) (k : Rule) → enabled g.powers s ≡ Some k → holds g s k ≡ true
+
+-- ---- the order, said without the stages
+
+-- the place of a rule's row; a timeout's and a bundle's rules have none
+abbrev pub row : Rule → ℕ
+row Start = 0
+row (Decide r v) = 1
+row (SkipRound r) = 2
+row (PrevoteFresh v) = 3
+row (PrevoteAgain r v) = 4
+row (Lock v) = 5
+row PrecommitNil = 6
+row AwaitPrevotes = 7
+row AwaitPrecommits = 8
+row (DecideByBundle b) = 9
+row (TimedOut t) = 9
+
+-- The lower round decides first, the higher round is skipped to first, and otherwise the earlier row is first.
+abbrev pub comes_before : Rule → Rule → Bool
+comes_before (Decide r v) (Decide q u) = nat_lt r q
+comes_before (SkipRound r) (SkipRound q) = nat_lt q r
+comes_before j k = nat_lt (row j) (row k)
+
+-- no rule that comes before the one that the order names holds
+abbrev pub FirstLaw : Type 0
+FirstLaw = (g : Context) (s : State) (j k : Rule) → enabled g.powers s ≡ Some k → row j < 9 → comes_before j k ≡ true → holds g s j ≡ false

@@ -1,5 +1,5 @@
 -- Which keys a ring has.
-use Rattle.std.specs.Prelude.{◌≡◌, ℕ, ◌<◌, cond, length, map, Option, Some, None}
+use Rattle.std.specs.Prelude.{◌≡◌, ℕ, ◌<◌, cond, length, map, Some, None}
 use Rattle.authenticators.specs.Ring.{Ring, incoming}
 use Rattle.protocol.specs.Tags.{Setting, Validator, Client}
 use Rattle.protocol.specs.Messages.{below}

@@ -7,13 +7,15 @@
 mod types;
 
 ghost use Rattle.protocol.specs.Examples.{WorkedCases, WorkedRuns};
-ghost use Rattle.protocol.specs.Order.{EnabledLaw, QuietLaw};
-ghost use Rattle.protocol.specs.Laws.{AgreeLaw, BeginsLaw, CertificateLaw, FifoLaw, HistoryLaw, JudgeLaw, LastsLaw, LockLaw, NoLaterQuorumLaw, OneVoteLaw, RefusedLaw, ReplayLaw, ReportLaw, SentLaw, TaggedLaw, TimeoutLaw};
+ghost use Rattle.protocol.specs.Order.{EnabledLaw, FirstLaw, QuietLaw};
+ghost use Rattle.protocol.specs.Laws.{AgreeLaw, BeginsLaw, CertificateLaw, FifoLaw, FrameLaw, HistoryLaw, JudgeLaw, LastsLaw, LockLaw, NoLaterQuorumLaw, OneVoteLaw, RefusedLaw, ReplayLaw, ReportLaw, SentLaw, TaggedLaw, TimeoutLaw};
+ghost use Rattle.protocol.specs.Witness.{PremisesMetLaw};
 
 pub use types::{Stamp, Step, Timeout, ValueAt};
 
-/// Within a height a validator's own messages grow in round and step, over restarts too: it never says two things
-/// in one step of a round.
+/// Within a height a validator's own messages grow in round and step, over restarts too, and what it released is in
+/// its journal: it never says two things in one step of a round. Where nothing is forged, so are the own votes that it
+/// keeps, and its precommit for a value followed a quorum of prevotes for the value in that round.
 pub fn one_vote_law()
     ensures { OneVoteLaw }
 {}
@@ -67,7 +69,13 @@ pub fn enabled_law()
     ensures { EnabledLaw }
 {}
 
-/// Each decision's certificate names a quorum, and its id is its value's.
+/// No rule that comes before the one that the order names holds.
+pub fn first_law()
+    ensures { FirstLaw }
+{}
+
+/// Each decision's id is its value's, and its certificate names a quorum, whose tags are right for the validator that
+/// decided.
 pub fn certificate_law()
     ensures { CertificateLaw }
 {}
@@ -95,12 +103,19 @@ pub fn tagged_law()
     ensures { TaggedLaw }
 {}
 
-/// What a call does to a node is its input's event and then firings of a run.
+/// Bytes are read as a message exactly where they spell its frame: what a validator takes bytes for doesn't depend on
+/// how they are read.
+pub fn frame_law()
+    ensures { FrameLaw }
+{}
+
+/// What a call does to a node, releases and schedules is what its events do in a run: its input's event, and a firing
+/// for each rule that the order names along the way.
 pub fn history_law()
     ensures { HistoryLaw }
 {}
 
-/// The node that a history of calls replays is one that a run leaves, so the other laws speak of it.
+/// The node that a history of calls replays is the one that the history's events leave, so the other laws speak of it.
 pub fn replay_law()
     ensures { ReplayLaw }
 {}
@@ -116,6 +131,13 @@ pub fn report_law()
 /// outlasts a stop; and a bundle that decides a value which was prevoted nil for its wrong tags.
 pub fn worked_runs()
     ensures { WorkedRuns }
+{}
+
+/// The premises of the headline hold together with a run in which something happens: of four validators one lies, a
+/// client sends, two validators decide what it sent, one of them after a stop within a firing and by a bundle that it
+/// asked for.
+pub fn premises_met_law()
+    ensures { PremisesMetLaw }
 {}
 
 /// Single cases that compute: tallies, what a lock allows, which values are valid, timeouts, the order, and refusals.
