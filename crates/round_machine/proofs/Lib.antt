@@ -2,6 +2,5 @@ pub mod Places
 pub mod Stages
 pub mod Soonest
 pub mod Highest
-pub mod Nobody
 pub mod Holding
 pub mod Ending

@@ -1,5 +1,5 @@
 -- What a stage asks of a kept proposal, by what was found of it, and of a round.
-use Rattle.std.specs.Prelude.{ℕ, Bool, true, false, cond, ◌&&◌, Option, Some, None, List, nat_lt, unwrap_or, slice_index_or}
+use Rattle.std.specs.Prelude.{ℕ, Bool, true, false, cond, ◌&&◌, Option, Some, None, List, nat_lt}
 use Rattle.protocol.specs.declared.types.Step.TheVariants.{Prevote, Precommit}
 use Rattle.protocol.specs.State.{State}
 use Rattle.protocol.specs.Rules.{stands_at, quorum_for, weak_at}
@@ -29,10 +29,7 @@ is_sooner_than place (Some best) = nat_lt place.round best.round
 abbrev pub later_weak : List ℕ → State → ℕ → Bool
 later_weak powers s r = nat_lt s.round r && weak_at powers s r
 
--- the best round after one more: only one above the best so far, or else the own one, is asked about
-abbrev pub higher_weak : List ℕ → State → Option ℕ → ℕ → Option ℕ
-higher_weak powers s best r = cond (nat_lt (unwrap_or best s.round) r && weak_at powers s r) (Some r) best
-
--- and after one more message, which says nothing where a talker sent it
-abbrev pub higher_heard : List ℕ → State → List Bool → Option ℕ → ℕ → ℕ → Option ℕ
-higher_heard powers s talkers best sender r = cond (slice_index_or talkers sender false) best (higher_weak powers s best r)
+-- a round, if it is later than the own one
+abbrev pub if_later : ℕ → Option ℕ → Option ℕ
+if_later own None = None
+if_later own (Some r) = cond (nat_lt own r) (Some r) None

@@ -12,7 +12,6 @@ mod naming;
 mod releasing;
 mod rule;
 mod skipping;
-mod talkers;
 mod timing;
 
 pub use firing::{decide_by_bundle, fire};

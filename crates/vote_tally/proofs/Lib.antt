@@ -1,1 +1,4 @@
 pub mod OwnLimits
+pub mod Raising
+pub mod Highest
+pub mod Told

@@ -1,9 +1,11 @@
 -- What a tally is: the validators' powers, the own number, and the messages of one height that were kept, in order of arrival.
-use Rattle.std.specs.Prelude.{◌≡◌, ℕ, ◌<◌, ◌≤◌, ◌++◌, ◌∷◌, [], List, length, All, Option}
+use Rattle.std.specs.Prelude.{◌≡◌, ℕ, ◌<◌, ◌≤◌, ◌++◌, ◌∷◌, [], List, length, All, Option, map}
 use Rattle.protocol.specs.Values.{Id}
 use Rattle.protocol.specs.Messages.{Proposal, Vote}
 use Rattle.protocol.specs.declared.types.Step.{Step}
+use Rattle.powers.specs.Power.{is_weak}
 use Rattle.protocol.specs.Tally as tally
+use Rattle.protocol.specs.Order.{highest}
 
 pub record Kept : Type 0 where
   pub powers : List ℕ
@@ -19,6 +21,14 @@ power_any k round step = tally.power_any k.powers k.votes round step
 
 abbrev pub power_above : Kept → ℕ → ℕ
 power_above k round = tally.power_above k.powers k.proposals k.votes round
+
+-- the rounds of kept messages
+abbrev pub rounds_of : Kept → List ℕ
+rounds_of k = map (λ (q : Proposal). q.round) k.proposals ++ map (λ (v : Vote). v.round) k.votes
+
+-- the highest round in which a weak quorum sent messages
+abbrev pub highest_weak : Kept → Option ℕ
+highest_weak k = highest (λ r. is_weak k.powers (power_above k r)) (rounds_of k)
 
 -- the vote is kept
 abbrev pub with_vote : Kept → Vote → Kept

@@ -1,3 +1,4 @@
 pub mod Kept
 pub mod Faults
-pub mod Wanted
+pub mod Totals
+pub mod Told

@@ -3,23 +3,33 @@
 //! A power is that of a *set* of validators: each counts once, however often it spoke.
 #![tactic(auto)]
 
-ghost use Rattle.std.specs.Prelude.{◌≡◌, ◌<◌, ◌≤◌, ◌↔◌, ◌++◌, ◌∷◌, [], ℕ, false, Option, IfOk, OnOk, OnErr, length};
+ghost use Rattle.std.specs.Prelude.{◌≡◌, ◌==◌, ◌<◌, ◌≤◌, ◌↔◌, ◌++◌, ◌∷◌, [], ℕ, false, Option, IfOk, OnOk, OnErr, length, nat_le};
+ghost use Rattle.std.specs.List.{list_any};
 ghost use Rattle.protocol.specs.Values.{Id as Digest};
-ghost use Rattle.protocol.specs.Messages.{Vote as AnyVote, step_of_vote};
+ghost use Rattle.protocol.specs.Messages.{Vote as AnyVote, step_of_vote, vote_eq, proposal_eq};
 ghost use Rattle.protocol.specs.declared.types.Step.{Step as RoundStep};
-ghost use Rattle.protocol.specs.Tally.{is_vote_for, is_vote, senders};
-ghost use Rattle.vote_tally.specs.Kept.{power_for, power_any, power_above, with_vote, with_proposal};
-ghost use Rattle.protocol.specs.Refusals.{is_full};
+ghost use Rattle.protocol.specs.Tally.{is_vote_for, is_vote, senders, proposers};
+ghost use Rattle.vote_tally.specs.Kept.{power_for, power_any, power_above, highest_weak, with_vote, with_proposal};
+ghost use Rattle.vote_tally.specs.Totals.{IsSmall};
+ghost use Rattle.vote_tally.specs.Told.{sent};
+ghost use Rattle.protocol.specs.Refusals.{is_full, has_two};
 ghost use Rattle.vote_tally.specs.Faults.{vote_fault, proposal_fault, IsAnswer, OwnLimitsLaw};
 
+mod counts;
+mod heights;
 mod scans;
+mod totals;
+mod voters;
 
+use counts::{Counts, count_one, none_counted};
+use heights::Heights;
 use messages::{Proposal, Step, Vote};
-use powers::Powers;
-use scans::Wanted;
+use powers::{MOST_VALIDATORS, Powers};
 use std::alloc::{AllocError, AllocFailed, Global};
+use std::collections::BTreeMap;
 use std::marker::Model;
-use transactions::{Duplicate, Id, copy_all};
+use totals::{Topic, Totals, total_at};
+use transactions::{Duplicate, Id};
 
 /// How many messages of one other validator are kept in a height: proposals and votes together.
 pub const MOST_MESSAGES: usize = 512;
@@ -69,14 +79,21 @@ pub struct Tally {
     me: u16,
     proposals: Vec<Proposal>,
     votes: Vec<Vote>,
+    totals: Totals,
+    counts: Counts,
+    heights: Heights,
+    highest: Option<u32>,
 }
 
 impl Model for Tally {
     ghost use Rattle.vote_tally.specs.Kept.{Kept};
+    ghost use Rattle.vote_tally.specs.Told.{IsTold};
 
     ghost Value = { Kept };
 
     ghost view = { λ a. record { powers = a.powers; me = a.me; proposals = a.proposals.items; votes = a.votes.items } };
+
+    ghost invariant = { λ a. IsTold a.powers a.proposals.items a.votes.items a.totals a.counts a.heights a.highest };
 }
 
 impl Tally {
@@ -84,12 +101,17 @@ impl Tally {
     pub fn new(alloc: Global, powers: Powers, me: u16) -> Tally
         ensures { result ≡ record { powers = powers; me = me; proposals = []; votes = [] } }
     {
+        check_small(&powers);
         Tally {
             alloc,
             powers,
             me,
             proposals: Vec::new(alloc),
             votes: Vec::new(alloc),
+            totals: BTreeMap::new(alloc),
+            counts: none_counted(),
+            heights: Heights::Nothing,
+            highest: None,
         }
     }
 
@@ -98,13 +120,6 @@ impl Tally {
         ensures { result.now ≡ self.now.powers }
     {
         &self.powers
-    }
-
-    /// The kept votes, in order of arrival.
-    pub fn votes(&self) -> &[Vote]
-        ensures { result.now ≡ self.now.votes }
-    {
-        self.votes.as_slice()
     }
 
     /// The own number.
@@ -118,7 +133,7 @@ impl Tally {
     pub fn fault_of(&self, vote: &Vote) -> Option<TallyFault>
         ensures { result ≡ vote_fault self.now vote.now }
     {
-        if scans::has_vote(&self.votes, vote) {
+        if self.has_vote(vote) {
             Some(TallyFault::Repeat)
         } else if self.is_full(vote.sender) {
             Some(TallyFault::VoterFull)
@@ -131,9 +146,9 @@ impl Tally {
     pub fn fault_of_proposal(&self, proposal: &Proposal) -> Option<TallyFault>
         ensures { result ≡ proposal_fault self.now proposal.now }
     {
-        if scans::has_proposal(&self.proposals, proposal) {
+        if self.has_proposal(proposal) {
             Some(TallyFault::Repeat)
-        } else if self.is_full(proposal.sender) || scans::has_two(&self.proposals, proposal) {
+        } else if self.is_full(proposal.sender) || self.has_two(proposal) {
             Some(TallyFault::VoterFull)
         } else {
             None
@@ -147,6 +162,8 @@ impl Tally {
         ensures err { OnErr result (self.new ≡ self.old) }
         // Every other sum stays.
         ensures others { (r : ℕ) (s : RoundStep) (x : Option Digest) → is_vote_for r s x vote ≡ false → power_for self.new r s x ≡ power_for self.old r s x }
+        ensures others_any { (r : ℕ) (s : RoundStep) → is_vote r s vote ≡ false → power_any self.new r s ≡ power_any self.old r s }
+        ensures others_above { (r : ℕ) → (vote.round == r) ≡ false → power_above self.new r ≡ power_above self.old r }
     {
         if let Some(fault) = self.fault_of(&vote) {
             return Err(fault);
@@ -160,6 +177,10 @@ impl Tally {
         ensures answer { IsAnswer (proposal_fault self.old proposal.now) result }
         ensures ok { OnOk result (self.new ≡ with_proposal self.old proposal.now) }
         ensures err { OnErr result (self.new ≡ self.old) }
+        // The sums of votes stay, and those of every other round.
+        ensures votes_for { (r : ℕ) (s : RoundStep) (x : Option Digest) → power_for self.new r s x ≡ power_for self.old r s x }
+        ensures votes_any { (r : ℕ) (s : RoundStep) → power_any self.new r s ≡ power_any self.old r s }
+        ensures others_above { (r : ℕ) → (proposal.now.round == r) ≡ false → power_above self.new r ≡ power_above self.old r }
     {
         if let Some(fault) = self.fault_of_proposal(proposal) {
             return Err(fault);
@@ -173,7 +194,12 @@ impl Tally {
         ensures ok { OnOk result (self.new ≡ with_vote self.old vote) }
         ensures err { OnErr result (self.new ≡ self.old) }
     {
+        totals::make_room_for_vote(&mut self.totals, &vote)?;
         self.votes.push(vote)?;
+        totals::raise_vote(&mut self.totals, &self.powers, &vote);
+        self.highest = totals::highest_with(self.highest, &self.totals, &self.powers, vote.round);
+        count_one(&mut self.counts, vote.sender);
+        self.heights = self.heights.with(vote.height);
         Ok(())
     }
 
@@ -182,7 +208,12 @@ impl Tally {
         ensures ok { OnOk result (self.new ≡ with_proposal self.old proposal.now) }
         ensures err { OnErr result (self.new ≡ self.old) }
     {
+        let (round, sender) = (proposal.round, proposal.sender);
+        totals::make_room_for_proposal(&mut self.totals, round)?;
         self.proposals.push(proposal.copy(self.alloc)?)?;
+        totals::raise_proposal(&mut self.totals, &self.powers, round, sender);
+        self.highest = totals::highest_with(self.highest, &self.totals, &self.powers, round);
+        count_one(&mut self.counts, sender);
         Ok(())
     }
 
@@ -192,29 +223,36 @@ impl Tally {
     {
         self.proposals.clear();
         self.votes.clear();
+        self.totals.clear();
+        self.counts = none_counted();
+        self.heights = Heights::Nothing;
+        self.highest = None;
     }
 
     /// Whether a validator voted for this content.
     pub fn has_voted(&self, validator: u16, round: u32, step: Step, content: Option<Id>) -> bool
         ensures { result ≡ senders self.now.votes (is_vote_for round (step_of_vote step) content) validator }
     {
-        scans::has_voted(&self.votes, validator, Wanted::For(round, step, content))
+        if usize::from(validator) < MOST_VALIDATORS {
+            let topic = Topic::for_content(round, step, content);
+            total_at(&self.totals, topic).voters.has(validator)
+        } else {
+            scans::has_voted(&self.votes, validator, round, step, content)
+        }
     }
 
     /// The power of those who voted for this content: an id, or nil. It takes no memory.
     pub fn power_for(&self, round: u32, step: Step, content: Option<Id>) -> u64
         ensures { result ≡ power_for self.now round (step_of_vote step) content }
     {
-        let senders = scans::voters(&self.votes, Wanted::For(round, step, content));
-        self.powers.power_of_set(&senders)
+        total_at(&self.totals, Topic::for_content(round, step, content)).power
     }
 
     /// The power of those who voted in this round and step, for whatever content. It takes no memory.
     pub fn power_any(&self, round: u32, step: Step) -> u64
         ensures { result ≡ power_any self.now round (step_of_vote step) }
     {
-        let senders = scans::voters(&self.votes, Wanted::Any(round, step));
-        self.powers.power_of_set(&senders)
+        total_at(&self.totals, Topic::of(round, step)).power
     }
 
     /// The power of those with a kept message of exactly this round, a proposal or a vote of either
@@ -222,30 +260,127 @@ impl Tally {
     pub fn power_above(&self, round: u32) -> u64
         ensures { result ≡ power_above self.now round }
     {
-        let mut senders = scans::voters(&self.votes, Wanted::Round(round));
-        scans::mark_proposers(&mut senders, &self.proposals, round);
-        self.powers.power_of_set(&senders)
+        total_at(&self.totals, Topic::Round(round)).power
+    }
+
+    /// The highest round in which a weak quorum has kept messages: the only one that line 55 may skip
+    /// to.
+    pub fn highest_weak(&self) -> Option<u32>
+        ensures { result ≡ highest_weak self.now }
+    {
+        self.highest
     }
 
     /// An equal tally.
     pub fn copy(&self) -> Result<Tally, AllocError>
         ensures { IfOk result (λ copy. copy ≡ self.now) }
     {
-        Ok(Tally {
-            alloc: self.alloc,
-            powers: self.powers.copy(self.alloc)?,
-            me: self.me,
-            proposals: copy_all(self.alloc, &self.proposals)?,
-            votes: Vec::from_slice(self.alloc, &self.votes)?,
-        })
+        let powers = self.powers.copy(self.alloc)?;
+        let mut copy = Tally::new(self.alloc, powers, self.me);
+        copy.keep_all(&self.proposals, &self.votes)?;
+        Ok(copy)
+    }
+
+    fn keep_all(&mut self, proposals: &[Proposal], votes: &[Vote]) -> Result<(), AllocError>
+        ensures { OnOk result (self.new ≡ record self.old { proposals = self.old.proposals ++ proposals.now; votes = self.old.votes ++ votes.now }) }
+    {
+        self.keep_proposals(proposals)?;
+        self.keep_votes(votes)
+    }
+
+    fn keep_proposals(&mut self, proposals: &[Proposal]) -> Result<(), AllocError>
+        ensures { OnOk result (self.new ≡ record self.old { proposals = self.old.proposals ++ proposals.now }) }
+    {
+        for proposal in proposals {
+            self.keep_proposal(proposal)?;
+        }
+        Ok(())
+    }
+
+    fn keep_votes(&mut self, votes: &[Vote]) -> Result<(), AllocError>
+        ensures { OnOk result (self.new ≡ record self.old { votes = self.old.votes ++ votes.now }) }
+    {
+        for vote in votes {
+            self.keep(*vote)?;
+        }
+        Ok(())
+    }
+
+    /// The same vote is kept.
+    fn has_vote(&self, vote: &Vote) -> bool
+        ensures { result ≡ list_any (vote_eq vote.now) self.now.votes }
+    {
+        match self.heights {
+            Heights::Nothing => false,
+            Heights::One(height) => {
+                is_at(vote, height)
+                    && self.has_voted(vote.sender, vote.round, vote.step, vote.content)
+            }
+            Heights::Several => scans::has_vote(&self.votes, vote),
+        }
+    }
+
+    /// The same proposal is kept. Only where one of its round and sender is, it is looked for.
+    fn has_proposal(&self, proposal: &Proposal) -> bool
+        ensures { result ≡ list_any (proposal_eq proposal.now) self.now.proposals }
+    {
+        self.may_have_proposed(proposal) && scans::has_proposal(&self.proposals, proposal)
+    }
+
+    /// A proposal of this one's round and sender is kept, or the sender is past the last validator.
+    fn may_have_proposed(&self, proposal: &Proposal) -> bool
+        ensures { result ≡ false → proposers self.now.proposals proposal.now.round proposal.now.sender ≡ false }
+    {
+        usize::from(proposal.sender) >= MOST_VALIDATORS
+            || total_at(&self.totals, Topic::Proposals(proposal.round))
+                .voters
+                .has(proposal.sender)
+    }
+
+    /// Two proposals of this one's round and sender are kept.
+    fn has_two(&self, proposal: &Proposal) -> bool
+        ensures { result ≡ has_two self.now.proposals proposal.now }
+    {
+        if usize::from(proposal.sender) < MOST_VALIDATORS {
+            total_at(&self.totals, Topic::SecondProposals(proposal.round))
+                .voters
+                .has(proposal.sender)
+        } else {
+            scans::has_two(&self.proposals, proposal)
+        }
     }
 
     fn is_full(&self, sender: u16) -> bool
         ensures { result ≡ is_full self.now.me self.now.proposals self.now.votes sender }
     {
-        sender != self.me
-            && scans::count_from(&self.proposals, &self.votes, sender) >= MOST_MESSAGES
+        sender != self.me && self.has_most(sender)
     }
+
+    /// As many messages of a validator are kept as may be.
+    fn has_most(&self, sender: u16) -> bool
+        ensures { result ≡ nat_le 512 (sent self.now.proposals self.now.votes sender) }
+    {
+        let place = usize::from(sender);
+        if place < MOST_VALIDATORS {
+            usize::from(self.counts[place]) >= MOST_MESSAGES
+        } else {
+            scans::count_from(&self.proposals, &self.votes, sender) >= MOST_MESSAGES
+        }
+    }
+}
+
+fn is_at(vote: &Vote, height: u64) -> bool
+    ensures { result ≡ (height == vote.now.height) }
+{
+    height == vote.height
+}
+
+/// Masks have room for all validators, and no sum of powers overflows.
+fn check_small(powers: &Powers)
+    ensures { IsSmall powers.now }
+{
+    let _ = powers.count();
+    let _ = powers.total();
 }
 
 /// The answer to a validator's message depends on that validator's kept messages alone.

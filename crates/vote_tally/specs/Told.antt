@@ -1,0 +1,45 @@
+-- What a tally knows of its kept messages beside their lists.
+use Rattle.std.specs.Prelude.{◌≡◌, ℕ, ◌+◌, ◌<◌, ◌≤◌, ◌==◌, min, count_by, Bool, true, cond, List, [], Option, Some, None, IfSome, slice_index_or}
+use Rattle.std.specs.List.{list_all}
+use Rattle.std.specs.BTreeMap.{BTreeMap}
+use Rattle.powers.specs.Power.{power, is_weak}
+use Rattle.protocol.specs.Messages.{Proposal, Vote}
+use Rattle.protocol.specs.Tally.{power_above}
+use Rattle.vote_tally.specs.declared.heights.Heights.{Heights}
+use Rattle.vote_tally.specs.declared.heights.Heights.TheVariants.{Nothing, One, Several}
+use Rattle.vote_tally.specs.declared.totals.Topic.{Topic}
+use Rattle.vote_tally.specs.declared.totals.Total.{Total}
+use Rattle.vote_tally.specs.Totals.{has, IsSmall, AreTotals, speaks, total_at}
+
+-- how many messages validator i sent
+abbrev pub sent : List Proposal → List Vote → ℕ → ℕ
+sent qs vs i = count_by (λ (q : Proposal). q.sender == i) qs + count_by (λ (v : Vote). v.sender == i) vs
+
+abbrev pub with_height : Heights → ℕ → Heights
+with_height Nothing h = One h
+with_height (One only) h = cond (only == h) (One only) Several
+with_height Several h = Several
+
+-- the votes' heights
+abbrev pub AreHeights : Heights → List Vote → Type 0
+AreHeights Nothing vs = vs ≡ []
+AreHeights (One h) vs = list_all (λ (v : Vote). v.height == h) vs ≡ true
+AreHeights Several vs = Unit {0}
+
+-- the best is no lower than the number
+abbrev pub Reaches : Option ℕ → ℕ → Type 0
+Reaches None r = ⊥
+Reaches (Some best) r = r ≤ best
+
+-- of all numbers that pass the highest
+pub record IsHighest (test : ℕ → Bool) (best : Option ℕ) : Type 0 where
+  pub each : (r : ℕ) → test r ≡ true → Reaches best r
+  pub one : IfSome best (λ r. test r ≡ true)
+
+pub record IsTold (powers : List ℕ) (qs : List Proposal) (vs : List Vote) (known : BTreeMap Topic Total) (counted : List ℕ) (those : Heights) (best : Option ℕ) : Type 0 where
+  pub small : IsSmall powers
+  pub totals : AreTotals powers known
+  pub voters : (t : Topic) (i : ℕ) → i < 64 → has (total_at known t).voters i ≡ speaks qs vs t i
+  pub counts : (i : ℕ) → i < 64 → slice_index_or counted i 0 ≡ min (sent qs vs i) 65535
+  pub heights : AreHeights those vs
+  pub highest : IsHighest (λ r. is_weak powers (power_above powers qs vs r)) best
