@@ -3,11 +3,12 @@ use Rattle.std.proofs.Common.{◌≡◌, ℕ, zero, suc, ◌+◌, Bool, true, fa
 use Rattle.std.specs.Prelude.{◌==◌}
 use Rattle.std.proofs.lemmas.Bool.{cond_both}
 use Rattle.std.proofs.lemmas.List.{append-nil}
+use Rattle.std.proofs.lemmas.List.Concat.{flat_map-append}
 use Rattle.std.proofs.lemmas.List.Elements.{All-append}
 use Rattle.powers.specs.Power.{proposer}
 use Rattle.messages.specs.declared.body.Body.{Body}
 use Rattle.messages.specs.declared.body.Body.TheVariants.{Tx as OfTx, Proposal as OfProposal, Vote as OfVote, Ask as OfAsk, Bundle as OfBundle}
-use Rattle.protocol.specs.Values.{Value}
+use Rattle.protocol.specs.Values.{Value, items}
 use Rattle.protocol.specs.Messages.{◌∈◌, Record, Own, Decided, Bundle, step_eq}
 use Rattle.protocol.specs.declared.types.Step.{Step}
 use Rattle.protocol.specs.declared.types.Step.TheVariants.{Propose, Prevote, Precommit}
@@ -22,7 +23,7 @@ use Rattle.protocol.proofs.Waiting.{dropped_in}
 use Rattle.messages.specs.Grammar.{IsBundle}
 use Rattle.round_states.specs.Machine.{Agrees}
 use Rattle.round_states.specs.Pending.{Pending, pending_of}
-use Rattle.node_core.specs.Core.{Core, Stands, IsSame, IsSound, IsOf, IsStamp, setting, setting_of, context_of, frame_by}
+use Rattle.node_core.specs.Core.{Core, Stands, IsSame, IsSound, IsOf, IsStamp, delivered_in, setting, setting_of, context_of, frame_by}
 use Rattle.node_core.specs.Calls.{HasFiredOnce}
 use Rattle.node_core.specs.Firing.{decided_by, is_empty}
 use Rattle.node_core.proofs.Stepwise.{same_setting}
@@ -86,10 +87,11 @@ timed_plain g s v Propose = refl
 timed_plain g s v Prevote = refl
 timed_plain g s v Precommit = starts_plain g s (suc s.round) v
 
--- a firing decides, or its height and what is decided stay
+-- a firing decides, or its height and what is decided and delivered stay
 pub record Decides (g : Context) (v : Value) (s : State) (k : Rule) : Type 0 where
   pub empty : is_empty (decided_in (saved g v s k)) ≡ not (is_decision k)
   pub height : (fired g v s k).height ≡ s.height + length (decided_in (saved g v s k))
+  pub joined : (fired g v s k).delivered ≡ s.delivered ++ delivered_in (decided_in (saved g v s k))
 
 kept_height : (s : State) (b : Option Body) → (keeping_own s b).height ≡ s.height
 kept_height s None = refl
@@ -99,29 +101,43 @@ kept_height s (Some (OfVote v)) = refl
 kept_height s (Some (OfAsk a)) = refl
 kept_height s (Some (OfBundle b)) = refl
 
+kept_delivered : (s : State) (b : Option Body) → (keeping_own s b).delivered ≡ s.delivered
+kept_delivered s None = refl
+kept_delivered s (Some (OfTx t)) = refl
+kept_delivered s (Some (OfProposal q)) = refl
+kept_delivered s (Some (OfVote v)) = refl
+kept_delivered s (Some (OfAsk a)) = refl
+kept_delivered s (Some (OfBundle b)) = refl
+
+timed_delivered : (s : State) (kind : Step) → (changed_by_timeout s kind).delivered ≡ s.delivered
+timed_delivered s Propose = refl
+timed_delivered s Prevote = refl
+timed_delivered s Precommit = refl
+
 timed_height : (s : State) (kind : Step) → (changed_by_timeout s kind).height ≡ s.height
 timed_height s Propose = refl
 timed_height s Prevote = refl
 timed_height s Precommit = refl
 
-plain : (g : Context) (v : Value) (s : State) (k : Rule) → decided_in (saved g v s k) ≡ [] → is_decision k ≡ false → (changed s k).height ≡ s.height → Decides g v s k
-plain g v s k none still same = record {
+plain : (g : Context) (v : Value) (s : State) (k : Rule) → decided_in (saved g v s k) ≡ [] → is_decision k ≡ false → (changed s k).height ≡ s.height → (changed s k).delivered ≡ s.delivered → Decides g v s k
+plain g v s k none still same kept = record {
   empty = rw (none, still) refl;
   height = kept_height (changed s k) (released_by g.me (saved g v s k)) ∙ same ∙ (let e : length (decided_in (saved g v s k)) ≡ 0 = ap length none in omega (arith, e));
+  joined = kept_delivered (changed s k) (released_by g.me (saved g v s k)) ∙ kept ∙ sym (ap (λ bs. s.delivered ++ delivered_in bs) none ∙ append-nil s.delivered);
 }
 
 pub decides : (g : Context) (v : Value) (s : State) (k : Rule) → Decides g v s k
-decides g v s Start = plain g v s Start (starts_plain g s 0 v) refl refl
-decides g v s (PrevoteFresh u) = plain g v s (PrevoteFresh u) refl refl refl
-decides g v s (PrevoteAgain r u) = plain g v s (PrevoteAgain r u) refl refl refl
-decides g v s AwaitPrevotes = plain g v s AwaitPrevotes refl refl refl
-decides g v s (Lock u) = plain g v s (Lock u) (cond_both (step_eq s.step Prevote) _ _ (λ (w : Option Record). decided_in w ≡ []) (λ _. refl) (λ _. refl)) refl refl
-decides g v s PrecommitNil = plain g v s PrecommitNil refl refl refl
-decides g v s AwaitPrecommits = plain g v s AwaitPrecommits refl refl refl
-decides g v s (Decide r u) = record { empty = refl; height = omega arith }
-decides g v s (DecideByBundle b) = record { empty = refl; height = omega arith }
-decides g v s (SkipRound r) = plain g v s (SkipRound r) (starts_plain g s r v) refl refl
-decides g v s (TimedOut t) = plain g v s (TimedOut t) (timed_plain g s v t.kind) refl (timed_height s t.kind)
+decides g v s Start = plain g v s Start (starts_plain g s 0 v) refl refl refl
+decides g v s (PrevoteFresh u) = plain g v s (PrevoteFresh u) refl refl refl refl
+decides g v s (PrevoteAgain r u) = plain g v s (PrevoteAgain r u) refl refl refl refl
+decides g v s AwaitPrevotes = plain g v s AwaitPrevotes refl refl refl refl
+decides g v s (Lock u) = plain g v s (Lock u) (cond_both (step_eq s.step Prevote) _ _ (λ (w : Option Record). decided_in w ≡ []) (λ _. refl) (λ _. refl)) refl refl refl
+decides g v s PrecommitNil = plain g v s PrecommitNil refl refl refl refl
+decides g v s AwaitPrecommits = plain g v s AwaitPrecommits refl refl refl refl
+decides g v s (Decide r u) = record { empty = refl; height = omega arith; joined = ap (λ l. s.delivered ++ l) (sym (append-nil (items u))) }
+decides g v s (DecideByBundle b) = record { empty = refl; height = omega arith; joined = ap (λ l. s.delivered ++ l) (sym (append-nil (items b.value))) }
+decides g v s (SkipRound r) = plain g v s (SkipRound r) (starts_plain g s r v) refl refl refl
+decides g v s (TimedOut t) = plain g v s (TimedOut t) (timed_plain g s v t.kind) refl (timed_height s t.kind) (timed_delivered s t.kind)
 
 pub pending_decided : (me : ℕ) (wrote : Option Record) → decided_by (pending_of me wrote) ≡ decided_in wrote
 pending_decided me None = refl
@@ -179,6 +195,7 @@ fired_sound k old new f s spelled own =
       waiting = λ t i. rw (same, f.same.me) (s.waiting t (cond_both (is_empty (decided_in wrote)) old.queues (drop_delivered new.machine.state.delivered old.queues) (λ qs. t ∈ all_waiting qs → t ∈ all_waiting old.queues)
           (λ _ j. j) (λ _ j. dropped_in new.machine.state.delivered t old.queues j) (subst (λ qs. t ∈ all_waiting qs) f.queues i)));
       stamps = rw f.state (fired_stamps IsStamp (context_of old) (pick old.queues) old.machine.state k s.stamps);
+      joined = ap (λ (t : State). t.delivered) f.state ∙ d.joined ∙ ap (λ l. l ++ delivered_in (decided_in wrote)) s.joined ∙ sym (flat_map-append (λ (b : Bundle). items b.value) old.decisions (decided_in wrote)) ∙ ap delivered_in (sym f.decisions);
       decided = rw (f.decisions, f.state, d.height) (let e = length-append old.decisions (decided_in wrote) in omega (arith, e, s.decided));
       spelled = rw f.decisions (All-append IsBundle old.decisions (decided_in wrote) s.spelled spelled);
       own = rw (f.decisions, f.same.me) (All-append (IsOf old.machine.me) old.decisions (decided_in wrote) s.own own);

@@ -1,5 +1,5 @@
 -- What stays sound as a transaction is queued.
-use Rattle.std.proofs.Common.{◌≡◌, ℕ, zero, suc, true, List, inl, inr, None, refl, sym, ap, subst}
+use Rattle.std.proofs.Common.{◌≡◌, ℕ, zero, suc, true, List, inl, inr, None, refl, sym, ap, subst, ◌∙◌}
 use Rattle.std.specs.Prelude.{is_none}
 use Rattle.std.proofs.lemmas.Bool.{not-false}
 use Rattle.transactions.specs.Grammar.{IsTx}
@@ -37,6 +37,7 @@ sound_queued core t d s lawful none = record {
   ];
   stamps = s.stamps;
   decided = s.decided;
+  joined = s.joined;
   spelled = s.spelled;
   own = s.own;
 }
@@ -52,9 +53,9 @@ pub same_agreed : (core : Core) (m : Machine) → Agrees (context_of core) m →
 unfolding setting
 same_agreed core m a = record { powers = a.powers; me = a.me; ring = refl }
 
-pub sound_kept : (core : Core) (m : Machine) → IsSound core → Agrees (context_of core) m → All IsStamp m.state.stamps → m.state.height ≡ core.machine.state.height → IsSound (record core { machine = m })
+pub sound_kept : (core : Core) (m : Machine) → IsSound core → Agrees (context_of core) m → All IsStamp m.state.stamps → m.state.height ≡ core.machine.state.height → m.state.delivered ≡ core.machine.state.delivered → IsSound (record core { machine = m })
 unfolding setting
-sound_kept core m s a stamps height = record {
+sound_kept core m s a stamps height delivered = record {
   owner = rw a.me s.owner;
   count = rw a.powers s.count;
   me = rw (a.me, a.powers) s.me;
@@ -64,6 +65,7 @@ sound_kept core m s a stamps height = record {
   waiting = rw (a.powers, a.me) s.waiting;
   stamps = stamps;
   decided = rw height s.decided;
+  joined = delivered ∙ s.joined;
   spelled = s.spelled;
   own = rw a.me s.own;
 }

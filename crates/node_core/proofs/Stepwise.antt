@@ -1,5 +1,5 @@
 -- Calls step by step: a firing and those after it, and what is handed in and the firings after it.
-use Rattle.std.proofs.Common.{◌≡◌, ℕ, zero, suc, List, [], ◌∷◌, ◌++◌, map, Some, min, ◌-◌, ◌^◌, refl, sym, ap, subst, ◌∙◌}
+use Rattle.std.proofs.Common.{◌≡◌, ℕ, zero, suc, ◌+◌, ◌<◌, true, List, [], ◌∷◌, ◌++◌, map, Option, Some, is_some, min, ◌-◌, ◌^◌, refl, sym, ap, subst, ◌∙◌, arith, below_more}
 use Rattle.std.proofs.lemmas.List.{append-nil, append_assoc}
 use Rattle.protocol.specs.Messages.{Body}
 use Rattle.protocol.specs.Tags.{Setting}
@@ -10,7 +10,7 @@ use Rattle.protocol.specs.Arrivals.{firing}
 use Rattle.protocol.specs.History.{Input, Settle, first, firsts, taken}
 use Rattle.protocol.specs.Effects.{bodies_of, timeouts_of, by_rule, along, bodies_taken, timeouts_taken}
 use Rattle.node_core.specs.Core.{Core, Stands, IsSame, setting, setting_of, frame_by}
-use Rattle.node_core.specs.Calls.{HasFired, HasFiredOnce, IsTaken, IsCalled}
+use Rattle.node_core.specs.Calls.{EachIsNamed, HasFired, HasFiredOnce, IsTaken, IsCalled}
 use Rattle.node_core.specs.Running.{HasRun}
 
 pub same_setting : (old new : Core) → IsSame old new → setting_of new ≡ setting_of old
@@ -28,7 +28,7 @@ map_append f (x ∷ xs) ys = ap (λ l. f x ∷ l) (map_append f xs ys)
 
 -- no rule fired
 pub none_fired : (n : Node) (core : Core) → Stands n core → HasFired n 0 core core
-none_fired n core s = record { stands = s; outgoing = sym (append-nil core.outgoing); scheduled = sym (append-nil core.scheduled); same = same_itself core }
+none_fired n core s = record { named = λ k lt. absurd (omega (arith, lt)); stands = s; outgoing = sym (append-nil core.outgoing); scheduled = sym (append-nil core.scheduled); same = same_itself core }
 
 -- what a later part of a call leaves, told of the core before it
 moved_frames : (old mid : Core) → IsSame old mid → (give : Setting → ℕ → List Body) → map (frame_by mid) (give (setting_of mid) mid.machine.me) ≡ map (frame_by old) (give (setting_of old) old.machine.me)
@@ -39,6 +39,13 @@ moved_timeouts old mid s give = rw (s.powers, s.me, s.ring) refl
 
 moved_stands : (old mid new : Core) → IsSame old mid → (node : Setting → ℕ → Node) → Stands (node (setting_of mid) mid.machine.me) new → Stands (node (setting_of old) old.machine.me) new
 moved_stands old mid new s node x = rw (s.powers, s.me, s.ring) at x
+
+moved_named : (old mid : Core) → IsSame old mid → (times : ℕ) (node : Setting → ℕ → Node) → EachIsNamed (setting_of mid) mid.machine.me times (node (setting_of mid) mid.machine.me) → EachIsNamed (setting_of old) old.machine.me times (node (setting_of old) old.machine.me)
+moved_named old mid s times node x = rw (s.powers, s.me, s.ring) at x
+
+-- the order named a rule each time, and names one now
+named_more : (c : Setting) (p times : ℕ) (n : Node) (k : Rule) → EachIsNamed c p times n → enabled c.powers (firsts c p times n).state ≡ Some k → EachIsNamed c p (suc times) n
+named_more c p times n k before now i lt = below_more (λ j. is_some (enabled c.powers (firsts c p j n).state) ≡ true) times before (ap (λ (o : Option Rule). is_some o) now) i (omega (arith, lt))
 
 firsts_last : (c : Setting) (p times : ℕ) (n : Node) → firsts c p (suc times) n ≡ first c p (firsts c p times n)
 firsts_last c p zero n = refl
@@ -60,6 +67,7 @@ fired_more n k times old mid new e before once =
     let bodies : by_rule (bodies_of c p) m (enabled c.powers m.state) ≡ bodies_of c p m k = rw named refl in
     let timeouts : by_rule (timeouts_of c p) m (enabled c.powers m.state) ≡ timeouts_of c p m k = rw named refl in
     record {
+      named = named_more c p times n k before.named named;
       stands = subst (λ o. Stands o new) (sym at ∙ sym (firsts_last c p times n)) (moved_stands old mid new before.same (λ d q. (firing d q m k).node) once.stands);
       outgoing = once.outgoing ∙ ap (λ l. mid.outgoing ++ l) (moved_frames old mid before.same (λ d q. bodies_of d q m k)) ∙ ap (λ l. l ++ map (frame_by old) (bodies_of c p m k)) before.outgoing
           ∙ append_assoc old.outgoing (map (frame_by old) (along (bodies_of c p) c p times n)) _ ∙ ap (λ l. old.outgoing ++ l) (sym (map_append (frame_by old) (along (bodies_of c p) c p times n) (bodies_of c p m k)))
@@ -76,6 +84,7 @@ called n input times old mid new first rest count =
     let p : ℕ = old.machine.me in
     let m : Node = taken c p n input in
     record {
+      named = moved_named old mid first.same times (λ d q. m) rest.named;
       stands = moved_stands old mid new first.same (λ d q. firsts d q times m) rest.stands;
       outgoing = rest.outgoing ∙ ap (λ l. mid.outgoing ++ l) (moved_frames old mid first.same (λ d q. along (bodies_of d q) d q times m)) ∙ ap (λ l. l ++ map (frame_by old) (along (bodies_of c p) c p times m)) first.outgoing
           ∙ append_assoc old.outgoing (map (frame_by old) (bodies_taken c p n input)) _ ∙ ap (λ l. old.outgoing ++ l) (sym (map_append (frame_by old) (bodies_taken c p n input) (along (bodies_of c p) c p times m)));
@@ -103,7 +112,7 @@ pub run_counted : (old new : Core) (count : ℕ) → HasRun (record old { fired 
 run_counted old new count r = record {
   times = r.times;
   count = r.count;
-  ran = λ n s. let h = r.ran n (stands_counted n old count s) in record { stands = h.stands; outgoing = h.outgoing; scheduled = h.scheduled; same = record { powers = h.same.powers; me = h.same.me; ring = h.same.ring } };
+  ran = λ n s. let h = r.ran n (stands_counted n old count s) in record { named = h.named; stands = h.stands; outgoing = h.outgoing; scheduled = h.scheduled; same = record { powers = h.same.powers; me = h.same.me; ring = h.same.ring } };
 }
 
 -- what is handed in, and then a run

@@ -1,8 +1,10 @@
 -- What a call answers, and what it leaves.
-use Rattle.std.specs.Prelude.{◌≡◌, ℕ, ◌-◌, ◌^◌, ◌⊎◌, ◌++◌, map, min, Option, Some, None, Result, Ok, Err}
+use Rattle.std.specs.Prelude.{◌≡◌, ℕ, ◌<◌, ◌-◌, ◌^◌, ◌⊎◌, ◌++◌, map, min, true, Option, Some, None, is_some, Result, Ok, Err}
 use Rattle.transactions.specs.declared.fault.Fault.TheVariants as faults
 use Rattle.protocol.specs.Messages.{Message}
+use Rattle.protocol.specs.Tags.{Setting}
 use Rattle.protocol.specs.State.{Node, Rule}
+use Rattle.protocol.specs.Order.{enabled}
 use Rattle.protocol.specs.Refusals.{Refusal}
 use Rattle.protocol.specs.Refusals as causes
 use Rattle.protocol.specs.Arrivals.{firing, received}
@@ -63,8 +65,13 @@ IsUnchanged old new = new ≡ record old { fired = 0 }
 
 -- ---- what a call leaves
 
+-- before each of this many firings the order names a rule
+abbrev pub EachIsNamed : Setting → ℕ → ℕ → Node → Type 0
+EachIsNamed c p times n = (k : ℕ) → k < times → is_some (enabled c.powers (firsts c p k n).state) ≡ true
+
 -- rules fired, each time the first that the order names
 pub record HasFired (n : Node) (times : ℕ) (old new : Core) : Type 0 where
+  pub named : EachIsNamed (setting_of old) old.machine.me times n
   pub stands : Stands (firsts (setting_of old) old.machine.me times n) new
   pub outgoing : new.outgoing ≡ old.outgoing ++ map (frame_by old) (along (bodies_of (setting_of old) old.machine.me) (setting_of old) old.machine.me times n)
   pub scheduled : new.scheduled ≡ old.scheduled ++ along (timeouts_of (setting_of old) old.machine.me) (setting_of old) old.machine.me times n
@@ -100,8 +107,9 @@ pub record IsTaken (n : Node) (input : Input) (old new : Core) : Type 0 where
   pub scheduled : new.scheduled ≡ old.scheduled ++ timeouts_taken (setting_of old) old.machine.me n input
   pub same : IsSame old new
 
--- A call did to the node what its input and this many firings do to it. It counts firings up to the greatest u64.
+-- A call did to the node what its input and this many firings do to it, for each of which the order named a rule. It counts them up to the greatest u64.
 pub record IsCalled (n : Node) (input : Input) (times : ℕ) (old new : Core) : Type 0 where
+  pub named : EachIsNamed (setting_of old) old.machine.me times (taken (setting_of old) old.machine.me n input)
   pub stands : Stands (after (setting_of old) old.machine.me n input times) new
   pub outgoing : new.outgoing ≡ old.outgoing ++ map (frame_by old) (bodies_after (setting_of old) old.machine.me n input times)
   pub scheduled : new.scheduled ≡ old.scheduled ++ timeouts_after (setting_of old) old.machine.me n input times

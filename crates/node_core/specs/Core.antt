@@ -1,11 +1,11 @@
 -- What callers see of a node's core, and which node of the definitions it stands for.
-use Rattle.std.specs.Prelude.{◌≡◌, ℕ, ◌<◌, ◌≤◌, true, cond, List, [], All, length, Option, Some, None, is_some}
+use Rattle.std.specs.Prelude.{◌≡◌, ℕ, ◌<◌, ◌≤◌, true, cond, List, [], All, flat_map, length, Option, Some, None, is_some}
 use Rattle.transactions.specs.Grammar.{IsTx, AreTags}
 use Rattle.messages.specs.Grammar.{IsBundle}
 use Rattle.messages.specs.Framing.{frame_spelling}
 use Rattle.authenticators.specs.Ring.{Ring, incoming, outgoing, IsWhole}
 use Rattle.authenticators.specs.Keys.{same_party}
-use Rattle.protocol.specs.Values.{Tx}
+use Rattle.protocol.specs.Values.{Tx, Item, items}
 use Rattle.protocol.specs.Tags.{Setting, Validator, Client, tx_is_right}
 use Rattle.protocol.specs.Messages.{◌∈◌, Body, Bundle, tagged}
 use Rattle.protocol.specs.declared.types.Stamp.{Stamp}
@@ -64,6 +64,10 @@ pub record IsSame (old new : Core) : Type 0 where
   pub me : new.machine.me ≡ old.machine.me
   pub ring : new.ring ≡ old.ring
 
+-- the items of the decided values, in order of height
+abbrev pub delivered_in : List Bundle → List Item
+delivered_in decisions = flat_map (λ (b : Bundle). items b.value) decisions
+
 -- ---- what holds between calls
 
 -- the transaction has a spelling, and its own tag is right
@@ -87,5 +91,6 @@ pub record IsSound (core : Core) : Type 0 where
   pub waiting : (t : Tx) → t ∈ all_waiting core.queues → IsGood (setting_of core) core.machine.me t
   pub stamps : All IsStamp core.machine.state.stamps
   pub decided : length core.decisions ≡ core.machine.state.height
+  pub joined : core.machine.state.delivered ≡ delivered_in core.decisions
   pub spelled : All IsBundle core.decisions
   pub own : All (IsOf core.machine.me) core.decisions

@@ -7,7 +7,8 @@ ghost use Rattle.protocol.specs.Order.{enabled};
 ghost use Rattle.protocol.specs.Restart.{opened};
 ghost use Rattle.proposal_validity.specs.Standing.{IsFrontierOf};
 ghost use Rattle.round_states.specs.Seen.{delivered_by};
-ghost use Rattle.node_core.specs.Core.{Stands};
+ghost use Rattle.height_catchup.specs.Kept.{IsInPlace};
+ghost use Rattle.node_core.specs.Core.{Stands, delivered_in};
 
 use authenticators::KeyRing;
 use height_catchup::Decisions;
@@ -100,19 +101,25 @@ impl NodeCore {
     }
 
     /// The decided values, in order of height: their transactions are the delivered list, which keeps every
-    /// client's order.
+    /// client's order. It is that of `decisions`.
     pub fn delivered(&self) -> &[Value]
         ensures delivered { delivered_by result.now ≡ self.now.machine.state.delivered }
+        ensures joined { self.now.machine.state.delivered ≡ delivered_in self.now.decisions }
         ensures order { fifo self.now.machine.state.delivered ≡ true }
     {
         self.state.frontier();
         self.state.decided()
     }
 
-    /// The decisions, in order of height, each with its certificate.
+    /// The decisions, in order of height, each with its certificate. There is one of each height below the own one.
     pub fn decisions(&self) -> &[Bundle]
-        ensures { result.now ≡ self.now.decisions }
+        ensures decisions { result.now ≡ self.now.decisions }
+        ensures each { length self.now.decisions ≡ self.now.machine.state.height }
+        ensures placed { IsInPlace self.now.decisions }
+        ensures joined { self.now.machine.state.delivered ≡ delivered_in self.now.decisions }
     {
+        // `len` ensures that each stands at the place of its height.
+        let _ = self.decisions.len();
         self.decisions.as_slice()
     }
 

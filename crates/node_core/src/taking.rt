@@ -1,6 +1,6 @@
 //! What comes is taken in, or refused.
 
-ghost use Rattle.std.specs.Prelude.{◌≡◌, ◌++◌, ◌∷◌, [], true, IfOk, IfSome, OnOk, OnErr, is_some, map, nat_lt};
+ghost use Rattle.std.specs.Prelude.{◌≡◌, ◌++◌, ◌∷◌, ◌||◌, [], true, IfOk, IfSome, OnOk, OnErr, is_some, map, nat_lt};
 ghost use Rattle.transactions.specs.Grammar.{IsTxBody, IsValue, AreTags};
 ghost use Rattle.messages.specs.Grammar.{IsBundle};
 ghost use Rattle.messages.specs.Framing.{IsMessage};
@@ -83,12 +83,24 @@ impl NodeCore {
         ensures beside { IsBeside self.old self.new }
         ensures err { OnErr result (self.new ≡ self.old) }
     {
-        let genuine = is_genuine(self.alloc, &self.ring, &proposal.value)?;
+        self.state.check_proposal(&proposal)?;
+        let genuine = self.is_genuine(&proposal)?;
         let message = Message {
             body: Body::Proposal(proposal),
             tags,
         };
         Ok(self.state.take_in(message, genuine)?)
+    }
+
+    /// Whether the own tags of a proposal's transactions are right. Of one with a valid round nobody asks.
+    fn is_genuine(&self, proposal: &Proposal) -> Result<bool, AllocError>
+        requires { IsValue proposal.now.value }
+        ensures { IfOk result (λ genuine. (genuine || is_some proposal.now.valid_round) ≡ ((context_of self.now).genuine proposal.now.value || is_some proposal.now.valid_round)) }
+    {
+        match proposal.valid_round {
+            Some(_) => Ok(true),
+            None => is_genuine(self.alloc, &self.ring, &proposal.value),
+        }
     }
 
     /// An ask for a height below the own one is answered by its decision.

@@ -71,6 +71,17 @@ fn begin(rt: &impl Abort, core: &mut NodeCore) {
     assert_eq!(rt; core.settle(), Ok(()));
 }
 
+/// A value's bytes: those of its one transaction, and the tags for validators 0 to 3.
+fn value_spelling(number: u8) -> [u8; 146] {
+    let tx = [1, 0, 7, 0, 0, 0, 0, 0, 0, 0, number, 0, 0, 1, 0x61];
+    let mut bytes = [0; 146];
+    bytes[1] = 1;
+    bytes[2..17].copy_from_slice(&tx);
+    bytes[17] = 4;
+    bytes[114..].copy_from_slice(&hmac(&[0x77; 32], &tx));
+    bytes
+}
+
 /// The validator and what comes to it.
 #[derive(Drop)]
 struct Node {
@@ -104,13 +115,7 @@ impl Node {
 
     /// The value of one transaction of client 7 with this number, the byte 0x61 under right tags.
     fn value(&self, number: u8) -> Result<Value, Fail> {
-        let tx = [1, 0, 7, 0, 0, 0, 0, 0, 0, 0, number, 0, 0, 1, 0x61];
-        let mut bytes = [0u8; 146];
-        bytes[1] = 1;
-        bytes[2..17].copy_from_slice(&tx);
-        bytes[17] = 4;
-        bytes[114..].copy_from_slice(&hmac(&[0x77; 32], &tx));
-        Ok(read_value(self.alloc, &bytes)?)
+        Ok(read_value(self.alloc, &value_spelling(number))?)
     }
 
     /// Its id.
@@ -129,6 +134,18 @@ impl Node {
             value: self.value(number)?,
         }))
     }
+}
+
+/// Lets a validator that has begun do this.
+fn on_node<F: FnOnce(&mut Node) -> Result<(), Fail>>(
+    rt: &impl Abort,
+    alloc: Global,
+    act: F,
+) -> Result<(), Fail>
+    requires { F.IsAlwaysCallable act }
+{
+    let mut node = Node::new(rt, alloc)?;
+    act(&mut node)
 }
 
 /// A vote of height 0.

@@ -9,6 +9,7 @@ ghost use Rattle.std.specs.Prelude.{◌≡◌, ◌<◌, ◌≤◌, ◌^◌, ◌*
 ghost use Rattle.std.specs.List.{list_any};
 ghost use Rattle.powers.specs.Power.{power, total, is_quorum, is_weak, proposer, ArePowers, QuorumsShare, QuorumsShareHonest};
 ghost use Rattle.powers.specs.Admission.{admitted};
+ghost use Rattle.powers.specs.Numbers.{number_of};
 
 use std::alloc::{AllocError, Global};
 use std::marker::Model;
@@ -19,18 +20,27 @@ pub const MOST_VALIDATORS: usize = 64;
 /// Why a list of powers is refused: the first cause in this order.
 #[derive(Clone, Copy, Debug, PartialEq, Eq, thiserror::Error)]
 pub enum PowersFault {
-    /// The list has no validator.
+    /// 1: the list has no validator.
     #[error("there is no validator")]
     Empty = 1,
-    /// The list has more than 64 validators.
+    /// 2: the list has more than 64 validators.
     #[error("there are more than 64 validators")]
     TooMany = 2,
-    /// A validator has no power.
+    /// 3: a validator has no power.
     #[error("a validator has no power")]
     ZeroPower = 3,
-    /// One validator is a quorum alone: it has more than two thirds of the total power.
+    /// 4: one validator is a quorum alone: it has more than two thirds of the total power.
     #[error("one validator is a quorum alone")]
     Dominant = 4,
+}
+
+impl PowersFault {
+    /// The number of the fault, 1 to 4.
+    pub fn number(self) -> u8
+        ensures { result ≡ number_of self }
+    {
+        self as u8
+    }
 }
 
 /// The powers of 2 to 64 validators, none of which is a quorum alone. The validators are numbered

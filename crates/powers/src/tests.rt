@@ -1,63 +1,82 @@
 use super::*;
+use std::process::Abort;
 use std::test::Fail;
+
+fn powers_of(alloc: Global, list: &[u32]) -> Result<Powers, Fail> {
+    Ok(Powers::new(Vec::from_slice(alloc, list)?)?)
+}
+
+/// What a list is refused for, if it is.
+fn fault_of(alloc: Global, list: &[u32]) -> Result<Option<PowersFault>, AllocError> {
+    Ok(Powers::new(Vec::from_slice(alloc, list)?).err())
+}
+
+/// Whether these are the least powers that are a quorum and a weak quorum.
+fn begin_at(powers: &Powers, quorum: u64, weak: u64) -> bool {
+    powers.is_quorum(quorum)
+        && !powers.is_quorum(quorum.saturating_sub(1))
+        && powers.is_weak(weak)
+        && !powers.is_weak(weak.saturating_sub(1))
+}
 
 #[test]
 fn thresholds(rt: HostRuntime) -> Result<(), Fail> {
-    let equal = Powers::new(vec![in rt.alloc(); 1, 1, 1]?)?;
-    assert!(rt; !equal.is_quorum(2));
-    assert!(rt; equal.is_quorum(3));
-    assert!(rt; !equal.is_weak(1));
-    assert!(rt; equal.is_weak(2));
-    let uneven = Powers::new(vec![in rt.alloc(); 5, 3, 2]?)?;
-    assert!(rt; !uneven.is_quorum(6));
-    assert!(rt; uneven.is_quorum(7));
-    assert!(rt; !uneven.is_weak(3));
-    assert!(rt; uneven.is_weak(4));
+    assert!(rt; begin_at(&powers_of(rt.alloc(), &[1, 1, 1])?, 3, 2));
+    assert!(rt; begin_at(&powers_of(rt.alloc(), &[5, 3, 2])?, 7, 4));
     Ok(())
+}
+
+/// The numbers of three validators of powers 5, 3 and 2.
+fn assert_numbers(rt: &impl Abort, powers: &Powers) {
+    assert_eq!(rt; powers.total(), 10);
+    assert_eq!(rt; powers.count(), 3);
+    assert_eq!(rt; powers.power_of(0), Some(5));
+    assert_eq!(rt; powers.power_of(2), Some(2));
+    assert_eq!(rt; powers.power_of(3), None);
+    let mut members = [false; MOST_VALIDATORS];
+    assert_eq!(rt; powers.power_of_set(&members), 0);
+    members[0] = true;
+    members[2] = true;
+    members[3] = true;
+    members[63] = true;
+    assert_eq!(rt; powers.power_of_set(&members), 7);
+}
+
+fn assert_turns(rt: &impl Abort, powers: &Powers) {
+    assert_eq!(rt; powers.proposer(0, 0), 0);
+    assert_eq!(rt; powers.proposer(1, 1), 2);
+    assert_eq!(rt; powers.proposer(2, 1), 0);
+    // 2^64 - 1 and 2^32 - 1 are multiples of 3.
+    assert_eq!(rt; powers.proposer(u64::MAX, u32::MAX), 0);
 }
 
 #[test]
 fn validators(rt: HostRuntime) -> Result<(), Fail> {
-    let uneven = Powers::new(vec![in rt.alloc(); 5, 3, 2]?)?;
-    let copy = uneven.copy(rt.alloc())?;
-    for powers in [uneven, copy] {
-        assert_eq!(rt; powers.total(), 10);
-        assert_eq!(rt; powers.count(), 3);
-        assert_eq!(rt; powers.power_of(0), Some(5));
-        assert_eq!(rt; powers.power_of(2), Some(2));
-        assert_eq!(rt; powers.power_of(3), None);
-        assert_eq!(rt; powers.proposer(0, 0), 0);
-        assert_eq!(rt; powers.proposer(1, 1), 2);
-        assert_eq!(rt; powers.proposer(2, 1), 0);
-        // 2^64 - 1 and 2^32 - 1 are multiples of 3.
-        assert_eq!(rt; powers.proposer(u64::MAX, u32::MAX), 0);
-        let mut members = [false; MOST_VALIDATORS];
-        assert_eq!(rt; powers.power_of_set(&members), 0);
-        members[0] = true;
-        members[2] = true;
-        members[3] = true;
-        members[63] = true;
-        assert_eq!(rt; powers.power_of_set(&members), 7);
-    }
+    let uneven = powers_of(rt.alloc(), &[5, 3, 2])?;
+    assert_numbers(&rt, &uneven);
+    assert_turns(&rt, &uneven);
+    assert_numbers(&rt, &uneven.copy(rt.alloc())?);
     Ok(())
 }
 
 #[test]
 fn faults(rt: HostRuntime) -> Result<(), Fail> {
     let alloc = rt.alloc();
-    for (powers, fault) in [
-        (vec![in alloc]?, Some(PowersFault::Empty)),
-        (vec![in alloc; 1; 65]?, Some(PowersFault::TooMany)),
-        (vec![in alloc; 0; 65]?, Some(PowersFault::TooMany)),
-        (vec![in alloc; 1; 64]?, None),
-        (vec![in alloc; 1, 0, 1]?, Some(PowersFault::ZeroPower)),
-        (vec![in alloc; 0, 9]?, Some(PowersFault::ZeroPower)),
-        (vec![in alloc; 7, 3]?, Some(PowersFault::Dominant)),
-        (vec![in alloc; 1]?, Some(PowersFault::Dominant)),
-        (vec![in alloc; 2, 1]?, None),
-        (vec![in alloc; u32::MAX; 64]?, None),
-    ] {
-        assert_eq!(rt; Powers::new(powers).err(), fault);
-    }
+    assert_eq!(rt; fault_of(alloc, &[])?, Some(PowersFault::Empty));
+    assert_eq!(rt; fault_of(alloc, &[1; 65])?, Some(PowersFault::TooMany));
+    assert_eq!(rt; fault_of(alloc, &[0; 65])?, Some(PowersFault::TooMany));
+    assert_eq!(rt; fault_of(alloc, &[1; 64])?, None);
+    assert_eq!(rt; fault_of(alloc, &[1, 0, 1])?, Some(PowersFault::ZeroPower));
+    assert_eq!(rt; fault_of(alloc, &[0, 9])?, Some(PowersFault::ZeroPower));
+    assert_eq!(rt; fault_of(alloc, &[7, 3])?, Some(PowersFault::Dominant));
+    assert_eq!(rt; fault_of(alloc, &[1])?, Some(PowersFault::Dominant));
+    assert_eq!(rt; fault_of(alloc, &[2, 1])?, None);
+    assert_eq!(rt; fault_of(alloc, &[u32::MAX; 64])?, None);
     Ok(())
+}
+
+#[test]
+fn numbers_of_faults(rt: HostRuntime) {
+    assert_eq!(rt; PowersFault::Empty.number(), 1);
+    assert_eq!(rt; PowersFault::Dominant.number(), 4);
 }

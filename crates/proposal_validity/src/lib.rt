@@ -9,7 +9,7 @@ ghost use Rattle.std.specs.Prelude.{◌≡◌, ◌≤◌, ◌+◌, ◌^◌, ◌+
 ghost use Rattle.transactions.specs.Grammar.{IsTx, IsValue};
 ghost use Rattle.protocol.specs.Values.{Item, item, items, valid};
 ghost use Rattle.proposal_validity.specs.Standing.{Standing, standing, IsFrontierOf, IsStanding};
-ghost use Rattle.proposal_validity.specs.Course.{after, all_fit, items_of};
+ghost use Rattle.proposal_validity.specs.Course.{all_fit, items_of};
 ghost use Rattle.proposal_validity.specs.Laws.{FrontierLaw, ValidLaw};
 
 mod standing;
@@ -18,6 +18,9 @@ use standing::{Standing, grow, pass, past_last};
 use std::alloc::{AllocError, Global};
 use std::marker::Model;
 use transactions::{Tx, Value};
+
+/// How many clients there can be: their numbers are 0 to 1023.
+const MOST_CLIENTS: usize = 1024;
 
 /// For each client the number of its next transaction, and whether it has closed.
 ///
@@ -67,7 +70,8 @@ impl Frontier {
     /// Whether the value may be delivered next: whether each of its transactions is its client's next,
     /// after those delivered and those before it in the value.
     ///
-    /// It takes no memory, and compares each transaction with those before it.
+    /// It takes no memory, and looks at each transaction once: the place of each client's last one in the
+    /// value is marked on the stack.
     pub fn valid(&self, value: &Value) -> bool
         requires { IsValue value.now }
         ensures { (d : List Item) → IsFrontierOf d self.now → result ≡ valid d value.now }
@@ -112,14 +116,21 @@ impl Frontier {
     }
 
     fn all_fit(&self, txs: &[Tx]) -> bool
-        requires { All IsTx txs.now }
+        requires few { length txs.now ≤ 256 }
+        requires spelled { All IsTx txs.now }
         ensures { result ≡ all_fit (standing self.now) (items_of txs.now) }
     {
+        let mut last_places: [Option<u8>; MOST_CLIENTS] = [None; MOST_CLIENTS];
         for (i, tx) in txs.iter().enumerate() {
-            let standing = self.standing(tx.client).after(&txs[..i], tx.client);
+            let client = tx.client as usize;
+            let standing = match last_places[client] {
+                Some(place) => Standing::left_by(&txs[place as usize]),
+                None => self.standing(tx.client),
+            };
             if !standing.admits(tx) {
                 return false;
             }
+            last_places[client] = Some(i as u8);
         }
         true
     }

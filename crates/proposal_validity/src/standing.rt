@@ -42,20 +42,6 @@ impl Standing {
     {
         tx.number == self.next && !self.closed
     }
-
-    /// The client's standing after these transactions, of which some may be other clients'.
-    pub fn after(self, txs: &[Tx], client: u16) -> Standing
-        requires { All IsTx txs.now }
-        ensures { result ≡ after client (items_of txs.now) self }
-    {
-        let mut standing = self;
-        for tx in txs {
-            if tx.client == client {
-                standing = Standing::left_by(tx);
-            }
-        }
-        standing
-    }
 }
 
 /// The least number above each client's.

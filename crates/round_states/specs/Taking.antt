@@ -39,9 +39,9 @@ IsAnswer cause (Err answers.RoundLimit) = cause ≡ Some causes.RoundLimit
 IsAnswer cause (Err answers.RoundAhead) = cause ≡ Some causes.RoundAhead
 IsAnswer cause (Err answers.WrongProposer) = cause ≡ Some causes.WrongProposer
 
--- The handed answer is this context's, where the message is a proposal.
+-- The handed answer is this context's, where the message is a proposal without a valid round.
 abbrev pub IsTold : Context → Body → Bool → Type 0
-IsTold g (OfProposal q) genuine = genuine ≡ g.genuine q.value
+IsTold g (OfProposal q) genuine = (genuine || is_some q.valid_round) ≡ (g.genuine q.value || is_some q.valid_round)
 IsTold g (OfVote v) genuine = Unit {0}
 IsTold g (OfTx t) genuine = Unit {0}
 IsTold g (OfAsk a) genuine = Unit {0}

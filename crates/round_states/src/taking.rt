@@ -1,6 +1,6 @@
 //! Taking messages in.
 
-ghost use Rattle.std.specs.Prelude.{◌≡◌, ◌≤◌, OnOk, OnErr, Some, None, Option, option_to_list, length};
+ghost use Rattle.std.specs.Prelude.{◌≡◌, ◌≢◌, ◌≤◌, OnOk, OnErr, Some, None, Err, Option, option_to_list, length};
 ghost use Rattle.transactions.specs.Grammar.{IsValue};
 ghost use Rattle.protocol.specs.Values.{id as name_of};
 ghost use Rattle.protocol.specs.Messages.{step_of_vote};
@@ -86,8 +86,8 @@ impl From<TallyFault> for Refusal {
 
 impl State {
     /// Keeps a proposal or a vote of a known sender. `genuine` says whether the own tags of a
-    /// proposal's transactions are right; a vote has none. The id of a proposal's value and whether
-    /// it may be delivered next are found here, once.
+    /// proposal's transactions are right: nobody asks of a proposal with a valid round, and a vote has
+    /// none. The id of a proposal's value and whether it may be delivered next are found here, once.
     pub fn take_in(&mut self, message: Message, genuine: bool) -> Result<(), Refusal>
         requires { IsKept message.body }
         ensures answer { IsAnswer (cause_against self.old message.body) result }
@@ -100,6 +100,20 @@ impl State {
             Body::Proposal(proposal) => self.take_proposal(proposal, genuine),
             Body::Vote(vote) => self.take_vote(vote, tags),
             Body::Tx(_) | Body::Ask(_) | Body::Bundle(_) => unreachable!(),
+        }
+    }
+
+    /// The first cause against keeping a proposal, found before anything of it is hashed.
+    ///
+    /// It takes no memory.
+    pub fn check_proposal(&self, proposal: &Proposal) -> Result<(), Refusal>
+        ensures answer { IsAnswer (first_cause (proposal_causes self.now.powers self.now.me self.now.state proposal.now)) result }
+        ensures memory { result ≢ Err Refusal.OutOfMemory }
+    {
+        self.check_place(proposal)?;
+        match self.tally.fault_of_proposal(proposal) {
+            Some(fault) => Err(fault.into()),
+            None => Ok(()),
         }
     }
 
@@ -129,10 +143,7 @@ impl State {
         ensures ok { OnOk result (self.new ≡ with_proposal self.old proposal genuine) }
         ensures err { OnErr result (self.new ≡ self.old) }
     {
-        self.check_place(&proposal)?;
-        if let Some(fault) = self.tally.fault_of_proposal(&proposal) {
-            return Err(fault.into());
-        }
+        self.check_proposal(&proposal)?;
         let id = value_id(self.alloc, &proposal.value).map_err(|_| Refusal::OutOfMemory)?;
         self.keep_proposal(proposal, id, genuine)?;
         Ok(())

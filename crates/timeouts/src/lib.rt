@@ -10,6 +10,7 @@ ghost use Rattle.std.specs.Prelude.{◌≡◌, ◌<◌, All, IfNone, OnOk, OnErr
 ghost use Rattle.std.specs.List.Sorted.{IsNonDecreasingBy};
 ghost use Rattle.timeouts.specs.Waiting.{planned, lasting, due_of, placed, given, left, earliest, of_heights_from};
 ghost use Rattle.timeouts.specs.Laws.{AccountLaw};
+ghost use Rattle.timeouts.specs.Numbers.{number_of};
 
 use protocol::Timeout;
 use std::alloc::{AllocFailed, Global};
@@ -28,6 +29,15 @@ pub enum PlanFault {
     /// 2: a growth was refused memory.
     #[error("out of memory")]
     OutOfMemory = 2,
+}
+
+impl PlanFault {
+    /// The number of the fault, 1 or 2.
+    pub fn number(self) -> u8
+        ensures { result ≡ number_of self }
+    {
+        self as u8
+    }
 }
 
 impl<T: Drop> From<AllocFailed<T>> for PlanFault {

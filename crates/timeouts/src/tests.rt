@@ -28,6 +28,7 @@ fn limits(rt: HostRuntime) -> Result<(), Fail> {
     for (start, delta) in [(86_400_001, 0), (0, 86_400_001)] {
         let fault = Plan::new(rt.alloc(), start, delta).err();
         assert_eq!(rt; fault, Some(PlanFault::TooLong));
+        assert_eq!(rt; fault.map(PlanFault::number), Some(1));
     }
     let mut plan = Plan::new(rt.alloc(), 86_400_000, 86_400_000)?;
     let last = timeout(Step::Precommit, u64::MAX, u32::MAX);

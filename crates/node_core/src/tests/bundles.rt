@@ -1,6 +1,6 @@
 //! Decisions by bundles, and asks for them.
 
-use super::{Answer, Node, vote};
+use super::{Answer, Node, on_node, vote};
 use crate::Refusal;
 use authenticators::hmac;
 use height_catchup::JudgeFault;
@@ -16,9 +16,34 @@ pub(super) const RIGHT: [(u16, u8); 3] = [(0, 0x00), (1, 0x11), (2, 0x22)];
 /// A bundle's height, the number of its value, an id that is not its value's, its precommits and its key.
 type Bundled<'a> = (u64, u8, Option<Id>, &'a [(u16, u8)], u8);
 
-fn decides_nothing(fault: JudgeFault) -> Answer {
-    Err(Refusal::Bundle(fault))
-}
+/// Two senders, of which one names its vote twice.
+const FEW: [(u16, u8); 3] = [(0, 0x00), (1, 0x22), (1, 0x11)];
+
+/// The third has no right tag.
+const WRONG: [(u16, u8); 3] = [(0, 0x00), (1, 0x11), (2, 0x11)];
+
+const OTHER: Option<Id> = Some([7; 32]);
+
+const WRONG_DIGEST: Answer = Err(Refusal::Bundle(JudgeFault::WrongDigest));
+
+const NO_QUORUM: Answer = Err(Refusal::Bundle(JudgeFault::NoQuorum));
+
+const BAD_TAG: Answer = Err(Refusal::Bundle(JudgeFault::BadTag));
+
+const NOT_VALID: Answer = Err(Refusal::Bundle(JudgeFault::NotValid));
+
+/// Each has the later causes too, as far as they can stand beside the first; a round above the last one is none of
+/// them.
+const BUNDLES: [(Bundled, Answer); 8] = [
+    ((1, 2, OTHER, &FEW, 0x99), Err(Refusal::BadTag)),
+    ((1, 2, OTHER, &FEW, 0x00), Err(Refusal::OtherHeight)),
+    ((0, 2, OTHER, &FEW, 0x00), WRONG_DIGEST),
+    ((0, 2, None, &FEW, 0x00), NO_QUORUM),
+    ((0, 2, None, &WRONG, 0x00), BAD_TAG),
+    ((0, 2, None, &RIGHT, 0x00), NOT_VALID),
+    ((0, 1, None, &RIGHT, 0x00), Ok(())),
+    ((0, 1, None, &RIGHT, 0x00), Err(Refusal::OtherHeight)),
+];
 
 /// A precommit of round 1,000,001, with the tag for validator 3 under a key of this byte.
 fn precommit(alloc: Global, id: Id, sender: u16, key: u8) -> Result<Precommit, Fail> {
@@ -137,34 +162,12 @@ impl Node {
     }
 }
 
-// Each has the later causes too, as far as they can stand beside the first; a round above the last one is none of them.
 #[test]
 fn causes_against_a_bundle(rt: HostRuntime) -> Result<(), Fail> {
-    let mut node = Node::new(&rt, rt.alloc())?;
-    let few = [(0, 0x00), (1, 0x22), (1, 0x11)];
-    let wrong = [(0, 0x00), (1, 0x11), (2, 0x11)];
-    let other = Some([7; 32]);
-    let wrong_digest = decides_nothing(JudgeFault::WrongDigest);
-    let no_quorum = decides_nothing(JudgeFault::NoQuorum);
-    let bad_tag = decides_nothing(JudgeFault::BadTag);
-    let not_valid = decides_nothing(JudgeFault::NotValid);
-    node.judges_bundles(
-        &rt,
-        &[
-            ((1, 2, other, &few, 0x99), Err(Refusal::BadTag)),
-            ((1, 2, other, &few, 0x00), Err(Refusal::OtherHeight)),
-            ((0, 2, other, &few, 0x00), wrong_digest),
-            ((0, 2, None, &few, 0x00), no_quorum),
-            ((0, 2, None, &wrong, 0x00), bad_tag),
-            ((0, 2, None, &RIGHT, 0x00), not_valid),
-            ((0, 1, None, &RIGHT, 0x00), Ok(())),
-            ((0, 1, None, &RIGHT, 0x00), Err(Refusal::OtherHeight)),
-        ],
-    )
+    on_node(&rt, rt.alloc(), |node| node.judges_bundles(&rt, &BUNDLES))
 }
 
 #[test]
 fn asks_are_answered(rt: HostRuntime) -> Result<(), Fail> {
-    let mut node = Node::new(&rt, rt.alloc())?;
-    node.answers_an_ask(&rt)
+    on_node(&rt, rt.alloc(), |node| node.answers_an_ask(&rt))
 }

@@ -2,7 +2,7 @@
 
 use super::bundles::RIGHT;
 use super::timeouts::due;
-use super::{Node, vote};
+use super::{Node, on_node, vote};
 use crate::Refusal;
 use messages::{Ask, Body, Step as VoteStep};
 use protocol::Step;
@@ -112,18 +112,15 @@ impl Node {
 
 #[test]
 fn a_height_by_votes(rt: HostRuntime) -> Result<(), Fail> {
-    let mut node = Node::new(&rt, rt.alloc())?;
-    node.decides_by_votes(&rt)
+    on_node(&rt, rt.alloc(), |node| node.decides_by_votes(&rt))
 }
 
 #[test]
 fn a_height_by_a_bundle(rt: HostRuntime) -> Result<(), Fail> {
-    let mut node = Node::new(&rt, rt.alloc())?;
-    node.decides_by_a_bundle(&rt)
+    on_node(&rt, rt.alloc(), |node| node.decides_by_a_bundle(&rt))
 }
 
 #[test]
 fn rounds_of_one(rt: HostRuntime) -> Result<(), Fail> {
-    let mut node = Node::new(&rt, rt.alloc())?;
-    node.comes_to_its_round(&rt)
+    on_node(&rt, rt.alloc(), |node| node.comes_to_its_round(&rt))
 }

@@ -1,6 +1,6 @@
 //! Which cause is told of several. Each frame has the later ones too, as far as they can stand beside the first.
 
-use super::{Answer, Node, vote};
+use super::{Answer, Node, on_node, vote};
 use crate::Refusal;
 use messages::Step;
 use std::process::Abort;
@@ -14,7 +14,51 @@ const PREVOTE: [u8; 15] = [0x11, 0, 0, 0, 0, 0, 0, 0, 7, 0, 0x0f, 0x42, 0x41, 0,
 type Proposed = (u64, u32, u16, u8, u8);
 
 /// A prevote's round, sender, key and content.
-type Prevoted = (u32, u16, u8, Option<Id>);
+pub(super) type Prevoted = (u32, u16, u8, Option<Id>);
+
+/// Frames whose length, kind or end is wrong.
+const LENGTHS_AND_KINDS: [(&[u8], Refusal); 8] = [
+    (&[0u8, 0x10, 0], Refusal::Truncated),
+    (&[0, 0x10, 0, 1, 0x7f], Refusal::TooLong),
+    (&[0, 0, 0, 2, 0x7f], Refusal::Truncated),
+    (&[0, 0, 0, 1, 0x7f, 0], Refusal::BadSpelling),
+    (&[0, 0, 0, 1, 0x7f], Refusal::BadKind),
+    (&[0, 0, 0, 3, 0x20, 13, 4], Refusal::BadKind),
+    (&[0, 0, 0, 1, 0x11], Refusal::Truncated),
+    (&[0, 0, 0, 0], Refusal::Truncated),
+];
+
+/// How long a frame of `PREVOTE` is, and its first bytes behind that; zeros follow.
+const ENDS_OF_A_PREVOTE: [(u8, &[u8], Refusal); 9] = [
+    (15, &[], Refusal::Truncated),
+    (16, &[2], Refusal::BadSpelling),
+    (20, &[1], Refusal::Truncated),
+    (16, &[0], Refusal::Truncated),
+    (17, &[0, 0], Refusal::BadSpelling),
+    (17, &[0, 65], Refusal::TooLong),
+    (17, &[0, 64], Refusal::Truncated),
+    (50, &[0, 1], Refusal::BadSpelling),
+    (49, &[0, 1], Refusal::UnknownSender),
+];
+
+/// Proposals that differ in round or value, in order of arrival.
+const PROPOSALS: [(Proposed, Answer); 8] = [
+    ((0, 0, 0, 0x00, 1), Ok(())),
+    ((0, 0, 0, 0x00, 1), Err(Refusal::Repeat)),
+    ((0, 0, 0, 0x00, 2), Ok(())),
+    ((0, 0, 0, 0x00, 1), Err(Refusal::Repeat)),
+    ((0, 0, 0, 0x00, 3), Err(Refusal::VoterFull)),
+    ((0, 1, 1, 0x11, 3), Ok(())),
+    ((0, 2, 2, 0x22, 3), Ok(())),
+    ((0, 3, 3, 0x33, 3), Err(Refusal::RoundAhead)),
+];
+
+/// The sender of an ask for the own height, and its key.
+const ASKS: [(u16, u8, Refusal); 3] = [
+    (4, 0x99, Refusal::UnknownSender),
+    (1, 0x00, Refusal::BadTag),
+    (1, 0x11, Refusal::OtherHeight),
+];
 
 impl Node {
     fn refuses(&mut self, rt: &impl Abort, cases: &[(&[u8], Refusal)]) -> Result<(), Fail> {
@@ -25,7 +69,8 @@ impl Node {
         Ok(())
     }
 
-    /// What is answered to that prevote and so many further bytes, of which these are the first and the others are zeros.
+    /// What is answered to that prevote and so many further bytes, of which these are the first and the others are
+    /// zeros.
     fn told_rest(&mut self, len: u8, first: &[u8]) -> Result<Answer, Fail> {
         let mut frame = [0, 0, 0, len].to_vec(self.alloc)?;
         frame.extend_from_slice(&PREVOTE)?;
@@ -52,7 +97,11 @@ impl Node {
         self.told(rt, key, &body)
     }
 
-    fn told_prevote(&mut self, rt: &impl Abort, prevoted: Prevoted) -> Result<Answer, Fail> {
+    pub(super) fn told_prevote(
+        &mut self,
+        rt: &impl Abort,
+        prevoted: Prevoted,
+    ) -> Result<Answer, Fail> {
         let (round, sender, key, content) = prevoted;
         self.told(rt, key, &vote(Step::Prevote, round, sender, content))
     }
@@ -133,74 +182,37 @@ impl Node {
 
 #[test]
 fn lengths_and_kinds(rt: HostRuntime) -> Result<(), Fail> {
-    let mut node = Node::new(&rt, rt.alloc())?;
-    node.refuses(
+    on_node(
         &rt,
-        &[
-            (&[0u8, 0x10, 0], Refusal::Truncated),
-            (&[0, 0x10, 0, 1, 0x7f], Refusal::TooLong),
-            (&[0, 0, 0, 2, 0x7f], Refusal::Truncated),
-            (&[0, 0, 0, 1, 0x7f, 0], Refusal::BadSpelling),
-            (&[0, 0, 0, 1, 0x7f], Refusal::BadKind),
-            (&[0, 0, 0, 3, 0x20, 13, 4], Refusal::BadKind),
-            (&[0, 0, 0, 1, 0x11], Refusal::Truncated),
-            (&[0, 0, 0, 0], Refusal::Truncated),
-        ],
+        rt.alloc(),
+        |node| node.refuses(&rt, &LENGTHS_AND_KINDS),
     )
 }
 
 #[test]
 fn first_wrong_field(rt: HostRuntime) -> Result<(), Fail> {
-    let mut node = Node::new(&rt, rt.alloc())?;
-    node.refuses_rests(
+    on_node(
         &rt,
-        &[
-            (15, &[], Refusal::Truncated),
-            (16, &[2], Refusal::BadSpelling),
-            (20, &[1], Refusal::Truncated),
-            (16, &[0], Refusal::Truncated),
-            (17, &[0, 0], Refusal::BadSpelling),
-            (17, &[0, 65], Refusal::TooLong),
-            (17, &[0, 64], Refusal::Truncated),
-            (50, &[0, 1], Refusal::BadSpelling),
-            (49, &[0, 1], Refusal::UnknownSender),
-        ],
+        rt.alloc(),
+        |node| node.refuses_rests(&rt, &ENDS_OF_A_PREVOTE),
     )
 }
 
 #[test]
 fn most_that_is_kept_of_one(rt: HostRuntime) -> Result<(), Fail> {
-    let mut node = Node::new(&rt, rt.alloc())?;
-    node.is_full_of_one(&rt)
+    on_node(&rt, rt.alloc(), |node| node.is_full_of_one(&rt))
 }
 
 #[test]
 fn differing_proposals(rt: HostRuntime) -> Result<(), Fail> {
-    let mut node = Node::new(&rt, rt.alloc())?;
-    node.judges_proposals(
+    on_node(
         &rt,
-        &[
-            ((0, 0, 0, 0x00, 1), Ok(())),
-            ((0, 0, 0, 0x00, 1), Err(Refusal::Repeat)),
-            ((0, 0, 0, 0x00, 2), Ok(())),
-            ((0, 0, 0, 0x00, 1), Err(Refusal::Repeat)),
-            ((0, 0, 0, 0x00, 3), Err(Refusal::VoterFull)),
-            ((0, 1, 1, 0x11, 3), Ok(())),
-            ((0, 2, 2, 0x22, 3), Ok(())),
-            ((0, 3, 3, 0x33, 3), Err(Refusal::RoundAhead)),
-        ],
+        rt.alloc(),
+        |node| node.judges_proposals(&rt, &PROPOSALS),
     )
 }
 
 #[test]
 fn causes_against_an_ask(rt: HostRuntime) -> Result<(), Fail> {
-    let mut node = Node::new(&rt, rt.alloc())?;
-    node.refuses_asks(
-        &rt,
-        &[
-            (4, 0x99, Refusal::UnknownSender),
-            (1, 0x00, Refusal::BadTag),
-            (1, 0x11, Refusal::OtherHeight),
-        ],
-    )
+    on_node(&rt, rt.alloc(), |node| node.refuses_asks(&rt, &ASKS))
 }

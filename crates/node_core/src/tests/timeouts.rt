@@ -1,14 +1,28 @@
 //! Timeouts that come due.
 
-use super::{Node, vote};
+use super::{Answer, Node, on_node};
 use crate::Refusal;
-use messages::Step as VoteStep;
 use protocol::{Step, Timeout};
 use std::process::Abort;
 use std::test::Fail;
 
 /// A timeout's kind, height and round, how many frames it lets out, and the round that it begins.
 type Due = (Step, u64, u32, usize, Option<u32>);
+
+/// Where no other's message comes. The fourth round is the own one: it proposes, and prevotes.
+const ALONE: [Due; 11] = [
+    (Step::Prevote, 0, 0, 0, None),
+    (Step::Propose, 1, 0, 0, None),
+    (Step::Propose, 0, 1, 0, None),
+    (Step::Propose, 0, 0, 1, None),
+    (Step::Propose, 0, 0, 0, None),
+    (Step::Prevote, 0, 0, 1, None),
+    (Step::Prevote, 0, 0, 0, None),
+    (Step::Precommit, 0, 0, 0, Some(1)),
+    (Step::Precommit, 0, 0, 0, None),
+    (Step::Precommit, 0, 1, 0, Some(2)),
+    (Step::Precommit, 0, 2, 2, None),
+];
 
 pub(super) fn due(kind: Step, height: u64, round: u32) -> Timeout {
     Timeout {
@@ -24,14 +38,18 @@ impl Node {
         Some(self.core.scheduled().first()?.round)
     }
 
+    /// What is answered to a timeout, how many frames it lets out, and the round that it begins.
+    fn fires(&mut self, timeout: Timeout) -> (Answer, usize, Option<u32>) {
+        let answer = self.core.fire_timeout(timeout);
+        (answer, self.core.outgoing().len(), self.begun())
+    }
+
     fn comes_to(&mut self, rt: &impl Abort, cases: &[Due]) -> Result<(), Fail> {
         assert_eq!(rt; self.begun(), Some(0));
         for case in cases {
             let (kind, height, round, frames, next) = *case;
-            let timeout = due(kind, height, round);
-            assert_eq!(rt; self.core.fire_timeout(timeout), Ok(()));
-            assert_eq!(rt; self.core.outgoing().len(), frames);
-            assert_eq!(rt; self.begun(), next);
+            let fired = self.fires(due(kind, height, round));
+            assert_eq!(rt; fired, (Ok(()), frames, next));
         }
         assert_eq!(rt; self.core.round(), 3);
         assert_eq!(rt; self.core.fired(), 1);
@@ -40,8 +58,8 @@ impl Node {
 
     fn comes_to_the_last_round(&mut self, rt: &impl Abort) -> Result<(), Fail> {
         for (sender, key) in [(0, 0x00), (1, 0x11)] {
-            let body = vote(VoteStep::Prevote, 1_000_000, sender, None);
-            assert_eq!(rt; self.told(rt, key, &body)?, Ok(()));
+            let prevoted = (1_000_000, sender, key, None);
+            assert_eq!(rt; self.told_prevote(rt, prevoted)?, Ok(()));
         }
         assert_eq!(rt; self.core.round(), 1_000_000);
         let last = due(Step::Precommit, 0, 1_000_000);
@@ -53,30 +71,12 @@ impl Node {
     }
 }
 
-// Where no other's message comes. The fourth round is the own one: it proposes, and prevotes.
 #[test]
 fn rounds_of_one(rt: HostRuntime) -> Result<(), Fail> {
-    let mut node = Node::new(&rt, rt.alloc())?;
-    node.comes_to(
-        &rt,
-        &[
-            (Step::Prevote, 0, 0, 0, None),
-            (Step::Propose, 1, 0, 0, None),
-            (Step::Propose, 0, 1, 0, None),
-            (Step::Propose, 0, 0, 1, None),
-            (Step::Propose, 0, 0, 0, None),
-            (Step::Prevote, 0, 0, 1, None),
-            (Step::Prevote, 0, 0, 0, None),
-            (Step::Precommit, 0, 0, 0, Some(1)),
-            (Step::Precommit, 0, 0, 0, None),
-            (Step::Precommit, 0, 1, 0, Some(2)),
-            (Step::Precommit, 0, 2, 2, None),
-        ],
-    )
+    on_node(&rt, rt.alloc(), |node| node.comes_to(&rt, &ALONE))
 }
 
 #[test]
 fn last_round(rt: HostRuntime) -> Result<(), Fail> {
-    let mut node = Node::new(&rt, rt.alloc())?;
-    node.comes_to_the_last_round(&rt)
+    on_node(&rt, rt.alloc(), |node| node.comes_to_the_last_round(&rt))
 }

@@ -1,5 +1,4 @@
-use Rattle.std.proofs.Common.{◌≡◌, ◌∙◌, ℕ, ◌<◌, Bool, get_or, false, length, arith}
-use Rattle.powers.specs.Power.{power}
+use Rattle.std.proofs.Common.{◌≡◌, ◌∙◌, ℕ, ◌<◌, get_or, false, length, arith}
 use Rattle.powers.proofs.Quorums.{power_agrees}
 use Rattle.powers.proofs.Powers.power_of_set.Goals as goal
 

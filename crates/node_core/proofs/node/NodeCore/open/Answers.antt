@@ -15,6 +15,7 @@ invariant_of-result c = record {
   waiting = λ t i. absurd (rw c.new-2.ensures at i);
   stamps = rw c.new.ensures (λ i d lt. absurd (omega (arith, lt)));
   decided = rw (c.new.ensures, c.new-3.ensures) refl;
+  joined = rw (c.new.ensures, c.new-3.ensures) refl;
   spelled = rw c.new-3.ensures (λ i d lt. absurd (omega (arith, lt)));
   own = rw c.new-3.ensures (λ i d lt. absurd (omega (arith, lt)));
 }

@@ -1,7 +1,6 @@
 use Rattle.std.proofs.Common.{refl}
-use Rattle.node_core.specs.Core.{Core, context_of, setting_of}
+use Rattle.node_core.specs.Core.{Core, context_of}
 use Rattle.node_core.specs.Seen.{seen}
-use Rattle.node_core.proofs.Known.{known}
 use Rattle.node_core.proofs.Sound.{sound_kept, same_agreed}
 use Rattle.node_core.proofs.node.NodeCore.take_proposal.Goals as goal
 
@@ -9,14 +8,14 @@ pub invariant_of-self-2 : goal.invariant_of-self-2
 invariant_of-self-2 c =
     let core : Core = seen c.self.inside in
     let state = c.in_ok-take_in.ensures.ok in
-    let told = c.in_ok-genuine.ensures (setting_of core) core.machine.me (known core c.self.invariant) in
+    let told = rw (← c.self.view_is) at c.in_ok-genuine.ensures in
     let agrees = c.in_ok-take_in.ensures.agrees (context_of core) c.self.invariant.agrees told in
-    sound_kept core c.take_in.new.self c.self.invariant agrees (rw state c.self.invariant.stamps) (rw state refl)
+    sound_kept core c.take_in.new.self c.self.invariant agrees (rw state c.self.invariant.stamps) (rw state refl) (rw state refl)
 
 pub returns-clause-beside : goal.returns-clause-beside
 returns-clause-beside c =
     let core : Core = seen c.self.inside in
-    let told = c.in_ok-genuine.ensures (setting_of core) core.machine.me (known core c.self.invariant) in
+    let told = rw (← c.self.view_is) at c.in_ok-genuine.ensures in
     let agrees = c.in_ok-take_in.ensures.agrees (context_of core) c.self.invariant.agrees told in
     let same = same_agreed core c.take_in.new.self agrees in
     rw (← c.self.view_is) (record { same = record { powers = same.powers; me = same.me; ring = refl }; queues = refl; decisions = refl; outgoing = refl; scheduled = refl; fired = refl })

@@ -13,4 +13,4 @@ invariant_of-self-2 c =
     let agrees = c.in_ok-take_in.ensures.agrees (context_of core) c.self.invariant.agrees tt in
     sound_kept core c.take_in.new.self c.self.invariant agrees
     (rw state (All-append IsStamp core.machine.state.stamps _ c.self.invariant.stamps (stamps_kept (step_of_vote c.args.vote.step) c.args.vote.round c.args.vote.sender c.args.vote.content c.args.tags c.requires)))
-    (rw state refl)
+    (rw state refl) (rw state refl)
