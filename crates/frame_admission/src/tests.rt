@@ -6,7 +6,7 @@ ghost use Rattle.protocol.specs.Messages.{sender_of};
 use super::*;
 use authenticators::{KeyRing, Party, hmac};
 use messages::{Body, frame_of, read_body, spell_body};
-use std::alloc::Global;
+use std::alloc::{AllocError, Global};
 use std::process::Abort;
 use std::test::Fail;
 use transactions::read_value;
@@ -70,6 +70,9 @@ const PRECOMMIT_TAGS: [[u8; 32]; 2] = [
     ],
 ];
 
+/// A body of each kind but a transaction.
+const VECTORS: [&[u8]; 4] = [&PROPOSAL, &PREVOTE, &ASK, &BUNDLE];
+
 /// Client 7's transactions 1, for the byte `a`, and 2, a close.
 const ONE_BYTE: [u8; 15] = [1, 0, 7, 0, 0, 0, 0, 0, 0, 0, 1, 0, 0, 1, b'a'];
 
@@ -81,6 +84,14 @@ fn first(alloc: Global) -> Result<KeyRing, Fail> {
 
 fn second(alloc: Global) -> Result<KeyRing, Fail> {
     Ok(KeyRing::read(alloc, SECOND_KEYS.as_bytes(), Party::Validator(1), 2)?)
+}
+
+/// What validator 0 finds with its keys.
+fn by_first<F: FnOnce(&KeyRing) -> Result<(), Fail>>(alloc: Global, look: F) -> Result<(), Fail>
+    requires { F.IsAlwaysCallable look }
+{
+    let ring = first(alloc)?;
+    look(&ring)
 }
 
 fn sender_of(body: &Body) -> Party
@@ -95,119 +106,252 @@ fn sender_of(body: &Body) -> Party
     }
 }
 
+/// The frame that validator 1, which has these keys, lets out of the body that is spelled so.
+fn frame_from(
+    rt: &impl Abort,
+    alloc: Global,
+    ring: &KeyRing,
+    spelled: &[u8],
+) -> Result<Vec<u8>, Fail> {
+    let body = read_body(alloc, spelled)?;
+    assert!(rt; sender_of(&body) == ring.me());
+    assert!(rt; ring.count() <= 64);
+    Ok(frame_for(alloc, ring, &body)?)
+}
+
 /// The frame that validator 1 lets out of the body that is spelled so.
 fn frame_from_second(rt: &impl Abort, alloc: Global, spelled: &[u8]) -> Result<Vec<u8>, Fail> {
     let ring = second(alloc)?;
-    let body = read_body(alloc, spelled)?;
-    assert_eq!(rt; sender_of(&body), ring.me());
-    assert!(rt; ring.count() <= 64);
-    Ok(frame_for(alloc, &ring, &body)?)
+    frame_from(rt, alloc, &ring, spelled)
 }
 
-#[test]
-fn frames_of_each_kind(rt: HostRuntime) -> Result<(), Fail> {
-    let ring = first(rt.alloc())?;
-    for spelled in [
-        PROPOSAL.as_slice(),
-        PREVOTE.as_slice(),
-        ASK.as_slice(),
-        BUNDLE.as_slice(),
-    ] {
-        let frame = frame_from_second(&rt, rt.alloc(), spelled)?;
-        let message = admit(rt.alloc(), &ring, &frame)?;
-        let body = spell_body(rt.alloc(), &message.body)?;
-        assert_eq!(rt; body.as_slice(), spelled);
+/// Whether the body is spelled so.
+fn is_spelled(alloc: Global, body: &Body, spelled: &[u8]) -> Result<bool, Fail> {
+    Ok(spell_body(alloc, body)?.as_slice() == spelled)
+}
+
+/// Whether the frame is admitted, and its body is spelled so.
+fn is_admitted(alloc: Global, ring: &KeyRing, frame: &[u8], spelled: &[u8]) -> Result<bool, Fail> {
+    let message = admit(alloc, ring, frame)?;
+    is_spelled(alloc, &message.body, spelled)
+}
+
+/// The frame that validator 1 lets out of the body that is spelled so is admitted under these keys.
+fn assert_admitted(
+    rt: &impl Abort,
+    alloc: Global,
+    ring: &KeyRing,
+    spelled: &[u8],
+) -> Result<(), Fail> {
+    let frame = frame_from_second(rt, alloc, spelled)?;
+    assert!(rt; is_admitted(alloc, ring, &frame, spelled)?, "{spelled:?}");
+    Ok(())
+}
+
+/// Frames of each kind are admitted under these keys.
+fn assert_all_admitted(rt: &impl Abort, alloc: Global, ring: &KeyRing) -> Result<(), Fail> {
+    for spelled in &VECTORS {
+        assert_admitted(rt, alloc, ring, spelled)?;
     }
     Ok(())
 }
 
 #[test]
-fn own_prevote(rt: HostRuntime) -> Result<(), Fail> {
-    let frame = frame_from_second(&rt, rt.alloc(), &PREVOTE)?;
-    let mut wanted = [0u8, 0, 0, 0x51].to_vec(rt.alloc())?;
+fn frames_of_each_kind(rt: HostRuntime) -> Result<(), Fail> {
+    by_first(
+        rt.alloc(),
+        |ring| assert_all_admitted(&rt, rt.alloc(), ring),
+    )
+}
+
+/// The frame of validator 1's prevote.
+fn prevote_frame(alloc: Global) -> Result<Vec<u8>, AllocError> {
+    let mut wanted = [0u8, 0, 0, 0x51].to_vec(alloc)?;
     wanted.extend_from_slice(&PREVOTE)?;
     wanted.push(2)?;
     wanted.extend_from_slice(&PREVOTE_TAGS[0])?;
     wanted.extend_from_slice(&PREVOTE_TAGS[1])?;
-    assert_eq!(rt; frame.as_slice(), wanted.as_slice());
+    Ok(wanted)
+}
+
+/// Whether this is the frame of validator 1's prevote.
+fn is_prevote_frame(alloc: Global, frame: &[u8]) -> Result<bool, AllocError> {
+    Ok(prevote_frame(alloc)?.as_slice() == frame)
+}
+
+#[test]
+fn own_prevote(rt: HostRuntime) -> Result<(), Fail> {
+    let frame = frame_from_second(&rt, rt.alloc(), &PREVOTE)?;
+    assert!(rt; is_prevote_frame(rt.alloc(), &frame) == Ok(true));
     Ok(())
+}
+
+/// Whether the ring's party makes the known tags of its precommit.
+fn makes_tags(alloc: Global, ring: &KeyRing) -> Result<bool, AllocError> {
+    let tags = own_tags(alloc, ring, 5, 6, [7; 32])?;
+    Ok(tags.as_slice() == PRECOMMIT_TAGS.as_slice())
 }
 
 #[test]
 fn tags_of_own_precommits(rt: HostRuntime) -> Result<(), Fail> {
-    let tags = own_tags(rt.alloc(), &second(rt.alloc())?, 5, 6, [7; 32])?;
-    assert_eq!(rt; tags.as_slice(), PRECOMMIT_TAGS.as_slice());
+    let ring = second(rt.alloc())?;
+    assert!(rt; makes_tags(rt.alloc(), &ring) == Ok(true));
     Ok(())
 }
 
-/// Asserts that validator 0 refuses this body with these tags.
+/// Why the frame isn't admitted.
+fn cause_of(alloc: Global, ring: &KeyRing, frame: &[u8]) -> Option<Inadmissible> {
+    admit(alloc, ring, frame).err()
+}
+
+/// The frame is refused for this cause.
+fn assert_refused(
+    rt: &impl Abort,
+    alloc: Global,
+    ring: &KeyRing,
+    frame: &[u8],
+    cause: Inadmissible,
+) {
+    assert_eq!(rt; cause_of(alloc, ring, frame), Some(cause), "{frame:?}");
+}
+
+/// This body with these tags is refused for this cause.
 fn refuses(
     rt: &impl Abort,
     alloc: Global,
+    ring: &KeyRing,
     body: &[u8],
     tags: &[[u8; 32]],
     cause: Inadmissible,
 ) -> Result<(), Fail> {
     assert!(rt; body.len() < 100 && tags.len() < 64);
     let frame = frame_of(alloc, body, tags)?;
-    let answer = admit(alloc, &first(alloc)?, &frame);
-    assert_eq!(rt; answer.err(), Some(cause), "{cause}");
+    assert_refused(rt, alloc, ring, &frame, cause);
     Ok(())
+}
+
+/// The prevote with another sender and this last byte is refused for this cause, with wrong tags.
+fn refuses_other(
+    rt: &impl Abort,
+    alloc: Global,
+    ring: &KeyRing,
+    last: u8,
+    cause: Inadmissible,
+) -> Result<(), Fail> {
+    let mut other = PREVOTE;
+    other[14] = 2;
+    other[15] = last;
+    refuses(rt, alloc, ring, &other, &[[0; 32]; 2], cause)
+}
+
+/// The prevote with these tags is refused for them.
+fn refuses_tags(
+    rt: &impl Abort,
+    alloc: Global,
+    ring: &KeyRing,
+    tags: &[[u8; 32]],
+) -> Result<(), Fail> {
+    refuses(rt, alloc, ring, &PREVOTE, tags, Inadmissible::BadTag)
 }
 
 // Each frame has the later faults too, as far as they can stand beside the first.
 #[test]
 fn first_cause_is_told(rt: HostRuntime) -> Result<(), Fail> {
-    let ring = first(rt.alloc())?;
-    let measured = [
-        ([0, 0, 0, 2, 0x7f], Inadmissible::Truncated),
-        ([0, 0x10, 0, 1, 0x7f], Inadmissible::TooLong),
-        ([0, 0, 0, 1, 0x7f], Inadmissible::BadKind),
-    ];
-    for (frame, cause) in measured {
-        let answer = admit(rt.alloc(), &ring, &frame);
-        assert_eq!(rt; answer.err(), Some(cause), "{cause}");
-    }
-    let wrong = [[0; 32]; 2];
-    let [right, _] = PREVOTE_TAGS;
-    let mut other = PREVOTE;
-    other[14] = 2;
-    refuses(&rt, rt.alloc(), &other, &wrong, Inadmissible::UnknownSender)?;
-    other[15] = 2;
-    refuses(&rt, rt.alloc(), &other, &wrong, Inadmissible::BadSpelling)?;
-    let bad_tag = Inadmissible::BadTag;
-    refuses(&rt, rt.alloc(), &PREVOTE, &wrong, bad_tag)?;
-    refuses(&rt, rt.alloc(), &PREVOTE, &[[0; 32], right], bad_tag)?;
-    refuses(&rt, rt.alloc(), &PREVOTE, &[right], bad_tag)?;
-    refuses(&rt, rt.alloc(), &PREVOTE, &[right, right, right], bad_tag)
+    let alloc = rt.alloc();
+    by_first(alloc, |ring| {
+        assert_refused(
+            &rt,
+            alloc,
+            ring,
+            &[0, 0, 0, 2, 0x7f],
+            Inadmissible::Truncated,
+        );
+        assert_refused(
+            &rt,
+            alloc,
+            ring,
+            &[0, 0x10, 0, 1, 0x7f],
+            Inadmissible::TooLong,
+        );
+        assert_refused(&rt, alloc, ring, &[0, 0, 0, 1, 0x7f], Inadmissible::BadKind);
+        refuses_other(&rt, alloc, ring, 0, Inadmissible::UnknownSender)?;
+        refuses_other(&rt, alloc, ring, 2, Inadmissible::BadSpelling)
+    })
+}
+
+#[test]
+fn every_tag_of_a_message(rt: HostRuntime) -> Result<(), Fail> {
+    let alloc = rt.alloc();
+    let right = PREVOTE_TAGS[0];
+    by_first(alloc, |ring| {
+        refuses_tags(&rt, alloc, ring, &[[0; 32]; 2])?;
+        refuses_tags(&rt, alloc, ring, &[[0; 32], right])?;
+        refuses_tags(&rt, alloc, ring, &[right])?;
+        refuses_tags(&rt, alloc, ring, &[right, right, right])
+    })
+}
+
+/// Whether the frame is admitted as a transaction of this client.
+fn is_tx_of(alloc: Global, ring: &KeyRing, frame: &[u8], client: u16) -> Result<bool, Fail> {
+    let message = admit(alloc, ring, frame)?;
+    Ok(matches!(&message.body, Body::Tx(tx) if tx.client == client))
+}
+
+/// The frame of client 8's transaction with a wrong tag.
+fn frame_of_other_client(alloc: Global) -> Result<Vec<u8>, AllocError> {
+    let mut body = ONE_BYTE;
+    body[2] = 8;
+    frame_of(alloc, &body, &[[0; 32]])
 }
 
 #[test]
 fn transactions_are_judged_elsewhere(rt: HostRuntime) -> Result<(), Fail> {
-    let mut body = ONE_BYTE;
-    body[2] = 8;
-    let frame = frame_of(rt.alloc(), &body, &[[0; 32]])?;
-    let message = admit(rt.alloc(), &first(rt.alloc())?, &frame)?;
-    assert!(rt; matches!(&message.body, Body::Tx(tx) if tx.client == 8));
+    let frame = frame_of_other_client(rt.alloc())?;
+    by_first(rt.alloc(), |ring| {
+        assert!(rt; is_tx_of(rt.alloc(), ring, &frame, 8)?);
+        Ok(())
+    })
+}
+
+/// Adds a body with the tags under these keys.
+fn put_tagged(out: &mut Vec<u8>, body: &[u8], keys: &[[u8; 32]]) -> Result<(), Fail> {
+    out.extend_from_slice(body)?;
+    out.push(u8::try_from(keys.len())?)?;
+    for key in keys {
+        out.extend_from_slice(&hmac(key, body))?;
+    }
     Ok(())
+}
+
+/// Adds client 7's transaction 1, with the tag for validator 1 and another.
+fn put_first(out: &mut Vec<u8>) -> Result<(), AllocError> {
+    out.extend_from_slice(&ONE_BYTE)?;
+    out.push(2)?;
+    out.extend_from_slice(&[0; 32])?;
+    out.extend_from_slice(&hmac(&[0x71; 32], &ONE_BYTE))
+}
+
+/// The bytes of the value that has client 7's two transactions, the second as from this client, with these keys.
+fn two_spelled(alloc: Global, client: u8, keys: &[[u8; 32]]) -> Result<Vec<u8>, Fail> {
+    let mut bytes = [0u8, 2].to_vec(alloc)?;
+    put_first(&mut bytes)?;
+    let mut close = CLOSE;
+    close[2] = client;
+    put_tagged(&mut bytes, &close, keys)?;
+    Ok(bytes)
+}
+
+/// Whether validator 1 finds the value right that these bytes spell.
+fn are_genuine(alloc: Global, bytes: &[u8]) -> Result<bool, Fail> {
+    let value = read_value(alloc, bytes)?;
+    let ring = second(alloc)?;
+    Ok(is_genuine(alloc, &ring, &value)?)
 }
 
 /// Whether validator 1 finds the value right that has client 7's two transactions, the second as from this client, with these keys.
 fn genuine_with(alloc: Global, client: u8, keys: &[[u8; 32]]) -> Result<bool, Fail> {
-    let mut bytes = [0u8, 2].to_vec(alloc)?;
-    bytes.extend_from_slice(&ONE_BYTE)?;
-    bytes.push(2)?;
-    bytes.extend_from_slice(&[0; 32])?;
-    bytes.extend_from_slice(&hmac(&[0x71; 32], &ONE_BYTE))?;
-    let mut close = CLOSE;
-    close[2] = client;
-    bytes.extend_from_slice(&close)?;
-    bytes.push(u8::try_from(keys.len())?)?;
-    for key in keys {
-        bytes.extend_from_slice(&hmac(key, &close))?;
-    }
-    let value = read_value(alloc, &bytes)?;
-    Ok(is_genuine(alloc, &second(alloc)?, &value)?)
+    let bytes = two_spelled(alloc, client, keys)?;
+    are_genuine(alloc, &bytes)
 }
 
 #[test]
@@ -220,9 +364,21 @@ fn every_tag_of_a_value(rt: HostRuntime) -> Result<(), Fail> {
     Ok(())
 }
 
+/// Each cause has its number.
+fn assert_numbered(rt: &impl Abort, causes: &[(Inadmissible, u8)]) {
+    for (cause, number) in causes {
+        assert!(rt; *cause as u8 == *number, "{number}");
+    }
+}
+
+/// Whether the cause is shown as this text.
+fn is_shown(alloc: Global, cause: Inadmissible, text: &str) -> Result<bool, AllocError> {
+    Ok(cause.to_string(alloc)?.as_str() == text)
+}
+
 #[test]
-fn causes_are_numbered(rt: HostRuntime) -> Result<(), Fail> {
-    let causes = [
+fn causes_are_numbered(rt: HostRuntime) {
+    let causes = &[
         (Inadmissible::Truncated, 1),
         (Inadmissible::TooLong, 2),
         (Inadmissible::BadKind, 3),
@@ -231,12 +387,11 @@ fn causes_are_numbered(rt: HostRuntime) -> Result<(), Fail> {
         (Inadmissible::BadTag, 6),
         (Inadmissible::OutOfMemory, 16),
     ];
-    for (cause, number) in causes {
-        assert_eq!(rt; cause as u8, number);
-    }
-    assert_eq!(rt;
-        format!(in rt.alloc(); "{}", Inadmissible::BadTag)?.as_str(),
-        "a tag of the frame is wrong"
+    assert_numbered(&rt, causes);
+    let shown = is_shown(
+        rt.alloc(),
+        Inadmissible::BadTag,
+        "a tag of the frame is wrong",
     );
-    Ok(())
+    assert!(rt; shown == Ok(true));
 }

@@ -34,14 +34,7 @@ struct Validator {
 
 impl Validator {
     fn new(alloc: Global, validators: u16) -> Result<Validator, Fail> {
-        let mut keys = format!(in alloc; "v0 v0 {KEY}\n")?;
-        for number in 1..validators {
-            write!(keys, "v{number} v0 {KEY}\nv0 v{number} {KEY}\n")?;
-        }
-        for client in 1..10u16 {
-            write!(keys, "c{client} v0 {KEY}\n")?;
-        }
-        let ring = KeyRing::read(alloc, keys.as_bytes(), Party::Validator(0), validators)?;
+        let ring = ring_of(alloc, validators)?;
         Ok(Validator {
             alloc,
             count: validators,
@@ -49,6 +42,22 @@ impl Validator {
             frontier: Frontier::new(alloc),
             mempool: Mempool::new(alloc),
         })
+    }
+
+    /// The tag of a transaction for this validator.
+    fn tag_of(&self, tx: &Tx) -> Result<[u8; 32], Fail> {
+        let mut body = Vec::with_capacity(self.alloc, len_of_tx_body(tx)?)?;
+        put_tx_body(&mut body, tx)?;
+        Ok(hmac(&[0x11; 32], &body))
+    }
+
+    /// Adds this tag, and one of zeros for each other validator.
+    fn put_tags(&self, tags: &mut Seq<[u8; 32]>, own: [u8; 32]) -> Result<(), AllocError> {
+        tags.push(own)?;
+        for _ in 1..self.count {
+            tags.push([0; 32])?;
+        }
+        Ok(())
     }
 
     /// A transaction with the tag for this validator, and one of zeros for each other.
@@ -59,12 +68,8 @@ impl Validator {
             op,
             tags: Seq::new(self.alloc),
         };
-        let mut body = Vec::with_capacity(self.alloc, len_of_tx_body(&tx)?)?;
-        put_tx_body(&mut body, &tx)?;
-        tx.tags.push(hmac(&[0x11; 32], &body))?;
-        for _ in 1..self.count {
-            tx.tags.push([0; 32])?;
-        }
+        let own = self.tag_of(&tx)?;
+        self.put_tags(&mut tx.tags, own)?;
         Ok(tx)
     }
 
@@ -77,6 +82,21 @@ impl Validator {
         self.mempool.submit(tx, &self.ring, &self.frontier)
     }
 
+    /// The answer to a transaction of this many bytes, or to a close.
+    fn answer(
+        &mut self,
+        client: u16,
+        number: u64,
+        len: Option<usize>,
+    ) -> Result<Result<(), SubmitFault>, Fail> {
+        let op = match len {
+            Some(len) => self.bytes(len)?,
+            None => Op::Close,
+        };
+        let tx = self.tagged(client, number, op)?;
+        Ok(self.submit(tx))
+    }
+
     /// Transactions of two bytes, each of this client and number, get these answers.
     fn answers(
         &mut self,
@@ -84,184 +104,343 @@ impl Validator {
         sent: &[(u16, u64, Result<(), SubmitFault>)],
     ) -> Result<(), Fail> {
         for (client, number, answer) in sent {
-            let tx = self.tagged(*client, *number, self.bytes(2)?)?;
-            assert_eq!(rt; self.submit(tx), *answer);
+            let found = self.answer(*client, *number, Some(2))?;
+            assert_eq!(rt; found, *answer, "client {client}, number {number}");
         }
+        Ok(())
+    }
+
+    /// A close of client 7 with number 1 and one tag for each of so many validators is refused for its tags.
+    fn refuses_tags(&mut self, rt: &impl Abort, validators: u16) -> Result<(), Fail> {
+        self.count = validators;
+        let found = self.answer(7, 1, None)?;
+        assert_eq!(rt; found, Err(SubmitFault::BadTag));
+        Ok(())
+    }
+
+    /// The answer to a transaction with one tag, this one.
+    fn answer_to_tag(
+        &mut self,
+        client: u16,
+        number: u64,
+        op: Op,
+        tag: &[u8; 32],
+    ) -> Result<Result<(), SubmitFault>, Fail> {
+        let mut tags = Seq::new(self.alloc);
+        tags.push(*tag)?;
+        let tx = Tx {
+            client,
+            number,
+            op,
+            tags,
+        };
+        Ok(self.submit(tx))
+    }
+
+    /// Client 7's transaction 1, the byte 61, gets this answer with one tag, this one.
+    fn answers_to_tag(
+        &mut self,
+        rt: &impl Abort,
+        tag: &[u8; 32],
+        answer: Result<(), SubmitFault>,
+    ) -> Result<(), Fail> {
+        let op = Op::Bytes(Seq::from_vec(b"a".to_vec(self.alloc)?));
+        let found = self.answer_to_tag(7, 1, op, tag)?;
+        assert_eq!(rt; found, answer);
         Ok(())
     }
 
     /// Transactions of these clients and numbers are picked.
     fn picks(&self, rt: &impl Abort, places: &[(u16, u64)]) -> Result<(), Fail> {
         let value = self.mempool.pick()?;
-        let mut picked = Vec::new(self.alloc);
-        for tx in value.txs.as_slice() {
-            picked.push((tx.client, tx.number))?;
+        assert!(rt; are_at(value.txs.as_slice(), places), "{places:?}");
+        Ok(())
+    }
+
+    /// A value of this many transactions and bytes is picked.
+    fn picks_so_many(&self, rt: &impl Abort, count: usize, bytes: usize) -> Result<(), Fail> {
+        let value = self.mempool.pick()?;
+        assert!(rt; value.txs.len() == count);
+        assert!(rt; len_of_value(&value) == Ok(bytes));
+        Ok(())
+    }
+
+    /// Five clients' queues are filled with transactions of this many bytes.
+    fn fill(&mut self, rt: &impl Abort, len: usize) -> Result<(), Fail> {
+        for number in 1..65 {
+            for client in 1..6 {
+                let found = self.answer(client, number, Some(len))?;
+                assert_eq!(rt; found, Ok(()));
+            }
         }
-        assert_eq!(rt; picked.as_slice(), places);
+        Ok(())
+    }
+
+    /// Delivers a value.
+    fn take(&mut self, rt: &impl Abort, value: &Value) -> Result<(), Fail> {
+        let _spelling = spell_value(self.alloc, value)?;
+        assert!(rt; self.frontier.valid(value));
+        self.frontier.extend(value)?;
         Ok(())
     }
 
     /// Delivers what is picked.
     fn deliver(&mut self, rt: &impl Abort) -> Result<(), Fail> {
         let value = self.mempool.pick()?;
-        let _spelling = spell_value(self.alloc, &value)?;
-        assert!(rt; self.frontier.valid(&value));
-        self.frontier.extend(&value)?;
+        self.take(rt, &value)?;
         self.mempool.drop_delivered(&self.frontier);
         Ok(())
     }
 }
 
+/// Adds the keys of so many validators and of nine clients to that of the first with itself.
+fn put_keys(keys: &mut String, validators: u16) -> Result<(), Fail> {
+    for number in 1..validators {
+        write!(keys, "v{number} v0 {KEY}\nv0 v{number} {KEY}\n")?;
+    }
+    for client in 1..10u16 {
+        write!(keys, "c{client} v0 {KEY}\n")?;
+    }
+    Ok(())
+}
+
+/// The keys of the first of so many validators.
+fn ring_of(alloc: Global, validators: u16) -> Result<KeyRing, Fail> {
+    let mut keys = format!(in alloc; "v0 v0 {KEY}\n")?;
+    put_keys(&mut keys, validators)?;
+    Ok(KeyRing::read(alloc, keys.as_bytes(), Party::Validator(0), validators)?)
+}
+
+/// Whether these are the transactions of these clients and numbers.
+fn are_at(txs: &[Tx], places: &[(u16, u64)]) -> bool {
+    txs.len() == places.len()
+        && txs
+            .iter()
+            .zip(places)
+            .all(|(tx, place)| tx.client == place.0 && tx.number == place.1)
+}
+
+/// What the first of so many validators does, which begins with no transaction.
+fn on_validator<F: FnOnce(&mut Validator) -> Result<(), Fail>>(
+    alloc: Global,
+    validators: u16,
+    act: F,
+) -> Result<(), Fail>
+    requires { F.IsAlwaysCallable act }
+{
+    let mut validator = Validator::new(alloc, validators)?;
+    act(&mut validator)
+}
+
+/// Client 7 fills its queue.
+fn fill_queue(rt: &impl Abort, validator: &mut Validator) -> Result<(), Fail> {
+    for number in 1..65 {
+        assert!(rt; validator.mempool.wanted(7, &validator.frontier) == number);
+        validator.answers(rt, &[(7, number, Ok(()))])?;
+    }
+    assert!(rt; validator.mempool.waiting(7).len() == 64);
+    Ok(())
+}
+
 #[test]
 fn wanted_numbers(rt: HostRuntime) -> Result<(), Fail> {
-    let mut validator = Validator::new(rt.alloc(), 4)?;
-    for number in 1..65 {
-        assert_eq!(rt; validator.mempool.wanted(7, &validator.frontier), number);
-        validator.answers(&rt, &[(7, number, Ok(()))])?;
-    }
-    assert_eq!(rt; validator.mempool.waiting(7).len(), 64);
-    validator.answers(
-        &rt,
-        &[
-            (7, 65, Err(SubmitFault::QueueFull)),
-            (7, 66, Err(SubmitFault::Gap)),
-            (7, 64, Err(SubmitFault::OldNumber)),
-            (8, 2, Err(SubmitFault::Gap)),
-            (8, 1, Ok(())),
-            (10, 1, Err(SubmitFault::UnknownClient)),
-        ],
-    )
+    on_validator(rt.alloc(), 4, |validator| {
+        fill_queue(&rt, validator)?;
+        validator.answers(
+            &rt,
+            &[
+                (7, 65, Err(SubmitFault::QueueFull)),
+                (7, 66, Err(SubmitFault::Gap)),
+                (7, 64, Err(SubmitFault::OldNumber)),
+                (8, 2, Err(SubmitFault::Gap)),
+                (8, 1, Ok(())),
+                (10, 1, Err(SubmitFault::UnknownClient)),
+            ],
+        )
+    })
+}
+
+/// Two clients' transactions are picked in turn.
+fn queue_three(rt: &impl Abort, validator: &mut Validator) -> Result<(), Fail> {
+    validator.picks(rt, &[])?;
+    validator.answers(rt, &[(2, 1, Ok(())), (2, 2, Ok(())), (5, 1, Ok(()))])?;
+    validator.picks(rt, &[(2, 1), (5, 1), (2, 2)])
+}
+
+/// What is delivered is picked no more.
+fn deliver_three(rt: &impl Abort, validator: &mut Validator) -> Result<(), Fail> {
+    validator.deliver(rt)?;
+    validator.picks(rt, &[])?;
+    validator.answers(rt, &[(5, 2, Ok(())), (2, 3, Ok(()))])?;
+    validator.picks(rt, &[(2, 3), (5, 2)])
+}
+
+/// A copy of what is queued keeps what is delivered later.
+fn keep_copy(rt: &impl Abort, validator: &mut Validator) -> Result<(), Fail> {
+    let copy = validator.mempool.copy()?;
+    deliver_three(rt, validator)?;
+    validator.mempool = copy;
+    Ok(())
 }
 
 #[test]
 fn clients_take_turns(rt: HostRuntime) -> Result<(), Fail> {
-    let mut validator = Validator::new(rt.alloc(), 4)?;
-    validator.picks(&rt, &[])?;
-    validator.answers(&rt, &[(2, 1, Ok(())), (2, 2, Ok(())), (5, 1, Ok(()))])?;
-    validator.picks(&rt, &[(2, 1), (5, 1), (2, 2)])?;
-    let copy = validator.mempool.copy()?;
-    validator.deliver(&rt)?;
-    validator.picks(&rt, &[])?;
-    validator.answers(&rt, &[(5, 2, Ok(())), (2, 3, Ok(()))])?;
-    validator.picks(&rt, &[(2, 3), (5, 2)])?;
-    validator.mempool = copy;
-    validator.picks(&rt, &[(2, 1), (5, 1), (2, 2)])
+    on_validator(rt.alloc(), 4, |validator| {
+        queue_three(&rt, validator)?;
+        keep_copy(&rt, validator)?;
+        validator.picks(&rt, &[(2, 1), (5, 1), (2, 2)])
+    })
 }
 
-#[test]
-fn nothing_follows_a_close(rt: HostRuntime) -> Result<(), Fail> {
-    let mut validator = Validator::new(rt.alloc(), 4)?;
-    let close = validator.tagged(7, 1, Op::Close)?;
-    assert_eq!(rt; validator.submit(close), Ok(()));
-    let refused = [
+/// A client that has closed sends nothing more.
+fn refuse_closed(rt: &impl Abort, validator: &mut Validator) -> Result<(), Fail> {
+    let refused = &[
         (7, 1, Err(SubmitFault::OldNumber)),
         (7, 2, Err(SubmitFault::Closed)),
         (7, 3, Err(SubmitFault::Closed)),
     ];
-    validator.answers(&rt, &refused)?;
-    validator.deliver(&rt)?;
-    validator.answers(&rt, &refused)?;
-    validator.answers(&rt, &[(8, 1, Ok(()))])
+    validator.answers(rt, refused)
+}
+
+#[test]
+fn nothing_follows_a_close(rt: HostRuntime) -> Result<(), Fail> {
+    on_validator(rt.alloc(), 4, |validator| {
+        let found = validator.answer(7, 1, None)?;
+        assert!(rt; found == Ok(()));
+        refuse_closed(&rt, validator)?;
+        validator.deliver(&rt)?;
+        refuse_closed(&rt, validator)?;
+        validator.answers(&rt, &[(8, 1, Ok(()))])
+    })
 }
 
 #[test]
 fn one_tag_for_each_validator(rt: HostRuntime) -> Result<(), Fail> {
-    let mut validator = Validator::new(rt.alloc(), 4)?;
-    let mut close = validator.tagged(7, 1, Op::Close)?;
-    close.tags.push([0; 32])?;
-    assert_eq!(rt; validator.submit(close), Err(SubmitFault::BadTag));
-    validator.count = 3;
-    let close = validator.tagged(7, 1, Op::Close)?;
-    assert_eq!(rt; validator.submit(close), Err(SubmitFault::BadTag));
+    on_validator(rt.alloc(), 4, |validator| {
+        validator.refuses_tags(&rt, 5)?;
+        validator.refuses_tags(&rt, 3)
+    })
+}
+
+/// Contents of 1,025 bytes are refused before the client, who is unknown.
+fn refuse_too_long(rt: &impl Abort, validator: &mut Validator) -> Result<(), Fail> {
+    let mut too_long = validator.tagged(10, 1, Op::Close)?;
+    too_long.op = validator.bytes(1025)?;
+    assert!(rt; validator.submit(too_long) == Err(SubmitFault::TooLong));
+    Ok(())
+}
+
+/// Contents of 1,024 bytes are right, and are taken.
+fn take_longest(rt: &impl Abort, validator: &mut Validator) -> Result<(), Fail> {
+    let op = validator.bytes(1024)?;
+    let longest = validator.tagged(7, 1, op)?;
+    let answer = validator
+        .mempool
+        .check(&longest, &validator.ring, &validator.frontier);
+    assert!(rt; answer == Ok(()));
+    assert!(rt; validator.submit(longest) == Ok(()));
     Ok(())
 }
 
 #[test]
 fn longest_transactions(rt: HostRuntime) -> Result<(), Fail> {
-    let mut validator = Validator::new(rt.alloc(), 4)?;
-    let mut too_long = validator.tagged(10, 1, Op::Close)?;
-    too_long.op = validator.bytes(1025)?;
-    assert_eq!(rt; validator.submit(too_long), Err(SubmitFault::TooLong));
-    let longest = validator.tagged(7, 1, validator.bytes(1024)?)?;
-    let answer = validator
-        .mempool
-        .check(&longest, &validator.ring, &validator.frontier);
-    assert_eq!(rt; answer, Ok(()));
-    assert_eq!(rt; validator.submit(longest), Ok(()));
-    Ok(())
+    on_validator(rt.alloc(), 4, |validator| {
+        refuse_too_long(&rt, validator)?;
+        take_longest(&rt, validator)
+    })
+}
+
+/// The known tag with one byte changed.
+fn changed(place: usize, by: u8) -> [u8; 32] {
+    let mut tag = TAG_OF_BYTES;
+    if let Some(byte) = tag.get_mut(place) {
+        *byte ^= by;
+    }
+    tag
 }
 
 #[test]
 fn known_tags(rt: HostRuntime) -> Result<(), Fail> {
-    let mut validator = Validator::new(rt.alloc(), 1)?;
-    let mut other_start = TAG_OF_BYTES;
-    other_start[0] ^= 0x80;
-    let mut other_end = TAG_OF_BYTES;
-    other_end[31] ^= 1;
-    for (tag, answer) in [
-        (other_start, Err(SubmitFault::BadTag)),
-        (other_end, Err(SubmitFault::BadTag)),
-        (TAG_OF_BYTES, Ok(())),
-        (TAG_OF_BYTES, Err(SubmitFault::OldNumber)),
-    ] {
-        let mut tags = Seq::new(rt.alloc());
-        tags.push(tag)?;
-        let tx = Tx {
-            client: 7,
-            number: 1,
-            op: Op::Bytes(Seq::from_vec(b"a".to_vec(rt.alloc())?)),
-            tags,
-        };
-        assert_eq!(rt; validator.submit(tx), answer);
+    on_validator(rt.alloc(), 1, |validator| {
+        let bad_tag = Err(SubmitFault::BadTag);
+        validator.answers_to_tag(&rt, &changed(0, 0x80), bad_tag)?;
+        validator.answers_to_tag(&rt, &changed(31, 1), bad_tag)?;
+        validator.answers_to_tag(&rt, &TAG_OF_BYTES, Ok(()))?;
+        validator.answers_to_tag(&rt, &TAG_OF_BYTES, Err(SubmitFault::OldNumber))
+    })
+}
+
+/// Closes of these clients, with these numbers and the tag of number 0, are refused for this cause.
+fn refuse_fields(
+    rt: &impl Abort,
+    validator: &mut Validator,
+    cases: &[(u16, u64, SubmitFault)],
+) -> Result<(), Fail> {
+    for (client, number, fault) in cases {
+        let found = validator.answer_to_tag(*client, *number, Op::Close, &TAG_OF_ZERO)?;
+        assert_eq!(rt; found, Err(*fault), "client {client}, number {number}");
     }
     Ok(())
 }
 
 #[test]
 fn fields_out_of_range(rt: HostRuntime) -> Result<(), Fail> {
-    let mut validator = Validator::new(rt.alloc(), 1)?;
-    for (client, number, answer) in [
-        (7u16, 0u64, SubmitFault::OldNumber),
+    let cases = &[
+        (7, 0, SubmitFault::OldNumber),
         (7, u64::MAX, SubmitFault::BadTag),
         (1024, 0, SubmitFault::UnknownClient),
-    ] {
-        let mut tags = Seq::new(rt.alloc());
-        tags.push(TAG_OF_ZERO)?;
-        let tx = Tx {
-            client,
-            number,
-            op: Op::Close,
-            tags,
-        };
-        assert_eq!(rt; validator.submit(tx), Err(answer));
-    }
-    Ok(())
+    ];
+    on_validator(
+        rt.alloc(),
+        1,
+        |validator| refuse_fields(&rt, validator, cases),
+    )
+}
+
+/// Full queues of transactions of this many bytes, for so many validators, give a value of this many of them and bytes.
+fn assert_value(
+    rt: &impl Abort,
+    alloc: Global,
+    validators: u16,
+    len: usize,
+    count: usize,
+    bytes: usize,
+) -> Result<(), Fail> {
+    on_validator(alloc, validators, |validator| {
+        validator.fill(rt, len)?;
+        validator.picks_so_many(rt, count, bytes)
+    })
 }
 
 #[test]
-fn values_have_limits(rt: HostRuntime) -> Result<(), Fail> {
-    for (validators, len, count, bytes) in [
-        (4u16, 1usize, 256usize, 36_866usize),
-        (64, 1024, 161, 497_009),
-    ] {
-        let mut validator = Validator::new(rt.alloc(), validators)?;
-        for number in 1..65 {
-            for client in 1..6 {
-                let tx = validator.tagged(client, number, validator.bytes(len)?)?;
-                assert_eq!(rt; validator.submit(tx), Ok(()));
-            }
-        }
-        let value = validator.mempool.pick()?;
-        assert_eq!(rt; value.txs.len(), count);
-        assert_eq!(rt; len_of_value(&value), Ok(bytes));
-    }
-    Ok(())
+fn most_transactions(rt: HostRuntime) -> Result<(), Fail> {
+    assert_value(&rt, rt.alloc(), 4, 1, 256, 36_866)
 }
 
 #[test]
-fn faults_are_numbered_and_shown(rt: HostRuntime) -> Result<(), Fail> {
-    for (fault, number, text) in [
-        (SubmitFault::UnknownClient, 1u8, "the client is unknown"),
+fn most_bytes(rt: HostRuntime) -> Result<(), Fail> {
+    assert_value(&rt, rt.alloc(), 64, 1024, 161, 497_009)
+}
+
+/// Whether the fault has this number and this text.
+fn is_told(alloc: Global, fault: SubmitFault, number: u8, text: &str) -> Result<bool, AllocError> {
+    Ok(fault as u8 == number && fault.to_string(alloc)?.as_str() == text)
+}
+
+/// Each fault has its number and its text.
+fn assert_told(rt: &impl Abort, alloc: Global, told: &[(SubmitFault, u8, &str)]) {
+    for (fault, number, text) in told {
+        assert!(rt;
+            is_told(alloc, *fault, *number, text) == Ok(true),
+            "fault {number}"
+        );
+    }
+}
+
+#[test]
+fn faults_are_numbered_and_shown(rt: HostRuntime) {
+    let told = &[
+        (SubmitFault::UnknownClient, 1, "the client is unknown"),
         (SubmitFault::BadTag, 2, "a tag is wrong"),
         (
             SubmitFault::OldNumber,
@@ -277,9 +456,6 @@ fn faults_are_numbered_and_shown(rt: HostRuntime) -> Result<(), Fail> {
         ),
         (SubmitFault::TooLong, 7, "the transaction is too long"),
         (SubmitFault::OutOfMemory, 8, "out of memory"),
-    ] {
-        assert_eq!(rt; fault as u8, number);
-        assert_eq!(rt; format!(in rt.alloc(); "{fault}")?.as_str(), text);
-    }
-    Ok(())
+    ];
+    assert_told(&rt, rt.alloc(), told);
 }

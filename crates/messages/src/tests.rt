@@ -5,7 +5,7 @@ mod replies;
 
 use super::*;
 use std::alloc::{AllocError, Global};
-use std::test::Fail;
+use std::process::Abort;
 use transactions::{Duplicate, Fault, Op, Seq, Shared, Tx, Value};
 
 /// The body of client 7's transaction 1, which asks for the byte `a`.
@@ -22,8 +22,33 @@ const PROPOSAL: [u8; 21] = [
 /// A prevote for nil by validator 2 at height 0 and round 0.
 const PREVOTE: [u8; 16] = [0x11, 0, 0, 0, 0, 0, 0, 0, 0, 0, 0, 0, 0, 0, 2, 0];
 
+/// A precommit by validator 2 at height 0 and round 0, for the id of sevens.
+const PRECOMMIT: [u8; 48] = [
+    0x12, 0, 0, 0, 0, 0, 0, 0, 0, 0, 0, 0, 0, 0, 2, 1, 7, 7, 7, 7, 7, 7, 7, 7, 7, 7, 7, 7, 7, 7, 7,
+    7, 7, 7, 7, 7, 7, 7, 7, 7, 7, 7, 7, 7, 7, 7, 7, 7,
+];
+
 /// Validator 2 asks for height 5.
 const ASK: [u8; 11] = [0x13, 0, 0, 0, 0, 0, 0, 0, 5, 0, 2];
+
+/// A bundle with the empty value, up to the count of its precommits.
+const BUNDLE_FRONT: [u8; 49] = [
+    0x14, 0, 0, 0, 0, 0, 0, 0, 1, 0, 2, 0, 0, 0, 3, 7, 7, 7, 7, 7, 7, 7, 7, 7, 7, 7, 7, 7, 7, 7, 7,
+    7, 7, 7, 7, 7, 7, 7, 7, 7, 7, 7, 7, 7, 7, 7, 7, 0, 0,
+];
+
+/// A body of each kind but a bundle, and two of transactions.
+const VECTORS: [&[u8]; 5] = [&ONE_BYTE, &CLOSE, &PROPOSAL, &PREVOTE, &ASK];
+
+/// What was looked at is so.
+fn assert_holds(rt: &impl Abort, outcome: Result<bool, Fault>) {
+    assert_eq!(rt; outcome, Ok(true));
+}
+
+/// This fault was found.
+fn assert_fault(rt: &impl Abort, found: Option<Fault>, wanted: Fault) {
+    assert_eq!(rt; found, Some(wanted));
+}
 
 /// Tags of nines.
 fn nines(alloc: Global, count: usize) -> Result<Seq<[u8; 32]>, AllocError> {
@@ -62,44 +87,64 @@ fn copies_of(alloc: Global, tx: &Tx, count: usize) -> Result<Vec<Tx>, AllocError
     Ok(txs)
 }
 
+/// So many transactions, each of 1,024 bytes and 64 tags.
+fn full_txs(alloc: Global, count: usize) -> Result<Vec<Tx>, AllocError> {
+    let tx = full_tx(alloc)?;
+    copies_of(alloc, &tx, count)
+}
+
 /// A value of so many transactions, each of 1,024 bytes and 64 tags.
 fn value_of(alloc: Global, count: usize) -> Result<Value, AllocError> {
-    let txs = copies_of(alloc, &full_tx(alloc)?, count)?;
+    let txs = full_txs(alloc, count)?;
     Ok(Value {
         txs: Shared::from_vec(alloc, txs)?,
     })
 }
 
-/// A bundle with so many precommits, each with so many tags.
+/// A precommit of validator 3 with so many tags.
+fn precommit_of(alloc: Global, tags: usize) -> Result<Precommit, AllocError> {
+    Ok(Precommit {
+        sender: 3,
+        tags: nines(alloc, tags)?,
+    })
+}
+
+/// So many precommits, each with so many tags.
+fn precommits_of(alloc: Global, count: usize, tags: usize) -> Result<Seq<Precommit>, AllocError> {
+    let mut precommits = Seq::new(alloc);
+    for _ in 0..count {
+        precommits.push(precommit_of(alloc, tags)?)?;
+    }
+    Ok(precommits)
+}
+
+/// A bundle with so many transactions and precommits, each precommit with so many tags.
 fn bundle_of(
     alloc: Global,
-    value: Value,
+    txs: usize,
     precommits: usize,
     tags: usize,
 ) -> Result<Bundle, AllocError> {
-    let mut signed = Seq::new(alloc);
-    for _ in 0..precommits {
-        signed.push(Precommit {
-            sender: 3,
-            tags: nines(alloc, tags)?,
-        })?;
-    }
+    let precommits = precommits_of(alloc, precommits, tags)?;
     Ok(Bundle {
         height: 1,
         sender: 2,
         round: 3,
         id: [7; 32],
-        value,
-        precommits: signed,
+        value: value_of(alloc, txs)?,
+        precommits,
     })
 }
 
-/// The bytes of a bundle with the empty value, up to the count of its precommits.
-fn bundle_front(alloc: Global) -> Result<Vec<u8>, AllocError> {
-    let mut bytes = [0x14u8, 0, 0, 0, 0, 0, 0, 0, 1, 0, 2, 0, 0, 0, 3].to_vec(alloc)?;
-    bytes.extend_from_slice(&[7u8; 32])?;
-    bytes.extend_from_slice(&[0, 0])?;
-    Ok(bytes)
+/// The spelling of a bundle with so many transactions and precommits, each precommit with so many tags.
+fn spelled_bundle(
+    alloc: Global,
+    txs: usize,
+    precommits: usize,
+    tags: usize,
+) -> Result<Vec<u8>, Fault> {
+    let body = Body::Bundle(bundle_of(alloc, txs, precommits, tags)?);
+    spell_body(alloc, &body)
 }
 
 /// The message with the body that these bytes spell and this many tags.
@@ -111,43 +156,50 @@ fn message_of(alloc: Global, body: &[u8], tags: usize) -> Result<Message, Fault>
     })
 }
 
-/// Whether the body that these bytes spell has them as its spelling.
-fn there_and_back(alloc: Global, bytes: &[u8]) -> Result<bool, Fault> {
+/// What is so of the body that these bytes spell.
+fn of_body<F: FnOnce(&Body) -> Result<bool, Fault>>(
+    alloc: Global,
+    bytes: &[u8],
+    look: F,
+) -> Result<bool, Fault>
+    requires { F.IsAlwaysCallable look }
+{
     let body = read_body(alloc, bytes)?;
-    Ok(spell_body(alloc, &body)?.as_slice() == bytes)
+    look(&body)
 }
 
-/// The spelling of a copy.
-fn copy_spelled(alloc: Global, body: &Body) -> Result<Vec<u8>, Fault> {
-    spell_body(alloc, &body.copy(alloc)?)
+/// Whether the body has these bytes as its spelling.
+fn is_spelling(alloc: Global, bytes: &[u8], body: &Body) -> Result<bool, Fault> {
+    Ok(spell_body(alloc, body)?.as_slice() == bytes)
+}
+
+/// Whether a copy of the body has these bytes as its spelling.
+fn is_spelling_of_copy(alloc: Global, bytes: &[u8], body: &Body) -> Result<bool, Fault> {
+    let again = body.copy(alloc)?;
+    is_spelling(alloc, bytes, &again)
+}
+
+/// Whether the body that these bytes spell has them as its spelling.
+fn there_and_back(alloc: Global, bytes: &[u8]) -> Result<bool, Fault> {
+    of_body(alloc, bytes, |body| is_spelling(alloc, bytes, body))
 }
 
 /// Whether a copy of the body that these bytes spell has them as its spelling.
 fn copied_and_back(alloc: Global, bytes: &[u8]) -> Result<bool, Fault> {
-    let body = read_body(alloc, bytes)?;
-    Ok(copy_spelled(alloc, &body)?.as_slice() == bytes)
+    of_body(alloc, bytes, |body| is_spelling_of_copy(alloc, bytes, body))
 }
 
-/// Whether the bytes spell this vote.
-fn spell_vote(alloc: Global, bytes: &[u8], wanted: &Vote) -> Result<bool, Fault> {
-    let body = read_body(alloc, bytes)?;
-    Ok(matches!(&body, Body::Vote(vote) if same_vote(vote, wanted)))
+/// Whether the body is this vote.
+fn is_vote(body: &Body, wanted: &Vote) -> bool {
+    matches!(body, Body::Vote(vote) if same_vote(vote, wanted))
 }
 
 #[test]
-fn vectors_there_and_back(rt: HostRuntime) -> Result<(), Fail> {
-    let vectors = [
-        ONE_BYTE.as_slice(),
-        CLOSE.as_slice(),
-        PROPOSAL.as_slice(),
-        PREVOTE.as_slice(),
-        ASK.as_slice(),
-    ];
-    for bytes in vectors {
-        assert!(rt; there_and_back(rt.alloc(), bytes)?, "{bytes:?}");
-        assert!(rt; copied_and_back(rt.alloc(), bytes)?, "{bytes:?}");
+fn vectors_there_and_back(rt: HostRuntime) {
+    for bytes in &VECTORS {
+        assert_holds(&rt, there_and_back(rt.alloc(), bytes));
+        assert_holds(&rt, copied_and_back(rt.alloc(), bytes));
     }
-    Ok(())
 }
 
 /// A proposal by validator 7 at height 5 and round 6, with this code for its valid round.
@@ -160,26 +212,32 @@ fn proposal_with(valid_round: u8) -> [u8; 21] {
     bytes
 }
 
-#[test]
-fn proposal_is_read(rt: HostRuntime) -> Result<(), Fail> {
-    let body = read_body(rt.alloc(), &proposal_with(1))?;
-    assert!(rt;
-        matches!(&body, Body::Proposal(proposal)
+/// Whether the body is a proposal by validator 7 at height 5 and round 6, with this valid round and the empty value.
+fn is_proposal(body: &Body, valid_round: Option<u32>) -> bool {
+    matches!(body, Body::Proposal(proposal)
         if proposal.height == 5 && proposal.round == 6 && proposal.sender == 7
-            && proposal.valid_round == Some(0) && proposal.value.txs.len() == 0)
+            && proposal.valid_round == valid_round && proposal.value.txs.len() == 0)
+}
+
+#[test]
+fn proposals_are_read(rt: HostRuntime) {
+    let alloc = rt.alloc();
+    assert_holds(
+        &rt,
+        of_body(
+            alloc,
+            &proposal_with(1),
+            |body| Ok(is_proposal(body, Some(0))),
+        ),
     );
-    Ok(())
+    assert_holds(
+        &rt,
+        of_body(alloc, &proposal_with(0), |body| Ok(is_proposal(body, None))),
+    );
 }
 
 #[test]
-fn proposal_without_valid_round_is_read(rt: HostRuntime) -> Result<(), Fail> {
-    let body = read_body(rt.alloc(), &proposal_with(0))?;
-    assert!(rt; matches!(&body, Body::Proposal(proposal) if proposal.valid_round.is_none()));
-    Ok(())
-}
-
-#[test]
-fn prevote_is_read(rt: HostRuntime) -> Result<(), Fail> {
+fn prevote_is_read(rt: HostRuntime) {
     let nil = Vote {
         step: Step::Prevote,
         height: 0,
@@ -187,16 +245,14 @@ fn prevote_is_read(rt: HostRuntime) -> Result<(), Fail> {
         sender: 2,
         content: None,
     };
-    assert!(rt; spell_vote(rt.alloc(), &PREVOTE, &nil)?);
-    Ok(())
+    assert_holds(
+        &rt,
+        of_body(rt.alloc(), &PREVOTE, |body| Ok(is_vote(body, &nil))),
+    );
 }
 
 #[test]
-fn precommit_there_and_back(rt: HostRuntime) -> Result<(), Fail> {
-    let mut bytes = [0x12].to_vec(rt.alloc())?;
-    bytes.extend_from_slice(&PREVOTE[1..15])?;
-    bytes.push(1)?;
-    bytes.extend_from_slice(&[7u8; 32])?;
+fn precommit_there_and_back(rt: HostRuntime) {
     let for_sevens = Vote {
         step: Step::Precommit,
         height: 0,
@@ -204,75 +260,115 @@ fn precommit_there_and_back(rt: HostRuntime) -> Result<(), Fail> {
         sender: 2,
         content: Some([7; 32]),
     };
-    assert!(rt; spell_vote(rt.alloc(), &bytes, &for_sevens)?);
-    assert!(rt; there_and_back(rt.alloc(), &bytes)?);
-    Ok(())
-}
-
-#[test]
-fn ask_is_read(rt: HostRuntime) -> Result<(), Fail> {
-    let body = read_body(rt.alloc(), &ASK)?;
-    assert!(rt; matches!(&body, Body::Ask(ask) if ask.height == 5 && ask.sender == 2));
-    Ok(())
-}
-
-#[test]
-fn bundle_there_and_back(rt: HostRuntime) -> Result<(), Fail> {
-    let bundle = bundle_of(rt.alloc(), value_of(rt.alloc(), 0)?, 1, 1)?;
-    let mut wanted = bundle_front(rt.alloc())?;
-    wanted.extend_from_slice(&[1, 0, 3, 1])?;
-    wanted.extend_from_slice(&[9u8; 32])?;
-    let bytes = spell_body(rt.alloc(), &Body::Bundle(bundle))?;
-    assert_eq!(rt; bytes.as_slice(), wanted.as_slice());
-    let body = read_body(rt.alloc(), &bytes)?;
-    assert!(rt;
-        matches!(&body, Body::Bundle(bundle)
-        if bundle.height == 1 && bundle.sender == 2 && bundle.round == 3
-            && bundle.id == [7; 32] && bundle.precommits.len() == 1)
+    assert_holds(
+        &rt,
+        of_body(
+            rt.alloc(),
+            &PRECOMMIT,
+            |body| Ok(is_vote(body, &for_sevens)),
+        ),
     );
-    Ok(())
+    assert_holds(&rt, there_and_back(rt.alloc(), &PRECOMMIT));
+}
+
+/// Whether the body is that of validator 2, which asks for height 5.
+fn is_ask(body: &Body) -> bool {
+    matches!(body, Body::Ask(ask) if ask.height == 5 && ask.sender == 2)
+}
+
+#[test]
+fn ask_is_read(rt: HostRuntime) {
+    assert_holds(&rt, of_body(rt.alloc(), &ASK, |body| Ok(is_ask(body))));
+}
+
+/// The spelling of a bundle with the empty value and one precommit with one tag.
+fn bundle_of_one(alloc: Global) -> Result<Vec<u8>, AllocError> {
+    let mut bytes = BUNDLE_FRONT.to_vec(alloc)?;
+    bytes.extend_from_slice(&[1, 0, 3, 1])?;
+    bytes.extend_from_slice(&[9u8; 32])?;
+    Ok(bytes)
+}
+
+/// Whether these bytes are the spelling of a bundle with the empty value and one precommit with one tag.
+fn is_bundle_of_one(alloc: Global, bytes: &[u8]) -> Result<bool, Fault> {
+    Ok(bundle_of_one(alloc)?.as_slice() == bytes)
+}
+
+/// Whether the body is a bundle of validator 2 for height 1, with so many transactions and precommits of round 3, for
+/// the id of sevens.
+fn is_bundle(body: &Body, txs: usize, precommits: usize) -> bool {
+    matches!(body, Body::Bundle(bundle)
+        if bundle.height == 1 && bundle.sender == 2 && bundle.round == 3 && bundle.id == [7; 32]
+            && bundle.value.txs.len() == txs && bundle.precommits.len() == precommits)
+}
+
+/// Whether these bytes spell such a bundle.
+fn spell_bundle(alloc: Global, bytes: &[u8], txs: usize, precommits: usize) -> Result<bool, Fault> {
+    of_body(alloc, bytes, |body| Ok(is_bundle(body, txs, precommits)))
+}
+
+/// Whether a bundle of one precommit is spelled, and read again.
+fn bundle_is_kept(alloc: Global) -> Result<bool, Fault> {
+    let bytes = spelled_bundle(alloc, 0, 1, 1)?;
+    Ok(is_bundle_of_one(alloc, &bytes)? && spell_bundle(alloc, &bytes, 0, 1)?)
+}
+
+#[test]
+fn bundle_there_and_back(rt: HostRuntime) {
+    assert_holds(&rt, bundle_is_kept(rt.alloc()));
 }
 
 /// The spelling of a copy of a bundle with 161 transactions and 64 precommits, each with 64 tags.
 fn full_bundle(alloc: Global) -> Result<Vec<u8>, Fault> {
-    let value = value_of(alloc, 161)?;
-    let bundle = bundle_of(alloc, value, 64, 64)?;
-    copy_spelled(alloc, &Body::Bundle(bundle))
+    let bundle = bundle_of(alloc, 161, 64, 64)?;
+    let body = Body::Bundle(bundle.copy(alloc)?);
+    spell_body(alloc, &body)
 }
 
-/// Whether the bytes spell a bundle with 161 transactions and 64 precommits.
+/// Whether these bytes spell a bundle with 161 transactions and 64 precommits, each with 64 tags, and are its spelling.
 fn spell_full_bundle(alloc: Global, bytes: &[u8]) -> Result<bool, Fault> {
-    let body = read_body(alloc, bytes)?;
-    Ok(matches!(&body, Body::Bundle(bundle)
-        if bundle.value.txs.len() == 161 && bundle.precommits.len() == 64))
-}
-
-#[test]
-fn full_bundle_there_and_back(rt: HostRuntime) -> Result<(), Fail> {
-    let bytes = full_bundle(rt.alloc())?;
     // The kind, 46 bytes, the value, the count, and 64 times a sender and 64 tags.
-    assert_eq!(rt; bytes.len(), 1 + 46 + 497_009 + 1 + 64 * 2051);
-    assert!(rt; spell_full_bundle(rt.alloc(), &bytes)?);
-    assert!(rt; there_and_back(rt.alloc(), &bytes)?);
-    Ok(())
+    Ok(
+        bytes.len() == 1 + 46 + 497_009 + 1 + 64 * 2051
+            && spell_bundle(alloc, bytes, 161, 64)?
+            && there_and_back(alloc, bytes)?,
+    )
 }
 
-/// Whether the copy of a message has its tags.
-fn tags_are_copied(alloc: Global, message: &Message) -> Result<bool, AllocError> {
-    let again = message.copy(alloc)?;
-    Ok(again.tags == message.tags)
-}
-
-/// Whether the body of a message's copy has this spelling.
-fn body_is_copied(alloc: Global, message: &Message, body: &[u8]) -> Result<bool, Fault> {
-    let again = message.copy(alloc)?;
-    Ok(spell_body(alloc, &again.body)?.as_slice() == body)
+/// Whether a full bundle is spelled, and read again.
+fn full_bundle_is_kept(alloc: Global) -> Result<bool, Fault> {
+    let bytes = full_bundle(alloc)?;
+    spell_full_bundle(alloc, &bytes)
 }
 
 #[test]
-fn message_is_copied(rt: HostRuntime) -> Result<(), Fail> {
-    let message = message_of(rt.alloc(), &ASK, 4)?;
-    assert!(rt; tags_are_copied(rt.alloc(), &message)?);
-    assert!(rt; body_is_copied(rt.alloc(), &message, &ASK)?);
-    Ok(())
+fn full_bundle_there_and_back(rt: HostRuntime) {
+    assert_holds(&rt, full_bundle_is_kept(rt.alloc()));
+}
+
+/// Whether the message has these tags, and a body with this spelling.
+fn has_parts(
+    alloc: Global,
+    message: &Message,
+    body: &[u8],
+    tags: &Seq<[u8; 32]>,
+) -> Result<bool, Fault> {
+    Ok(message.tags == *tags && is_spelling(alloc, body, &message.body)?)
+}
+
+/// Whether the copy of a message has its tags, and a body with this spelling.
+fn is_copied(alloc: Global, message: &Message, body: &[u8]) -> Result<bool, Fault> {
+    let again = message.copy(alloc)?;
+    has_parts(alloc, &again, body, &message.tags)
+}
+
+/// Whether an ask with four tags is copied.
+fn ask_is_copied(alloc: Global) -> Result<bool, Fault> {
+    let message = message_of(alloc, &ASK, 4)?;
+    is_copied(alloc, &message, &ASK)
+}
+
+#[test]
+fn message_is_copied(rt: HostRuntime) {
+    assert_holds(&rt, ask_is_copied(rt.alloc()));
 }

@@ -5,7 +5,7 @@ use messages::Step;
 use protocol::Timeout;
 
 /// An executed line: what comes to a validator, or what is asked of it.
-#[derive(Debug, Drop)]
+#[derive(Drop)]
 pub(crate) struct Event {
     /// The correct validator, or a number that is no validator's.
     pub(crate) receiver: u64,
@@ -13,7 +13,7 @@ pub(crate) struct Event {
 }
 
 /// What comes to a validator, or is asked of it.
-#[derive(Debug, Drop)]
+#[derive(Drop)]
 pub(crate) enum Input {
     /// A liar's proposal comes.
     Propose(Proposing),
@@ -32,7 +32,7 @@ pub(crate) enum Input {
 }
 
 /// A liar's proposal.
-#[derive(Clone, Copy, Debug, PartialEq, Eq)]
+#[derive(Clone, Copy)]
 pub(crate) struct Proposing {
     /// The liar, or a number that is no validator's.
     pub(crate) sender: u64,
@@ -44,7 +44,7 @@ pub(crate) struct Proposing {
 }
 
 /// A liar's vote.
-#[derive(Clone, Copy, Debug, PartialEq, Eq)]
+#[derive(Clone, Copy)]
 pub(crate) struct Voting {
     /// The liar, or a number that is no validator's.
     pub(crate) sender: u64,
@@ -56,7 +56,7 @@ pub(crate) struct Voting {
 }
 
 /// A liar's bundle: a value under the id of the same or of another one.
-#[derive(Debug, Drop)]
+#[derive(Drop)]
 pub(crate) struct Bundling {
     /// The liar, or a number that is no validator's.
     pub(crate) sender: u64,

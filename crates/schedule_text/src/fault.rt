@@ -5,13 +5,21 @@ use std::fmt;
 use thiserror::Error;
 
 /// Why a line isn't one of a schedule.
-#[derive(Clone, Copy, Debug, Error, PartialEq, Eq)]
+#[derive(Clone, Copy)]
 pub(crate) enum LineFault {
     /// It is of no form, stands where none of its form may, or names what it may not.
-    #[error("a bad line")]
     BadLine,
-    #[error("out of memory")]
     OutOfMemory,
+}
+
+impl LineFault {
+    /// The fault of a text whose line of this number, from 1 on, has this one.
+    pub(crate) fn at_line(self, number: usize) -> ReadFault {
+        match self {
+            LineFault::BadLine => ReadFault::BadLine(number),
+            LineFault::OutOfMemory => ReadFault::OutOfMemory,
+        }
+    }
 }
 
 impl From<AllocError> for LineFault {
@@ -27,12 +35,10 @@ impl<T: Drop> From<AllocFailed<T>> for LineFault {
 }
 
 /// Why a text isn't a schedule.
-#[derive(Clone, Copy, Debug, Error, PartialEq, Eq)]
+#[derive(Clone, Copy)]
 pub(crate) enum ReadFault {
     /// The first bad line, from 1 on; one more than there are, where the text ends too early.
-    #[error("line {0}")]
     BadLine(usize),
-    #[error("out of memory")]
     OutOfMemory,
 }
 
@@ -72,7 +78,7 @@ impl<T: Drop> From<AllocFailed<T>> for EventFault {
 }
 
 /// Why the program ends early: the text that it tells on standard error, and its exit status.
-#[derive(Clone, Copy, Debug, PartialEq, Eq)]
+#[derive(Clone, Copy, Debug)]
 pub enum Failure<'a> {
     /// It was called with other than one argument.
     Usage,
@@ -107,15 +113,15 @@ impl Failure<'_> {
 impl fmt::Display for Failure<'_> {
     fn fmt<W: fmt::Write>(&self, f: &mut fmt::Formatter<W>) -> fmt::Result {
         match self {
-            Failure::Usage => write!(f, "tmsim: usage: tmsim FILE"),
+            Failure::Usage => f.write_str("tmsim: usage: tmsim FILE"),
             Failure::CannotRead(name) => write!(f, "tmsim: cannot read {name}"),
             Failure::BadLine(line) => write!(f, "tmsim: line {line}"),
             Failure::Event(event, fault) => {
                 let number = *fault as u8;
                 write!(f, "tmsim: event {event}: fault {number}")
             }
-            Failure::OutOfMemory => write!(f, "tmsim: out of memory"),
-            Failure::CannotWrite => write!(f, "tmsim: cannot write"),
+            Failure::OutOfMemory => f.write_str("tmsim: out of memory"),
+            Failure::CannotWrite => f.write_str("tmsim: cannot write"),
         }
     }
 }

@@ -7,7 +7,8 @@ ghost use Rattle.schedule_text.specs.Names.{is_name};
 ghost use Rattle.schedule_text.specs.Sets.{is_right_for};
 
 use crate::fault::LineFault;
-use crate::numbers::{counts_in, number_in};
+use crate::numbers::{list_in, number_in, number_in_u16};
+use crate::words::words_between;
 use crate::world::ValidatorSet;
 use std::alloc::Global;
 use transactions::{Item, Op, Seq};
@@ -19,7 +20,7 @@ const MOST_BYTES: usize = 1024;
 const MOST_LETTERS: usize = 8;
 
 /// Which tags of a transaction are right; the others are zeros.
-#[derive(Clone, Copy, Debug)]
+#[derive(Clone, Copy)]
 pub(crate) enum RightTags {
     All,
     /// Those for these validators.
@@ -39,7 +40,7 @@ impl RightTags {
 }
 
 /// A transaction as a line has it.
-#[derive(Debug, Drop)]
+#[derive(Drop)]
 pub(crate) struct Tagged {
     pub(crate) item: Item,
     pub(crate) right: RightTags,
@@ -69,29 +70,38 @@ pub(crate) fn tagged_in(alloc: Global, word: &[u8], validators: u16) -> Result<T
     requires { validators ≤ 64 }
 {
     let Some(end) = word.iter().position(|byte| *byte == b'/') else {
-        let item = item_in(alloc, word)?;
         return Ok(Tagged {
-            item,
             right: RightTags::All,
+            item: item_in(alloc, word)?,
         });
     };
-    let item = item_in(alloc, &word[..end])?;
-    let numbers = counts_in(alloc, &word[end + 1..])?;
-    let members = ValidatorSet::new(validators, &numbers).ok_or(LineFault::BadLine)?;
+    let members = members_in(alloc, &word[end + 1..], validators)?;
     Ok(Tagged {
-        item,
         right: RightTags::For(members),
+        item: item_in(alloc, &word[..end])?,
     })
+}
+
+/// The validators of a list.
+fn members_in(alloc: Global, word: &[u8], validators: u16) -> Result<ValidatorSet, LineFault>
+    requires { validators ≤ 64 }
+{
+    let numbers = list_in(alloc, word)?;
+    ValidatorSet::new(validators, &numbers).ok_or(LineFault::BadLine)
 }
 
 /// The item that the word is.
 fn item_in(alloc: Global, word: &[u8]) -> Result<Item, LineFault> {
-    let parts: Vec<&[u8]> = word.split(|byte| *byte == b':').collect(alloc)?;
-    let [client, number, op] = parts.as_slice() else {
+    let words = words_between(alloc, word, b':')?;
+    item_of(alloc, &words)
+}
+
+/// The item of these words.
+fn item_of(alloc: Global, words: &[&[u8]]) -> Result<Item, LineFault> {
+    let [client, number, op] = words else {
         return Err(LineFault::BadLine);
     };
-    let client = number_in(client).ok_or(LineFault::BadLine)?;
-    let client = u16::try_from(client).map_err(|_| LineFault::BadLine)?;
+    let client = number_in_u16(client).ok_or(LineFault::BadLine)?;
     let number = number_in(number).ok_or(LineFault::BadLine)?;
     let op = op_in(alloc, op)?;
     Ok(Item { client, number, op })

@@ -48,6 +48,7 @@ mod schedule;
 mod sender_keys;
 mod senders;
 mod values;
+mod words;
 mod world;
 
 pub use fault::{EventFault, Failure};

@@ -8,9 +8,10 @@ ghost use Rattle.std.specs.Prelude.{◌≤◌};
 use crate::event::{Bundling, Event, Input, Proposing, Voting};
 use crate::fault::LineFault;
 use crate::items::{Tagged, bytes_in, name_in, tagged_in};
-use crate::numbers::{count_in, counts_in, number_in, number_in_u32};
+use crate::numbers::{count_in, counts_in, list_in, number_in, number_in_u16, number_in_u32};
 use crate::values::Values;
-use crate::world::Clients;
+use crate::words::is_word;
+use crate::world::{Clients, ValidatorSet};
 use messages::Step;
 use protocol::Timeout;
 use std::alloc::Global;
@@ -38,7 +39,7 @@ pub(crate) fn clients_in(words: &[&[u8]]) -> Option<Clients> {
     let [count] = words else {
         return None;
     };
-    let count = u16::try_from(number_in(count)?).ok()?;
+    let count = number_in_u16(count)?;
     if count == 0 || count > MOST_CLIENTS {
         return None;
     }
@@ -46,16 +47,18 @@ pub(crate) fn clients_in(words: &[&[u8]]) -> Option<Clients> {
 }
 
 /// `V V ..`
-pub(crate) fn liars_in(alloc: Global, words: &[&[u8]]) -> Result<Vec<u64>, LineFault> {
+pub(crate) fn liars_in(
+    alloc: Global,
+    words: &[&[u8]],
+    validators: u16,
+) -> Result<ValidatorSet, LineFault>
+    requires { validators ≤ 64 }
+{
     if words.is_empty() {
         return Err(LineFault::BadLine);
     }
-    let mut liars = Vec::with_capacity(alloc, words.len())?;
-    for word in words {
-        let liar = count_in(word).ok_or(LineFault::BadLine)?;
-        liars.push(liar)?;
-    }
-    Ok(liars)
+    let numbers = counts_in(alloc, words)?;
+    ValidatorSet::new(validators, &numbers).ok_or(LineFault::BadLine)
 }
 
 /// `ITEM ..`
@@ -83,15 +86,29 @@ pub(crate) fn event_in(
 ) -> Result<Event, LineFault>
     requires { validators ≤ 64 }
 {
-    match kind {
-        b"propose" => propose_line(words, values).ok_or(LineFault::BadLine),
-        b"vote" => vote_line(words, values).ok_or(LineFault::BadLine),
-        b"bundle" => bundle_line(alloc, words, values),
-        b"tx" => tx_line(alloc, words, validators),
-        b"raw" => raw_line(alloc, words),
-        b"timeout" => timeout_line(words).ok_or(LineFault::BadLine),
-        b"ask" => ask_line(words).ok_or(LineFault::BadLine),
-        _ => Err(LineFault::BadLine),
+    if is_word(kind, "bundle") {
+        bundle_line(alloc, words, values)
+    } else if is_word(kind, "tx") {
+        tx_line(alloc, words, validators)
+    } else if is_word(kind, "raw") {
+        raw_line(alloc, words)
+    } else {
+        short_event_in(kind, words, values).ok_or(LineFault::BadLine)
+    }
+}
+
+/// An executed line of a form that has no list, item or bytes.
+fn short_event_in(kind: &[u8], words: &[&[u8]], values: &Values) -> Option<Event> {
+    if is_word(kind, "propose") {
+        propose_line(words, values)
+    } else if is_word(kind, "vote") {
+        vote_line(words, values)
+    } else if is_word(kind, "timeout") {
+        timeout_line(words)
+    } else if is_word(kind, "ask") {
+        ask_line(words)
+    } else {
+        None
     }
 }
 
@@ -100,12 +117,14 @@ fn propose_line(words: &[&[u8]], values: &Values) -> Option<Event> {
     let [sender, receiver, height, round, valid_round, name] = words else {
         return None;
     };
+    let (sender, receiver) = parties_in(sender, receiver)?;
+    let (height, round) = height_and_round_in(height, round)?;
     Some(Event {
-        receiver: count_in(receiver)?,
+        receiver,
         input: Input::Propose(Proposing {
-            sender: count_in(sender)?,
-            height: number_in(height)?,
-            round: number_in_u32(round)?,
+            sender,
+            height,
+            round,
             valid_round: valid_round_in(valid_round)?,
             value: place_in(name, values)?,
         }),
@@ -117,13 +136,15 @@ fn vote_line(words: &[&[u8]], values: &Values) -> Option<Event> {
     let [sender, receiver, kind, height, round, content] = words else {
         return None;
     };
+    let (sender, receiver) = parties_in(sender, receiver)?;
+    let (height, round) = height_and_round_in(height, round)?;
     Some(Event {
-        receiver: count_in(receiver)?,
+        receiver,
         input: Input::Vote(Voting {
-            sender: count_in(sender)?,
+            sender,
             step: vote_step_in(kind)?,
-            height: number_in(height)?,
-            round: number_in_u32(round)?,
+            height,
+            round,
             value: content_in(content, values)?,
         }),
     })
@@ -134,15 +155,18 @@ fn bundle_line(alloc: Global, words: &[&[u8]], values: &Values) -> Result<Event,
     let [sender, receiver, height, round, name, named, signers] = words else {
         return Err(LineFault::BadLine);
     };
-    let signers = counts_in(alloc, signers)?;
+    let (sender, receiver) = parties_in(sender, receiver).ok_or(LineFault::BadLine)?;
+    let (height, round) = height_and_round_in(height, round).ok_or(LineFault::BadLine)?;
+    let (value, named) = places_in(name, named, values).ok_or(LineFault::BadLine)?;
+    let signers = list_in(alloc, signers)?;
     Ok(Event {
-        receiver: count_in(receiver).ok_or(LineFault::BadLine)?,
+        receiver,
         input: Input::Bundle(Bundling {
-            sender: count_in(sender).ok_or(LineFault::BadLine)?,
-            height: number_in(height).ok_or(LineFault::BadLine)?,
-            round: number_in_u32(round).ok_or(LineFault::BadLine)?,
-            value: place_in(name, values).ok_or(LineFault::BadLine)?,
-            named: place_in(named, values).ok_or(LineFault::BadLine)?,
+            sender,
+            height,
+            round,
+            value,
+            named,
             signers,
         }),
     })
@@ -179,12 +203,13 @@ fn timeout_line(words: &[&[u8]]) -> Option<Event> {
     let [receiver, kind, height, round] = words else {
         return None;
     };
+    let (height, round) = height_and_round_in(height, round)?;
     Some(Event {
         receiver: count_in(receiver)?,
         input: Input::Timeout(Timeout {
             kind: timeout_step_in(kind)?,
-            height: number_in(height)?,
-            round: number_in_u32(round)?,
+            height,
+            round,
         }),
     })
 }
@@ -200,6 +225,21 @@ fn ask_line(words: &[&[u8]]) -> Option<Event> {
     })
 }
 
+/// `S P`
+fn parties_in(sender: &[u8], receiver: &[u8]) -> Option<(u64, u64)> {
+    Some((count_in(sender)?, count_in(receiver)?))
+}
+
+/// `H R`
+fn height_and_round_in(height: &[u8], round: &[u8]) -> Option<(u64, u32)> {
+    Some((number_in(height)?, number_in_u32(round)?))
+}
+
+/// `NAME IDNAME`
+fn places_in(name: &[u8], named: &[u8], values: &Values) -> Option<(usize, usize)> {
+    Some((place_in(name, values)?, place_in(named, values)?))
+}
+
 /// -1 for none, or a round.
 fn valid_round_in(word: &[u8]) -> Option<Option<u32>> {
     match word {
@@ -209,19 +249,24 @@ fn valid_round_in(word: &[u8]) -> Option<Option<u32>> {
 }
 
 fn vote_step_in(word: &[u8]) -> Option<Step> {
-    match word {
-        b"prevote" => Some(Step::Prevote),
-        b"precommit" => Some(Step::Precommit),
-        _ => None,
+    if is_word(word, "prevote") {
+        Some(Step::Prevote)
+    } else if is_word(word, "precommit") {
+        Some(Step::Precommit)
+    } else {
+        None
     }
 }
 
 fn timeout_step_in(word: &[u8]) -> Option<protocol::Step> {
-    match word {
-        b"propose" => Some(protocol::Step::Propose),
-        b"prevote" => Some(protocol::Step::Prevote),
-        b"precommit" => Some(protocol::Step::Precommit),
-        _ => None,
+    if is_word(word, "propose") {
+        Some(protocol::Step::Propose)
+    } else if is_word(word, "prevote") {
+        Some(protocol::Step::Prevote)
+    } else if is_word(word, "precommit") {
+        Some(protocol::Step::Precommit)
+    } else {
+        None
     }
 }
 

@@ -6,6 +6,7 @@ ghost use Rattle.std.specs.Char.{is_ascii_digit};
 ghost use Rattle.schedule_text.specs.Numbers.{is_number, number, below, number_below, number_up_to};
 
 use crate::fault::LineFault;
+use crate::words::words_between;
 use std::alloc::Global;
 
 fn all_digits(word: &[u8]) -> bool
@@ -58,6 +59,14 @@ pub(crate) fn count_in(word: &[u8]) -> Option<u64>
     }
 }
 
+/// The number of a client that the word is, or of clients.
+pub(crate) fn number_in_u16(word: &[u8]) -> Option<u16>
+    ensures { result ≡ number_below (2 ^ 16) word.now }
+{
+    let number = number_in(word)?;
+    u16::try_from(number).ok()
+}
+
 /// The round or the power that the word is.
 pub(crate) fn number_in_u32(word: &[u8]) -> Option<u32>
     ensures { result ≡ number_below (2 ^ 32) word.now }
@@ -66,12 +75,18 @@ pub(crate) fn number_in_u32(word: &[u8]) -> Option<u32>
     u32::try_from(number).ok()
 }
 
-/// The numbers of a list, with commas between them; one above the greatest `u64` is that.
-pub(crate) fn counts_in(alloc: Global, word: &[u8]) -> Result<Vec<u64>, LineFault> {
-    let mut numbers = Vec::new(alloc);
-    for part in word.split(|byte| *byte == b',') {
-        let number = count_in(part).ok_or(LineFault::BadLine)?;
+/// The numbers that the words are; one above the greatest `u64` is that.
+pub(crate) fn counts_in(alloc: Global, words: &[&[u8]]) -> Result<Vec<u64>, LineFault> {
+    let mut numbers = Vec::with_capacity(alloc, words.len())?;
+    for word in words {
+        let number = count_in(word).ok_or(LineFault::BadLine)?;
         numbers.push(number)?;
     }
     Ok(numbers)
+}
+
+/// The numbers of a list, with commas between them.
+pub(crate) fn list_in(alloc: Global, word: &[u8]) -> Result<Vec<u64>, LineFault> {
+    let words = words_between(alloc, word, b',')?;
+    counts_in(alloc, &words)
 }

@@ -5,12 +5,13 @@ ghost use Rattle.std.specs.Io.KnownBytes.{IsAtEnd};
 ghost use Rattle.schedule_text.specs.Failures.{status_of};
 
 use crate::fault::{EventFault, Failure};
-use crate::report::{ReportLine, Told, write_end};
+use crate::report::{EndLine, ReportLine, Told};
 use crate::running::Run;
 use crate::schedule::Schedule;
 use crate::values::Values;
 use std::alloc::Global;
 use std::io::{BufRead, ErrorKind, Write};
+use std::{fmt, io};
 
 /// What the program is for, and how it is called.
 pub const HELP: &str = "\
@@ -46,7 +47,7 @@ impl Failure<'_> {
     pub fn tell<E: Write>(self, err: &mut E) -> u8
         ensures { (result ≡ status_of self.entry) ⊎ (result ≡ 5) }
     {
-        if self == Failure::CannotWrite {
+        if matches!(self, Failure::CannotWrite) {
             return self.status();
         }
         match writeln!(err, "{self}") {
@@ -66,12 +67,15 @@ fn report<'a, R: BufRead, W: Write>(
     ensures read { OnOk result (IsAtEnd (R.remaining reader.new)) }
 {
     let text = read_text(alloc, name, reader)?;
-    let schedule = Schedule::read(alloc, &text)?;
-    let result = run(alloc, &schedule, out);
-    if out.flush().is_err() {
-        return Err(Failure::CannotWrite);
-    }
-    result
+    report_of(alloc, &text, out)
+}
+
+/// The report of a text.
+fn report_of<'a, W: Write>(alloc: Global, text: &[u8], out: &mut W) -> Result<(), Failure<'a>>
+    ensures { IfErr result (λ failure. status_of failure ≡ 2 → out.new ≡ out.old) }
+{
+    let schedule = Schedule::read(alloc, text)?;
+    run(alloc, &schedule, out)
 }
 
 /// The whole text of the file.
@@ -85,13 +89,35 @@ fn read_text<'a, R: BufRead>(
     let mut text = Vec::new(alloc);
     match reader.read_to_end(&mut text) {
         Ok(_) => Ok(text),
-        Err(error) if error.kind() == ErrorKind::OutOfMemory => Err(Failure::OutOfMemory),
-        Err(_) => Err(Failure::CannotRead(name)),
+        Err(error) => Err(failed_read(&error, name)),
     }
 }
 
-/// Runs a schedule, and writes its report.
+/// The failure of a read of the file of this name.
+fn failed_read<'a>(error: &io::Error, name: &'a str) -> Failure<'a> {
+    match error.kind() {
+        ErrorKind::OutOfMemory => Failure::OutOfMemory,
+        _ => Failure::CannotRead(name),
+    }
+}
+
+/// Runs a schedule, and writes its report to the end.
 fn run<'a, W: Write>(alloc: Global, schedule: &Schedule, out: &mut W) -> Result<(), Failure<'a>>
+    ensures { IfErr result (λ failure. status_of failure ≢ 2) }
+{
+    let told = write_report(alloc, schedule, out);
+    if out.flush().is_err() {
+        return Err(Failure::CannotWrite);
+    }
+    told
+}
+
+/// Writes the report of a schedule's run, line by line.
+fn write_report<'a, W: Write>(
+    alloc: Global,
+    schedule: &Schedule,
+    out: &mut W,
+) -> Result<(), Failure<'a>>
     ensures { IfErr result (λ failure. status_of failure ≢ 2) }
 {
     match Run::new(alloc, schedule) {
@@ -104,16 +130,25 @@ fn run<'a, W: Write>(alloc: Global, schedule: &Schedule, out: &mut W) -> Result<
 fn tell<'a, W: Write>(run: &mut Run, schedule: &Schedule, out: &mut W) -> Result<(), Failure<'a>>
     ensures { IfErr result (λ failure. status_of failure ≢ 2) }
 {
-    let told = at_event(0, run.begin())?;
-    write_all(&told, &schedule.values, out)?;
+    write_outcome(0, run.begin(), &schedule.values, out)?;
     for (before, event) in schedule.events.iter().enumerate() {
-        let told = at_event(before + 1, run.happen(event))?;
-        write_all(&told, &schedule.values, out)?;
+        write_outcome(before + 1, run.happen(event), &schedule.values, out)?;
     }
-    match write_end(run.me(), run.node(), out) {
-        Ok(()) => Ok(()),
-        Err(_) => Err(Failure::CannotWrite),
-    }
+    let (me, node) = (run.me(), run.node());
+    write_line(&EndLine { me, node }, out)
+}
+
+/// Writes what there is to tell of the event with this number, or answers its failure.
+fn write_outcome<'a, W: Write>(
+    number: usize,
+    outcome: Result<Vec<Told>, EventFault>,
+    values: &Values,
+    out: &mut W,
+) -> Result<(), Failure<'a>>
+    ensures { IfErr result (λ failure. status_of failure ≢ 2) }
+{
+    let told = at_event(number, outcome)?;
+    write_all(&told, values, out)
 }
 
 /// A fault becomes the failure of the event with this number.
@@ -130,10 +165,17 @@ fn write_all<'a, W: Write>(told: &[Told], values: &Values, out: &mut W) -> Resul
     ensures { IfErr result (λ failure. status_of failure ≢ 2) }
 {
     for told in told {
-        let line = ReportLine { told, values };
-        if writeln!(out, "{line}").is_err() {
-            return Err(Failure::CannotWrite);
-        }
+        write_line(&ReportLine { told, values }, out)?;
     }
     Ok(())
+}
+
+/// Writes a line, and its line feed.
+fn write_line<'a, L: fmt::Display, W: Write>(line: &L, out: &mut W) -> Result<(), Failure<'a>>
+    ensures { IfErr result (λ failure. status_of failure ≡ 5) }
+{
+    match writeln!(out, "{line}") {
+        Ok(()) => Ok(()),
+        Err(_) => Err(Failure::CannotWrite),
+    }
 }

@@ -3,11 +3,11 @@
 use crate::values::Values;
 use messages::{Ask, Step, Vote};
 use node_core::{NodeCore, Refusal};
-use std::{fmt, io};
+use std::fmt;
 use transactions::{Id, Op, Tx};
 
 /// What there is to tell of an event.
-#[derive(Clone, Copy, Debug, PartialEq, Eq)]
+#[derive(Clone, Copy)]
 pub(crate) enum Told {
     /// The validator refused the call.
     Refused(u16, Refusal),
@@ -23,7 +23,7 @@ pub(crate) enum Told {
 }
 
 /// A message, as a report tells it.
-#[derive(Clone, Copy, Debug, PartialEq, Eq)]
+#[derive(Clone, Copy)]
 pub(crate) enum Release {
     Proposal {
         sender: u16,
@@ -52,22 +52,15 @@ pub(crate) struct ReportLine<'a> {
 impl fmt::Display for ReportLine<'_> {
     fn fmt<W: fmt::Write>(&self, f: &mut fmt::Formatter<W>) -> fmt::Result {
         match self.told {
-            Told::Refused(validator, refusal) => {
-                let number = refusal.number();
-                write!(f, "v{validator} refuses {number}")?;
-                match refusal.inner() {
-                    0 => Ok(()),
-                    inner => write!(f, " {inner}"),
-                }
-            }
+            Told::Refused(validator, refusal) => write_refusal(*validator, refusal, f),
             Told::Decided {
                 validator,
                 height,
                 round,
                 id,
             } => {
-                let name = self.name(id);
-                write!(f, "v{validator} decides {height} {round} {name}")
+                let content = self.content(Some(id));
+                write_of_round(*validator, "decides", *height, *round, content, f)
             }
             Told::Released(number, release) => {
                 write!(f, "{number} ")?;
@@ -78,8 +71,8 @@ impl fmt::Display for ReportLine<'_> {
 }
 
 impl ReportLine<'_> {
-    fn name<'b>(&'b self, id: &'b Id) -> Name<'b> {
-        Name {
+    fn content<'b>(&'b self, id: Option<&'b Id>) -> Content<'b> {
+        Content {
             id,
             values: self.values,
         }
@@ -99,46 +92,66 @@ impl ReportLine<'_> {
                 id,
             } => {
                 let valid_round = Round(*valid_round);
-                let name = self.name(id);
+                let name = self.content(Some(id));
                 write!(
                     f,
                     "v{sender} proposal {height} {round} {valid_round} {name}"
                 )
             }
-            Release::Vote(vote) => self.write_vote(vote, f),
-            Release::Ask(ask) => {
-                let sender = ask.sender;
-                let height = ask.height;
-                write!(f, "v{sender} ask {height}")
+            Release::Vote(vote) => {
+                let content = self.content(vote.content.as_ref());
+                let kind = kind_of(vote.step);
+                write_of_round(vote.sender, kind, vote.height, vote.round, content, f)
             }
+            Release::Ask(ask) => write_ask(ask, f),
             Release::Bundle {
                 sender,
                 height,
                 round,
                 id,
             } => {
-                let name = self.name(id);
-                write!(f, "v{sender} bundle {height} {round} {name}")
+                let content = self.content(Some(id));
+                write_of_round(*sender, "bundle", *height, *round, content, f)
             }
         }
     }
+}
 
-    fn write_vote<W: fmt::Write>(&self, vote: &Vote, f: &mut fmt::Formatter<W>) -> fmt::Result {
-        let sender = vote.sender;
-        let kind = match vote.step {
-            Step::Prevote => "prevote",
-            Step::Precommit => "precommit",
-        };
-        let height = vote.height;
-        let round = vote.round;
-        write!(f, "v{sender} {kind} {height} {round} ")?;
-        match &vote.content {
-            Some(id) => {
-                let name = self.name(id);
-                write!(f, "{name}")
-            }
-            None => write!(f, "nil"),
-        }
+fn write_refusal<W: fmt::Write>(
+    validator: u16,
+    refusal: &Refusal,
+    f: &mut fmt::Formatter<W>,
+) -> fmt::Result {
+    let number = refusal.number();
+    match refusal.inner() {
+        0 => write!(f, "v{validator} refuses {number}"),
+        inner => write!(f, "v{validator} refuses {number} {inner}"),
+    }
+}
+
+/// What a validator does in a round about a value.
+fn write_of_round<W: fmt::Write>(
+    validator: u16,
+    what: &str,
+    height: u64,
+    round: u32,
+    content: Content<'_>,
+    f: &mut fmt::Formatter<W>,
+) -> fmt::Result {
+    write!(f, "v{validator} {what} {height} {round} {content}")
+}
+
+fn write_ask<W: fmt::Write>(ask: &Ask, f: &mut fmt::Formatter<W>) -> fmt::Result {
+    let sender = ask.sender;
+    let height = ask.height;
+    write!(f, "v{sender} ask {height}")
+}
+
+/// The word for a vote of this kind.
+fn kind_of(step: Step) -> &'static str {
+    match step {
+        Step::Prevote => "prevote",
+        Step::Precommit => "precommit",
     }
 }
 
@@ -150,23 +163,25 @@ impl fmt::Display for Round {
     fn fmt<W: fmt::Write>(&self, f: &mut fmt::Formatter<W>) -> fmt::Result {
         match self.0 {
             Some(round) => write!(f, "{round}"),
-            None => write!(f, "-1"),
+            None => f.write_str("-1"),
         }
     }
 }
 
-/// An id by the first name of its values, or else by its digits.
+/// Nil, or an id by the first name of its values, or else by its digits.
 #[derive(Clone, Copy)]
-struct Name<'a> {
-    id: &'a Id,
+struct Content<'a> {
+    id: Option<&'a Id>,
     values: &'a Values,
 }
 
-impl fmt::Display for Name<'_> {
+impl fmt::Display for Content<'_> {
     fn fmt<W: fmt::Write>(&self, f: &mut fmt::Formatter<W>) -> fmt::Result {
-        let id = self.id;
+        let Some(id) = self.id else {
+            return f.write_str("nil");
+        };
         match self.values.name_of(id) {
-            Some(name) => write!(f, "{name}"),
+            Some(name) => f.write_str(name),
             None => write_digits(id, f),
         }
     }
@@ -182,8 +197,8 @@ impl fmt::Display for ItemText<'_> {
         let number = self.0.number;
         write!(f, "{client}:{number}:")?;
         match &self.0.op {
-            Op::Close => write!(f, "close"),
-            Op::Bytes(contents) if contents.len() == 0 => write!(f, "-"),
+            Op::Close => f.write_str("close"),
+            Op::Bytes(contents) if contents.len() == 0 => f.write_str("-"),
             Op::Bytes(contents) => write_digits(contents.as_slice(), f),
         }
     }
@@ -197,21 +212,30 @@ fn write_digits<W: fmt::Write>(bytes: &[u8], f: &mut fmt::Formatter<W>) -> fmt::
     Ok(())
 }
 
-/// Writes the end line of a validator: where it stands, and what was delivered.
-pub(crate) fn write_end<W: io::Write>(me: u16, node: &NodeCore, out: &mut W) -> io::Result<()> {
-    let height = node.height();
-    let round = node.round();
-    write!(out, "v{me} at {height} {round}:")?;
-    for value in node.delivered() {
-        write_items(value.txs.as_slice(), out)?;
-    }
-    writeln!(out)
+/// The end line of a validator: where it stands, and what was delivered.
+#[derive(Clone, Copy)]
+pub(crate) struct EndLine<'a> {
+    pub(crate) me: u16,
+    pub(crate) node: &'a NodeCore,
 }
 
-fn write_items<W: io::Write>(txs: &[Tx], out: &mut W) -> io::Result<()> {
+impl fmt::Display for EndLine<'_> {
+    fn fmt<W: fmt::Write>(&self, f: &mut fmt::Formatter<W>) -> fmt::Result {
+        let me = self.me;
+        let height = self.node.height();
+        let round = self.node.round();
+        write!(f, "v{me} at {height} {round}:")?;
+        for value in self.node.delivered() {
+            write_items(value.txs.as_slice(), f)?;
+        }
+        Ok(())
+    }
+}
+
+fn write_items<W: fmt::Write>(txs: &[Tx], f: &mut fmt::Formatter<W>) -> fmt::Result {
     for tx in txs {
         let item = ItemText(tx);
-        write!(out, " {item}")?;
+        write!(f, " {item}")?;
     }
     Ok(())
 }

@@ -10,6 +10,7 @@ use crate::keys::ring_of;
 use crate::report::{Release, Told};
 use crate::schedule::Schedule;
 use crate::senders::{Call, Senders, fault_of};
+use crate::world::World;
 use indexmap::IndexSet;
 use messages::{Body, Bundle, body_in, read};
 use node_core::{Config, NodeCore, Refusal};
@@ -34,15 +35,12 @@ pub(crate) struct Run<'a> {
 impl<'a> Run<'a> {
     /// The world before its first rule fires.
     pub(crate) fn new(alloc: Global, schedule: &'a Schedule) -> Result<Run<'a>, AllocError> {
-        let world = &schedule.world;
-        let me = world.correct;
-        let ring = ring_of(alloc, me, world.count(), world.clients.count)?;
-        let powers = world.powers.copy(alloc)?;
+        let senders = Senders::new(alloc, schedule)?;
         Ok(Run {
             alloc,
-            senders: Senders::new(alloc, schedule)?,
-            me,
-            node: NodeCore::open(alloc, Config { me, powers }, ring),
+            senders,
+            me: schedule.world.correct,
+            node: node_of(alloc, &schedule.world)?,
             decisions_told: 0,
             numbered: IndexSet::new(alloc),
             is_unsettled: false,
@@ -61,21 +59,29 @@ impl<'a> Run<'a> {
 
     /// The beginning of the world: the validator is settled.
     pub(crate) fn begin(&mut self) -> Result<Vec<Told>, EventFault> {
-        let mut told = Vec::new(self.alloc);
-        self.insist(&Call::Settle, &mut told)?;
-        Ok(told)
+        self.told_of(&Call::Settle)
     }
 
     /// An event, and what there is to tell of it.
     pub(crate) fn happen(&mut self, event: &Event) -> Result<Vec<Told>, EventFault> {
-        let mut told = Vec::new(self.alloc);
         let call = self.senders.call(event)?;
+        self.told_of(&call)
+    }
+
+    /// What there is to tell of a call.
+    fn told_of(&mut self, call: &Call) -> Result<Vec<Told>, EventFault> {
+        let mut told = Vec::new(self.alloc);
+        self.settle_and_insist(call, &mut told)?;
+        Ok(told)
+    }
+
+    /// Makes a call of the settled validator.
+    fn settle_and_insist(&mut self, call: &Call, told: &mut Vec<Told>) -> Result<(), EventFault> {
         if self.is_unsettled {
-            self.call(&Call::Settle, &mut told)?;
+            self.call(&Call::Settle, told)?;
             self.is_unsettled = false;
         }
-        self.insist(&call, &mut told)?;
-        Ok(told)
+        self.insist(call, told)
     }
 
     /// Makes a call. Where memory is refused, the validator is settled, and the call made once more.
@@ -115,15 +121,38 @@ impl<'a> Run<'a> {
 
     fn tell_messages(&mut self, told: &mut Vec<Told>) -> Result<(), EventFault> {
         for frame in self.node.outgoing() {
-            let message = read(self.alloc, &frame).map_err(fault_of)?;
-            let body = body_in(&frame, &message).to_vec(self.alloc)?;
-            let (number, is_new) = self.numbered.insert_full(body)?;
-            if is_new && let Some(release) = release_of(self.alloc, &message.body)? {
-                told.push(Told::Released(number, release))?;
-            }
+            self.tell_frame(&frame, told)?;
         }
         Ok(())
     }
+
+    fn tell_frame(&mut self, frame: &[u8], told: &mut Vec<Told>) -> Result<(), EventFault> {
+        let message = read(self.alloc, frame).map_err(fault_of)?;
+        self.tell_message(&message.body, body_in(frame, &message), told)
+    }
+
+    /// Numbers a message, whose body has this spelling, and tells of it where it is new.
+    fn tell_message(
+        &mut self,
+        body: &Body,
+        spelled: &[u8],
+        told: &mut Vec<Told>,
+    ) -> Result<(), EventFault> {
+        let spelled = spelled.to_vec(self.alloc)?;
+        let (number, is_new) = self.numbered.insert_full(spelled)?;
+        if is_new && let Some(release) = release_of(self.alloc, body)? {
+            told.push(Told::Released(number, release))?;
+        }
+        Ok(())
+    }
+}
+
+/// The node of the correct validator, before it is settled.
+fn node_of(alloc: Global, world: &World) -> Result<NodeCore, AllocError> {
+    let me = world.correct;
+    let ring = ring_of(alloc, me, world.count(), world.clients.count)?;
+    let powers = world.powers.copy(alloc)?;
+    Ok(NodeCore::open(alloc, Config { me, powers }, ring))
 }
 
 fn decision(validator: u16, bundle: &Bundle) -> Told {

@@ -1,14 +1,18 @@
 //! Schedules, and their reading.
 
+ghost use Rattle.std.specs.Prelude.{◌≤◌};
+
 use crate::event::Event;
 use crate::fault::{LineFault, ReadFault};
 use crate::items::name_in;
 use crate::lines::{clients_in, event_in, is_skipped, items_in, liars_in, powers_in};
 use crate::values::{Values, value_of};
-use crate::world::{Clients, ValidatorSet, World};
+use crate::words::{is_word, words_between};
+use crate::world::{Clients, World};
 use powers::Powers;
 use std::alloc::Global;
 use std::mem;
+use transactions::Named;
 
 /// A schedule: a world with one correct validator, and what comes to it.
 #[derive(Drop)]
@@ -48,20 +52,39 @@ impl Reading {
         }
     }
 
+    /// Takes the lines of a text, up to the first bad one.
+    fn take_text(&mut self, text: &[u8]) -> Result<(), ReadFault> {
+        for (before, line) in text.split(|byte| *byte == b'\n').enumerate() {
+            if let Err(fault) = self.take_line(line) {
+                return Err(fault.at_line(before + 1));
+            }
+        }
+        Ok(())
+    }
+
     fn take_line(&mut self, line: &[u8]) -> Result<(), LineFault> {
         if is_skipped(line) {
             return Ok(());
         }
-        let words: Vec<&[u8]> = line.split(|byte| *byte == b' ').collect(self.alloc)?;
-        let [kind, rest @ ..] = words.as_slice() else {
+        let words = words_between(self.alloc, line, b' ')?;
+        self.take_words(&words)
+    }
+
+    /// Takes a line of these words.
+    fn take_words(&mut self, words: &[&[u8]]) -> Result<(), LineFault> {
+        let [kind, rest @ ..] = words else {
             return Err(LineFault::BadLine);
         };
-        match *kind {
-            b"powers" => self.take_powers(rest),
-            b"clients" => self.take_clients(rest),
-            b"liars" => self.take_liars(rest),
-            b"value" => self.take_value(rest),
-            _ => self.take_event(kind, rest),
+        if is_word(kind, "powers") {
+            self.take_powers(rest)
+        } else if is_word(kind, "clients") {
+            self.take_clients(rest)
+        } else if is_word(kind, "liars") {
+            self.take_liars(rest)
+        } else if is_word(kind, "value") {
+            self.take_value(rest)
+        } else {
+            self.take_event(kind, rest)
         }
     }
 
@@ -90,18 +113,16 @@ impl Reading {
     }
 
     fn take_liars(&mut self, words: &[&[u8]]) -> Result<(), LineFault> {
-        let numbers = liars_in(self.alloc, words)?;
-        match mem::replace(&mut self.setup, Setup::NoWorld) {
-            Setup::Clients(powers, clients) => {
-                let liars = ValidatorSet::new(powers.count(), &numbers);
-                let liars = liars.ok_or(LineFault::BadLine)?;
-                if let Some(world) = World::new(powers, clients, liars) {
-                    self.setup = Setup::World(world);
-                }
-                Ok(())
+        let Setup::Clients(powers, _) = &self.setup else {
+            return Err(LineFault::BadLine);
+        };
+        let liars = liars_in(self.alloc, words, powers.count())?;
+        if let Setup::Clients(powers, clients) = mem::replace(&mut self.setup, Setup::NoWorld) {
+            if let Some(world) = World::new(powers, clients, liars) {
+                self.setup = Setup::World(world);
             }
-            _ => Err(LineFault::BadLine),
         }
+        Ok(())
     }
 
     fn take_value(&mut self, words: &[&[u8]]) -> Result<(), LineFault> {
@@ -109,23 +130,37 @@ impl Reading {
         let [name, items @ ..] = words else {
             return Err(LineFault::BadLine);
         };
-        let name = name_in(name).ok_or(LineFault::BadLine)?;
-        if !self.events.is_empty() || self.values.place_of(name).is_some() {
-            return Err(LineFault::BadLine);
-        }
-        let items = items_in(self.alloc, items, validators)?;
-        let value = value_of(self.alloc, &items, validators)?;
+        let name = self.new_name(name).ok_or(LineFault::BadLine)?;
+        let value = value_in(self.alloc, items, validators)?;
         self.values.define(self.alloc, name, value)?;
         Ok(())
     }
 
+    /// The name that the word is, which a value may have until an event comes, and where none has it.
+    fn new_name<'w>(&self, word: &'w [u8]) -> Option<&'w str> {
+        let name = name_in(word)?;
+        if self.events.is_empty() && self.values.place_of(name).is_none() {
+            Some(name)
+        } else {
+            None
+        }
+    }
+
     fn take_event(&mut self, kind: &[u8], words: &[&[u8]]) -> Result<(), LineFault> {
+        let event = self.event(kind, words)?;
+        self.events.push(event)?;
+        Ok(())
+    }
+
+    /// The event of an executed line, which has to be one that the world allows.
+    fn event(&self, kind: &[u8], words: &[&[u8]]) -> Result<Event, LineFault> {
         let world = self.world()?;
         let event = event_in(self.alloc, kind, words, &self.values, world.count())?;
-        if !world.allows(&event) {
-            return Err(LineFault::BadLine);
+        if world.allows(&event) {
+            Ok(event)
+        } else {
+            Err(LineFault::BadLine)
         }
-        Ok(self.events.push(event)?)
     }
 
     /// The world, once it stands.
@@ -159,17 +194,19 @@ impl Schedule {
     /// The schedule that the text is, or its first bad line.
     pub(crate) fn read(alloc: Global, text: &[u8]) -> Result<Schedule, ReadFault> {
         let mut reading = Reading::new(alloc);
-        for (before, line) in text.split(|byte| *byte == b'\n').enumerate() {
-            match reading.take_line(line) {
-                Ok(()) => {}
-                Err(LineFault::BadLine) => return Err(ReadFault::BadLine(before + 1)),
-                Err(LineFault::OutOfMemory) => return Err(ReadFault::OutOfMemory),
-            }
-        }
+        reading.take_text(text)?;
         reading
             .finish()
             .ok_or(ReadFault::BadLine(line_past_end(text)))
     }
+}
+
+/// The value of a value line's items; none where it has no spelling.
+fn value_in(alloc: Global, words: &[&[u8]], validators: u16) -> Result<Option<Named>, LineFault>
+    requires { validators ≤ 64 }
+{
+    let items = items_in(alloc, words, validators)?;
+    Ok(value_of(alloc, &items, validators)?)
 }
 
 /// The number of the line behind the last one, from 1 on. A line feed at the end of the text makes no

@@ -12,7 +12,7 @@ use std::marker::Model;
 
 /// The keys of what a validator sends, for the validators in turn. Whoever lies sends much, and each
 /// message has a tag for each validator.
-#[derive(Debug, Drop)]
+#[derive(Drop)]
 pub(crate) struct SenderKeys {
     sender: u16,
     keys: Vec<Key>,

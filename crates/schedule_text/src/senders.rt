@@ -1,15 +1,15 @@
 //! What liars and clients send, and the calls of a node that a schedule asks for.
 
-ghost use Rattle.std.specs.Prelude.{◌≡◌, ◌≢◌, ◌≤◌, ◌∷◌, true, false, Some, map, length, IfOk, OnOk, IfErr, IsErrOf, option_map};
+ghost use Rattle.std.specs.Prelude.{◌≡◌, ◌≢◌, ◌≤◌, [], ◌∷◌, true, false, Some, map, length, IfOk, OnOk, IfErr, IsErrOf, option_map};
 ghost use Rattle.std.specs.List.{list_all};
 ghost use Rattle.messages.specs.Grammar.{body_spelling};
 ghost use Rattle.protocol.specs.Values.{id};
 ghost use Rattle.protocol.specs.Tags.{Validator};
-ghost use Rattle.protocol.specs.Messages.{sender_of, tagged};
+ghost use Rattle.protocol.specs.Messages.{OfTx, sender_of, tagged};
 ghost use Rattle.schedule_text.specs.Keys.{tags_for};
 ghost use Rattle.schedule_text.specs.Lines.{value_at};
 ghost use Rattle.schedule_text.specs.declared.items.RightTags.TheVariants.{All};
-ghost use Rattle.schedule_text.specs.Events.{setting_of, IsContent, Brings, IsMessageCall, Makes, is_known, are_known, precommit_by};
+ghost use Rattle.schedule_text.specs.Events.{setting_of, IsContent, IsBundled, IsMessageCall, Makes, is_known, are_known, precommit_by};
 
 use crate::event::{Bundling, Event, Input, Proposing, Voting};
 use crate::fault::EventFault;
@@ -22,13 +22,13 @@ use authenticators::Party;
 use messages::{Body, Bundle, Message, Precommit, Proposal, Step, Vote, spell, spell_body};
 use protocol::Timeout;
 use std::alloc::{AllocError, Global};
-use transactions::{Duplicate, Fault, Id, Named, Seq, Tx};
+use transactions::{Duplicate, Fault, Id, Named, Seq, Tx, Value};
 
 /// The greatest number of precommits in a bundle.
 const MOST_PRECOMMITS: usize = 64;
 
 /// A call of a node.
-#[derive(Debug, Drop)]
+#[derive(Drop)]
 pub(crate) enum Call {
     Settle,
     /// This frame comes.
@@ -83,10 +83,10 @@ impl<'a> Senders<'a> {
     {
         self.party(event.receiver)?;
         match &event.input {
-            Input::Propose(line) => self.handle(&self.proposal(line)?),
-            Input::Vote(line) => self.handle(&self.vote(line)?),
-            Input::Bundle(line) => self.handle(&self.bundle(line)?),
-            Input::Submit(tagged) => self.handle(&self.tx(tagged)?),
+            Input::Propose(line) => self.proposal(line),
+            Input::Vote(line) => self.vote(line),
+            Input::Bundle(line) => self.bundle(line),
+            Input::Submit(tagged) => self.tx(tagged),
             Input::Frame(bytes) => Ok(Call::Handle(bytes.as_slice().to_vec(self.alloc)?)),
             Input::Timeout(timeout) => Ok(Call::FireTimeout(*timeout)),
             Input::Ask => Ok(Call::Ask),
@@ -94,11 +94,11 @@ impl<'a> Senders<'a> {
     }
 
     /// The call by which a message comes.
-    fn handle(&self, message: &Message) -> Result<Call, EventFault>
-        ensures call { IfOk result (IsMessageCall (λ m. m ≡ message.now)) }
+    fn handle(&self, message: Message) -> Result<Call, EventFault>
+        ensures call { IfOk result (IsMessageCall (λ m. m ≡ message)) }
         ensures err { IfErr result (λ fault. fault ≢ EventFault.NoSuchParty) }
     {
-        match spell(self.alloc, message) {
+        match spell(self.alloc, &message) {
             Ok(frame) => Ok(Call::Handle(frame)),
             Err(fault) => Err(fault_of(fault)),
         }
@@ -116,8 +116,8 @@ impl<'a> Senders<'a> {
         }
     }
 
-    fn proposal(&self, line: &Proposing) -> Result<Message, EventFault>
-        ensures brings { IfOk result (Brings self.now.schedule.now (Input.Propose line.now)) }
+    fn proposal(&self, line: &Proposing) -> Result<Call, EventFault>
+        ensures makes { IfOk result (Makes self.now.schedule.now (Input.Propose line.now)) }
         ensures known { OnOk result (is_known self.now.schedule.now line.now.sender ≡ true) }
         ensures unknown { IsErrOf result EventFault.NoSuchParty → is_known self.now.schedule.now line.now.sender ≡ false }
         ensures order { IsErrOf result EventFault.TooLong → is_known self.now.schedule.now line.now.sender ≡ true }
@@ -128,13 +128,13 @@ impl<'a> Senders<'a> {
             round: line.round,
             sender,
             valid_round: line.valid_round,
-            value: self.value_at(line.value)?.value().copy(self.alloc)?,
+            value: self.copy_at(line.value)?,
         });
-        self.signed(sender, body)
+        self.sent(sender, body)
     }
 
-    fn vote(&self, line: &Voting) -> Result<Message, EventFault>
-        ensures brings { IfOk result (Brings self.now.schedule.now (Input.Vote line.now)) }
+    fn vote(&self, line: &Voting) -> Result<Call, EventFault>
+        ensures makes { IfOk result (Makes self.now.schedule.now (Input.Vote line.now)) }
         ensures known { OnOk result (is_known self.now.schedule.now line.now.sender ≡ true) }
         ensures unknown { IsErrOf result EventFault.NoSuchParty → is_known self.now.schedule.now line.now.sender ≡ false }
         ensures order { IsErrOf result EventFault.TooLong → is_known self.now.schedule.now line.now.sender ≡ true }
@@ -147,49 +147,50 @@ impl<'a> Senders<'a> {
             sender,
             content: self.content(line.value)?,
         });
-        self.signed(sender, body)
+        self.sent(sender, body)
     }
 
-    fn bundle(&self, line: &Bundling) -> Result<Message, EventFault>
-        ensures brings { IfOk result (Brings self.now.schedule.now (Input.Bundle line.now)) }
+    fn bundle(&self, line: &Bundling) -> Result<Call, EventFault>
+        ensures makes { IfOk result (Makes self.now.schedule.now (Input.Bundle line.now)) }
         ensures known { OnOk result (list_all (is_known self.now.schedule.now) (line.now.sender ∷ line.now.signers.items) ≡ true) }
         ensures unknown { IsErrOf result EventFault.NoSuchParty → list_all (is_known self.now.schedule.now) (line.now.sender ∷ line.now.signers.items) ≡ false }
         ensures order { IsErrOf result EventFault.TooLong → list_all (is_known self.now.schedule.now) (line.now.sender ∷ line.now.signers.items) ≡ true }
     {
         let sender = self.party(line.sender)?;
         let signers = self.parties(&line.signers)?;
+        let bundle = self.bundle_of(line, sender, &signers)?;
+        self.sent(sender, Body::Bundle(bundle))
+    }
+
+    /// The bundle of a line, by these parties.
+    fn bundle_of(&self, line: &Bundling, sender: u16, signers: &[u16]) -> Result<Bundle, EventFault>
+        requires sender { sender ≡ line.now.sender }
+        requires signers { signers.now ≡ line.now.signers.items }
+        ensures bundle { IfOk result (IsBundled self.now.schedule.now line.now) }
+        ensures err { IfErr result (λ fault. fault ≢ EventFault.NoSuchParty) }
+    {
         let value = self.value_at(line.value)?;
         let id = self.id_at(line.named)?;
-        let body = Body::Bundle(Bundle {
+        let precommits = self.precommits(signers, line.height, line.round, id)?;
+        Ok(Bundle {
             height: line.height,
             sender,
             round: line.round,
             id,
             value: value.value().copy(self.alloc)?,
-            precommits: self.precommits(&signers, line.height, line.round, id)?,
-        });
-        self.signed(sender, body)
+            precommits,
+        })
     }
 
     /// A client's transaction, whose tags are the message's.
-    fn tx(&self, tagged: &Tagged) -> Result<Message, EventFault>
-        ensures brings { IfOk result (Brings self.now.schedule.now (Input.Submit tagged.now)) }
+    fn tx(&self, tagged: &Tagged) -> Result<Call, EventFault>
+        ensures makes { IfOk result (Makes self.now.schedule.now (Input.Submit tagged.now)) }
         ensures err { IfErr result (λ fault. fault ≢ EventFault.NoSuchParty) }
     {
-        let tx = tx_of(self.alloc, tagged, self.validators())?;
-        let Tx {
-            client,
-            number,
-            op,
-            tags,
-        } = tx.ok_or(EventFault::TooLong)?;
-        let body = Body::Tx(Tx {
-            client,
-            number,
-            op,
-            tags: Seq::new(self.alloc),
-        });
-        Ok(Message { body, tags })
+        match tx_of(self.alloc, tagged, self.validators())? {
+            Some(tx) => self.handle(message_of_tx(self.alloc, tx)),
+            None => Err(EventFault::TooLong),
+        }
     }
 
     /// The validators with these numbers.
@@ -222,20 +223,31 @@ impl<'a> Senders<'a> {
         }
         let mut precommits = Vec::with_capacity(self.alloc, signers.len())?;
         for signer in signers {
-            let body = Body::Vote(Vote {
-                step: Step::Precommit,
-                height,
-                round,
-                sender: *signer,
-                content: Some(id),
-            });
-            let Message { body: _, tags } = self.signed(*signer, body)?;
-            precommits.push(Precommit {
-                sender: *signer,
-                tags,
-            })?;
+            precommits.push(self.precommit(*signer, height, round, id)?)?;
         }
         Ok(Seq::from_vec(precommits))
+    }
+
+    /// A validator's precommit for the id.
+    fn precommit(
+        &self,
+        sender: u16,
+        height: u64,
+        round: u32,
+        id: Id,
+    ) -> Result<Precommit, EventFault>
+        ensures same { IfOk result (λ precommit. precommit ≡ precommit_by (setting_of self.now.schedule.now) height round id sender) }
+        ensures err { IfErr result (λ fault. fault ≢ EventFault.NoSuchParty) }
+    {
+        let body = Body::Vote(Vote {
+            step: Step::Precommit,
+            height,
+            round,
+            sender,
+            content: Some(id),
+        });
+        let Message { body: _, tags } = self.signed(sender, body)?;
+        Ok(Precommit { sender, tags })
     }
 
     /// Nil, or the id of the value at a place.
@@ -258,6 +270,16 @@ impl<'a> Senders<'a> {
         Ok(self.value_at(place)?.id())
     }
 
+    /// The call by which a validator's message comes, with right tags for everyone.
+    fn sent(&self, sender: u16, body: Body) -> Result<Call, EventFault>
+        requires { sender_of body ≡ Validator sender }
+        ensures call { IfOk result (IsMessageCall (λ m. m ≡ tagged (setting_of self.now.schedule.now) body)) }
+        ensures err { IfErr result (λ fault. fault ≢ EventFault.NoSuchParty) }
+    {
+        let message = self.signed(sender, body)?;
+        self.handle(message)
+    }
+
     /// A validator's message with right tags for everyone.
     #[tactic(auto, using(crate::proofs::Tags::tagged_by))]
     fn signed(&self, sender: u16, body: Body) -> Result<Message, EventFault>
@@ -265,12 +287,20 @@ impl<'a> Senders<'a> {
         ensures tagged { IfOk result (λ message. message ≡ tagged (setting_of self.now.schedule.now) body) }
         ensures err { IfErr result (λ fault. fault ≢ EventFault.NoSuchParty) }
     {
-        let spelled = self.spelled(&body)?;
+        match self.tags(sender, &body) {
+            Ok(tags) => Ok(Message { body, tags }),
+            Err(fault) => Err(fault),
+        }
+    }
+
+    /// A validator's tags of a body, all of them right.
+    fn tags(&self, sender: u16, body: &Body) -> Result<Seq<[u8; 32]>, EventFault>
+        ensures tags { IfOk result (λ tags. tags ≡ tags_for All (Validator sender) (length self.now.schedule.now.world.powers) (body_spelling body.now)) }
+        ensures err { IfErr result (λ fault. fault ≢ EventFault.NoSuchParty) }
+    {
+        let spelled = self.spelled(body)?;
         let tags = self.tags_by(sender, &spelled)?;
-        Ok(Message {
-            body,
-            tags: Seq::from_vec(tags),
-        })
+        Ok(Seq::from_vec(tags))
     }
 
     /// A validator's tags of a body's bytes, all of them right.
@@ -305,6 +335,34 @@ impl<'a> Senders<'a> {
     {
         self.schedule.values.at(place).ok_or(EventFault::TooLong)
     }
+
+    /// A copy of the value at a place, which has to have a spelling.
+    fn copy_at(&self, place: usize) -> Result<Value, EventFault>
+        ensures value { IfOk result (λ value. value_at self.now.schedule.now.values place ≡ Some value) }
+        ensures err { IfErr result (λ fault. fault ≢ EventFault.NoSuchParty) }
+    {
+        let value = self.value_at(place)?;
+        Ok(value.value().copy(self.alloc)?)
+    }
+}
+
+/// The message of a transaction: its tags are the message's.
+fn message_of_tx(alloc: Global, tx: Tx) -> Message
+    ensures { result ≡ record { body = OfTx (record tx { tags = [] }); tags = tx.tags } }
+{
+    let Tx {
+        client,
+        number,
+        op,
+        tags,
+    } = tx;
+    let body = Body::Tx(Tx {
+        client,
+        number,
+        op,
+        tags: Seq::new(alloc),
+    });
+    Message { body, tags }
 }
 
 /// A fault of spelling, or of reading what a node released, as one of an event.

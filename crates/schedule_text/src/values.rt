@@ -5,9 +5,9 @@ ghost use Rattle.std.specs.Option.{option_copied};
 ghost use Rattle.authenticators.specs.declared.party.Party.TheVariants.{Client};
 ghost use Rattle.transactions.specs.Grammar.{tx_body_spelling, IsTxBody, IsValue};
 ghost use Rattle.schedule_text.specs.Keys.{tags_for};
-ghost use Rattle.schedule_text.specs.Lines.{value_at, tx_by};
+ghost use Rattle.schedule_text.specs.Lines.{value_at, bare_tx, tx_by};
 
-use crate::items::Tagged;
+use crate::items::{RightTags, Tagged};
 use crate::keys::tags_of;
 use authenticators::Party;
 use indexmap::IndexMap;
@@ -76,14 +76,20 @@ impl Values {
         value: Option<Named>,
     ) -> Result<(), AllocError> {
         let place = self.by_name.len();
-        if let Some(named) = &value {
-            let id = named.id();
-            if !self.first_with.contains_key(&id) {
-                self.first_with.insert(id, place)?;
-            }
-        }
+        let id = value.as_ref().map(Named::id);
         let name = String::from_str(alloc, name)?;
         self.by_name.insert(name, value)?;
+        match id {
+            Some(id) => self.note(id, place),
+            None => Ok(()),
+        }
+    }
+
+    /// Notes the place of a value with this id, where it is the first one.
+    fn note(&mut self, id: Id, place: usize) -> Result<(), AllocError> {
+        if !self.first_with.contains_key(&id) {
+            self.first_with.insert(id, place)?;
+        }
         Ok(())
     }
 }
@@ -99,21 +105,32 @@ pub(crate) fn value_of(
     if items.len() > MOST_TXS {
         return Ok(None);
     }
-    let mut txs = Vec::with_capacity(alloc, items.len())?;
-    for item in items {
-        match tx_of(alloc, item, validators)? {
-            Some(tx) => txs.push(tx)?,
-            None => return Ok(None),
-        }
+    match txs_of(alloc, items, validators)? {
+        Some(txs) => named(alloc, txs),
+        None => Ok(None),
     }
-    let txs = Shared::from_vec(alloc, txs)?;
-    named(alloc, Value { txs })
 }
 
-/// The value with its id; none where it has no spelling.
-fn named(alloc: Global, value: Value) -> Result<Option<Named>, AllocError>
-    ensures { IfOk result (λ named. IfSome named (λ v. v ≡ value)) }
+/// The transactions with their tags; none where one has no spelling.
+fn txs_of(alloc: Global, items: &[Tagged], validators: u16) -> Result<Option<Vec<Tx>>, AllocError>
+    ensures { IfOk result (λ txs. IfSome txs (λ t. t.items ≡ map (tx_by validators) items.now)) }
 {
+    let mut txs = Vec::with_capacity(alloc, items.len())?;
+    for item in items {
+        let Some(tx) = tx_of(alloc, item, validators)? else {
+            return Ok(None);
+        };
+        txs.push(tx)?;
+    }
+    Ok(Some(txs))
+}
+
+/// The value of these transactions with its id; none where it has no spelling.
+fn named(alloc: Global, txs: Vec<Tx>) -> Result<Option<Named>, AllocError>
+    ensures { IfOk result (λ named. IfSome named (λ v. v.txs ≡ txs.items)) }
+{
+    let txs = Shared::from_vec(alloc, txs)?;
+    let value = Value { txs };
     match value_id(alloc, &value) {
         Ok(id) => Ok(Some(Named::new(value, id))),
         Err(Fault::OutOfMemory) => Err(AllocError),
@@ -129,21 +146,39 @@ pub(crate) fn tx_of(
 ) -> Result<Option<Tx>, AllocError>
     ensures { IfOk result (λ tx. IfSome tx (λ t. t ≡ tx_by validators tagged.now)) }
 {
-    let bare = Tx {
+    let bare = bare_tx(alloc, tagged)?;
+    match tags_of_tx(alloc, &bare, validators, &tagged.right)? {
+        Some(tags) => Ok(Some(Tx { tags, ..bare })),
+        None => Ok(None),
+    }
+}
+
+/// The transaction without tags.
+fn bare_tx(alloc: Global, tagged: &Tagged) -> Result<Tx, AllocError>
+    ensures { IfOk result (λ tx. tx ≡ bare_tx tagged.now) }
+{
+    Ok(Tx {
         client: tagged.item.client,
         number: tagged.item.number,
         op: tagged.item.op.copy(alloc)?,
         tags: Seq::new(alloc),
-    };
-    let Ok(len) = len_of_tx_body(&bare) else {
+    })
+}
+
+/// The tags of a transaction that has none; none where it has no spelling.
+fn tags_of_tx(
+    alloc: Global,
+    bare: &Tx,
+    validators: u16,
+    right: &RightTags,
+) -> Result<Option<Seq<[u8; 32]>>, AllocError>
+    ensures { IfOk result (λ tags. IfSome tags (λ t. t ≡ tags_for right.now (Client bare.now.client) validators (tx_body_spelling bare.now))) }
+{
+    let Ok(len) = len_of_tx_body(bare) else {
         return Ok(None);
     };
     let mut body = Vec::with_capacity(alloc, len)?;
-    put_tx_body(&mut body, &bare)?;
-    let client = Party::Client(bare.client);
-    let tags = tags_of(alloc, client, validators, &tagged.right, &body)?;
-    Ok(Some(Tx {
-        tags: Seq::from_vec(tags),
-        ..bare
-    }))
+    put_tx_body(&mut body, bare)?;
+    let tags = tags_of(alloc, Party::Client(bare.client), validators, right, &body)?;
+    Ok(Some(Seq::from_vec(tags)))
 }

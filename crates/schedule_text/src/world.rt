@@ -8,7 +8,7 @@ use crate::event::{Event, Input};
 use powers::{MOST_VALIDATORS, Powers};
 
 /// A set of validators.
-#[derive(Clone, Copy, Debug)]
+#[derive(Clone, Copy)]
 pub(crate) struct ValidatorSet {
     members: [bool; MOST_VALIDATORS],
 }
@@ -55,7 +55,7 @@ impl ValidatorSet {
 }
 
 /// The clients, from number 0 on.
-#[derive(Clone, Copy, Debug)]
+#[derive(Clone, Copy)]
 pub(crate) struct Clients {
     /// How many there are: at most 1,024.
     pub(crate) count: u16,
@@ -63,7 +63,7 @@ pub(crate) struct Clients {
 }
 
 /// Validators of whom one is correct, and clients.
-#[derive(Debug, Drop)]
+#[derive(Drop)]
 pub(crate) struct World {
     pub(crate) powers: Powers,
     pub(crate) clients: Clients,

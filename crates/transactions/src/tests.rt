@@ -3,7 +3,7 @@ mod parts;
 
 use super::*;
 use std::alloc::{AllocError, Global};
-use std::test::Fail;
+use std::process::Abort;
 
 const EMPTY_ID: [u8; 32] = [
     0x96, 0xa2, 0x96, 0xd2, 0x24, 0xf2, 0x85, 0xc6, 0x7b, 0xee, 0x93, 0xc3, 0x0f, 0x8a, 0x30, 0x91,
@@ -15,6 +15,16 @@ const ONE_BYTE: [u8; 15] = [1, 0, 7, 0, 0, 0, 0, 0, 0, 0, 1, 0, 0, 1, b'a'];
 
 /// The body of client 7's transaction 2, which is a close.
 const CLOSE: [u8; 12] = [1, 0, 7, 0, 0, 0, 0, 0, 0, 0, 2, 1];
+
+/// What was looked at is so.
+fn assert_holds(rt: &impl Abort, outcome: Result<bool, Fault>) {
+    assert_eq!(rt; outcome, Ok(true));
+}
+
+/// This fault was found.
+fn assert_fault(rt: &impl Abort, found: Option<Fault>, wanted: Fault) {
+    assert_eq!(rt; found, Some(wanted));
+}
 
 /// Tags of nines.
 fn nines(alloc: Global, count: usize) -> Result<Seq<[u8; 32]>, AllocError> {
@@ -47,6 +57,30 @@ fn put_copies(txs: &mut Vec<Tx>, alloc: Global, count: usize, tx: &Tx) -> Result
     Ok(())
 }
 
+/// Adds so many transactions of one size.
+fn put_sized(
+    txs: &mut Vec<Tx>,
+    alloc: Global,
+    count: usize,
+    size: (usize, usize),
+) -> Result<(), AllocError> {
+    let tx = sized(alloc, size.0, size.1)?;
+    put_copies(txs, alloc, count, &tx)
+}
+
+/// So many transactions of one size, and one more.
+fn txs_of(
+    alloc: Global,
+    count: usize,
+    each: (usize, usize),
+    last: (usize, usize),
+) -> Result<Vec<Tx>, AllocError> {
+    let mut txs = Vec::new(alloc);
+    put_sized(&mut txs, alloc, count, each)?;
+    put_sized(&mut txs, alloc, 1, last)?;
+    Ok(txs)
+}
+
 /// A value of so many transactions of one size, and one more; a size is of bytes and tags.
 fn value_of(
     alloc: Global,
@@ -54,9 +88,7 @@ fn value_of(
     each: (usize, usize),
     last: (usize, usize),
 ) -> Result<Value, AllocError> {
-    let mut txs = Vec::new(alloc);
-    put_copies(&mut txs, alloc, count, &sized(alloc, each.0, each.1)?)?;
-    put_copies(&mut txs, alloc, 1, &sized(alloc, last.0, last.1)?)?;
+    let txs = txs_of(alloc, count, each, last)?;
     Ok(Value {
         txs: Shared::from_vec(alloc, txs)?,
     })
@@ -76,10 +108,40 @@ fn with_tag(alloc: Global, body: &[u8]) -> Result<Vec<u8>, AllocError> {
     Ok(bytes)
 }
 
-/// The transaction of this body with one tag, of nines.
-fn read_with_tag(alloc: Global, body: &[u8]) -> Result<Tx, Fault> {
+/// What is so of the transaction that these bytes spell.
+fn of_spelled_tx<F: FnOnce(&Tx) -> Result<bool, Fault>>(
+    alloc: Global,
+    bytes: &[u8],
+    look: F,
+) -> Result<bool, Fault>
+    requires { F.IsAlwaysCallable look }
+{
+    let tx = read_tx(alloc, bytes)?;
+    look(&tx)
+}
+
+/// What is so of the transaction of this body with one tag, of nines.
+fn of_tx<F: FnOnce(&Tx) -> Result<bool, Fault>>(
+    alloc: Global,
+    body: &[u8],
+    look: F,
+) -> Result<bool, Fault>
+    requires { F.IsAlwaysCallable look }
+{
     let bytes = with_tag(alloc, body)?;
-    read_tx(alloc, &bytes)
+    of_spelled_tx(alloc, &bytes, look)
+}
+
+/// What is so of the value that these bytes spell.
+fn of_value<F: FnOnce(&Value) -> Result<bool, Fault>>(
+    alloc: Global,
+    bytes: &[u8],
+    look: F,
+) -> Result<bool, Fault>
+    requires { F.IsAlwaysCallable look }
+{
+    let value = read_value(alloc, bytes)?;
+    look(&value)
 }
 
 /// Why these bytes are no transaction.
@@ -109,7 +171,7 @@ fn is_spelling_of_value(alloc: Global, bytes: &[u8], value: &Value) -> Result<bo
 }
 
 /// Whether a copy of the value is the same value.
-fn is_same_as_its_copy(alloc: Global, value: &Value) -> Result<bool, AllocError> {
+fn is_same_as_its_copy(alloc: Global, value: &Value) -> Result<bool, Fault> {
     Ok(same_value(value, &value.copy(alloc)?))
 }
 
@@ -122,23 +184,35 @@ fn is_empty_value(alloc: Global, value: &Value) -> Result<bool, Fault> {
     )
 }
 
-#[test]
-fn empty_value(rt: HostRuntime) -> Result<(), Fail> {
-    let value = read_value(rt.alloc(), &[0, 0])?;
-    assert!(rt; is_empty_value(rt.alloc(), &value)?);
-    Ok(())
+/// Whether a copy of the value is empty.
+fn is_empty_copied(alloc: Global, value: &Value) -> Result<bool, Fault> {
+    let again = value.copy(alloc)?;
+    is_empty_value(alloc, &again)
 }
 
 #[test]
-fn copy_of_the_empty_value(rt: HostRuntime) -> Result<(), Fail> {
-    let value = read_value(rt.alloc(), &[0, 0])?;
-    assert!(rt; is_same_as_its_copy(rt.alloc(), &value)?);
-    let again = value.copy(rt.alloc())?;
-    assert!(rt; is_empty_value(rt.alloc(), &again)?);
-    Ok(())
+fn empty_value(rt: HostRuntime) {
+    let alloc = rt.alloc();
+    assert_holds(
+        &rt,
+        of_value(alloc, &[0, 0], |value| is_empty_value(alloc, value)),
+    );
 }
 
-/// Whether this is client 7's transaction 1, which asks for the byte `a`.
+#[test]
+fn copy_of_the_empty_value(rt: HostRuntime) {
+    let alloc = rt.alloc();
+    assert_holds(
+        &rt,
+        of_value(alloc, &[0, 0], |value| is_same_as_its_copy(alloc, value)),
+    );
+    assert_holds(
+        &rt,
+        of_value(alloc, &[0, 0], |value| is_empty_copied(alloc, value)),
+    );
+}
+
+/// Whether this is client 7's transaction 1, which asks for the byte `a`, with one tag, of nines.
 fn is_one_byte(tx: &Tx) -> bool {
     tx.client == 7
         && tx.number == 1
@@ -147,11 +221,17 @@ fn is_one_byte(tx: &Tx) -> bool {
 }
 
 #[test]
-fn transaction_of_one_byte(rt: HostRuntime) -> Result<(), Fail> {
-    let tx = read_with_tag(rt.alloc(), &ONE_BYTE)?;
-    assert!(rt; is_one_byte(&tx));
-    assert!(rt; is_spelled_with_tag(rt.alloc(), &ONE_BYTE, &tx)?);
-    Ok(())
+fn transaction_of_one_byte(rt: HostRuntime) {
+    let alloc = rt.alloc();
+    assert_holds(&rt, of_tx(alloc, &ONE_BYTE, |tx| Ok(is_one_byte(tx))));
+    assert_holds(
+        &rt,
+        of_tx(
+            alloc,
+            &ONE_BYTE,
+            |tx| is_spelled_with_tag(alloc, &ONE_BYTE, tx),
+        ),
+    );
 }
 
 /// Whether this is client 7's transaction 2, which is a close.
@@ -160,19 +240,29 @@ fn is_close(tx: &Tx) -> bool {
 }
 
 #[test]
-fn closing_transaction(rt: HostRuntime) -> Result<(), Fail> {
-    let tx = read_with_tag(rt.alloc(), &CLOSE)?;
-    assert!(rt; is_close(&tx));
-    assert!(rt; is_spelled_with_tag(rt.alloc(), &CLOSE, &tx)?);
-    Ok(())
+fn closing_transaction(rt: HostRuntime) {
+    let alloc = rt.alloc();
+    assert_holds(&rt, of_tx(alloc, &CLOSE, |tx| Ok(is_close(tx))));
+    assert_holds(
+        &rt,
+        of_tx(alloc, &CLOSE, |tx| is_spelled_with_tag(alloc, &CLOSE, tx)),
+    );
+}
+
+/// The transaction of this body with one tag, of nines, and a byte behind it.
+fn read_longer(alloc: Global, body: &[u8]) -> Result<Tx, Fault> {
+    let mut bytes = with_tag(alloc, body)?;
+    bytes.push(0)?;
+    read_tx(alloc, &bytes)
 }
 
 #[test]
-fn byte_after_a_transaction(rt: HostRuntime) -> Result<(), Fail> {
-    let mut bytes = with_tag(rt.alloc(), &CLOSE)?;
-    bytes.push(0)?;
-    assert_eq!(rt; tx_fault(rt.alloc(), &bytes), Some(Fault::BadSpelling));
-    Ok(())
+fn byte_after_a_transaction(rt: HostRuntime) {
+    assert_fault(
+        &rt,
+        read_longer(rt.alloc(), &CLOSE).err(),
+        Fault::BadSpelling,
+    );
 }
 
 /// The spelling of the value of the two transactions.
@@ -184,10 +274,12 @@ fn spelling_of_two(alloc: Global) -> Result<Vec<u8>, AllocError> {
     Ok(bytes)
 }
 
-/// The value of the two transactions.
-fn read_two(alloc: Global) -> Result<Value, Fault> {
+/// What is so of the value of the two transactions.
+fn of_two<F: FnOnce(&Value) -> Result<bool, Fault>>(alloc: Global, look: F) -> Result<bool, Fault>
+    requires { F.IsAlwaysCallable look }
+{
     let bytes = spelling_of_two(alloc)?;
-    read_value(alloc, &bytes)
+    of_value(alloc, &bytes, look)
 }
 
 /// Whether the value is spelled as that of the two transactions.
@@ -197,71 +289,89 @@ fn is_spelled_as_two(alloc: Global, value: &Value) -> Result<bool, Fault> {
 }
 
 #[test]
-fn value_of_two(rt: HostRuntime) -> Result<(), Fail> {
-    let value = read_two(rt.alloc())?;
-    assert!(rt; value.txs.len() == 2);
-    assert!(rt; is_spelled_as_two(rt.alloc(), &value)?);
-    Ok(())
+fn value_of_two(rt: HostRuntime) {
+    let alloc = rt.alloc();
+    assert_holds(&rt, of_two(alloc, |value| Ok(value.txs.len() == 2)));
+    assert_holds(&rt, of_two(alloc, |value| is_spelled_as_two(alloc, value)));
 }
 
-/// Whether the value is the empty one.
-fn is_same_as_empty(alloc: Global, value: &Value) -> Result<bool, Fault> {
-    Ok(same_value(value, &read_value(alloc, &[0, 0])?))
+/// Whether the value is another than the empty one.
+fn is_not_empty(alloc: Global, value: &Value) -> Result<bool, Fault> {
+    Ok(!same_value(value, &read_value(alloc, &[0, 0])?))
 }
 
 #[test]
-fn value_of_two_is_compared(rt: HostRuntime) -> Result<(), Fail> {
-    let value = read_two(rt.alloc())?;
-    assert!(rt; is_same_as_its_copy(rt.alloc(), &value)?);
-    assert!(rt; !is_same_as_empty(rt.alloc(), &value)?);
-    Ok(())
+fn value_of_two_is_compared(rt: HostRuntime) {
+    let alloc = rt.alloc();
+    assert_holds(
+        &rt,
+        of_two(alloc, |value| is_same_as_its_copy(alloc, value)),
+    );
+    assert_holds(&rt, of_two(alloc, |value| is_not_empty(alloc, value)));
 }
 
-/// The first cut before which the bytes are not too few for a transaction.
-fn whole_tx_before(alloc: Global, bytes: &[u8]) -> Option<usize> {
+/// Whether each beginning of the bytes is too short for a transaction.
+fn are_short_for_tx(alloc: Global, bytes: &[u8]) -> bool {
     for cut in 0..bytes.len() {
         if tx_fault(alloc, &bytes[..cut]) != Some(Fault::Truncated) {
-            return Some(cut);
+            return false;
         }
     }
-    None
+    true
 }
 
-/// The first cut before which the bytes are not too few for a value.
-fn whole_value_before(alloc: Global, bytes: &[u8]) -> Option<usize> {
+/// Whether each beginning of the bytes is too short for a value.
+fn are_short_for_value(alloc: Global, bytes: &[u8]) -> bool {
     for cut in 0..bytes.len() {
         if value_fault(alloc, &bytes[..cut]) != Some(Fault::Truncated) {
-            return Some(cut);
+            return false;
         }
     }
-    None
+    true
+}
+
+/// Whether each beginning of this body with one tag is too short for a transaction.
+fn are_short_with_tag(alloc: Global, body: &[u8]) -> Result<bool, Fault> {
+    let bytes = with_tag(alloc, body)?;
+    Ok(are_short_for_tx(alloc, &bytes))
 }
 
 #[test]
-fn beginnings_of_transactions_are_truncated(rt: HostRuntime) -> Result<(), Fail> {
-    let bytes = with_tag(rt.alloc(), &ONE_BYTE)?;
-    assert_eq!(rt; whole_tx_before(rt.alloc(), &bytes), None);
-    let bytes = with_tag(rt.alloc(), &CLOSE)?;
-    assert_eq!(rt; whole_tx_before(rt.alloc(), &bytes), None);
-    Ok(())
+fn beginnings_of_transactions_are_truncated(rt: HostRuntime) {
+    assert_holds(&rt, are_short_with_tag(rt.alloc(), &ONE_BYTE));
+    assert_holds(&rt, are_short_with_tag(rt.alloc(), &CLOSE));
+}
+
+/// Whether each beginning of the two transactions is too short for a value.
+fn are_short_for_two(alloc: Global) -> Result<bool, Fault> {
+    let bytes = spelling_of_two(alloc)?;
+    Ok(are_short_for_value(alloc, &bytes))
 }
 
 #[test]
-fn beginnings_of_values_are_truncated(rt: HostRuntime) -> Result<(), Fail> {
-    let bytes = spelling_of_two(rt.alloc())?;
-    assert_eq!(rt; whole_value_before(rt.alloc(), &bytes), None);
-    assert_eq!(rt; whole_value_before(rt.alloc(), &[0, 0]), None);
-    Ok(())
+fn beginnings_of_values_are_truncated(rt: HostRuntime) {
+    assert_holds(&rt, are_short_for_two(rt.alloc()));
+    assert!(rt; are_short_for_value(rt.alloc(), &[0, 0]));
 }
 
 /// Whether the fault has this number and this text.
-fn is_told(alloc: Global, fault: Fault, number: u8, text: &str) -> Result<bool, AllocError> {
+fn is_told(alloc: Global, fault: Fault, number: u8, text: &str) -> Result<bool, Fault> {
     Ok(fault as u8 == number && fault.to_string(alloc)?.as_str() == text)
 }
 
+/// Whether each fault has its number and its text.
+fn are_told(alloc: Global, told: &[(Fault, u8, &str)]) -> Result<bool, Fault> {
+    for (fault, number, text) in told {
+        if !is_told(alloc, *fault, *number, text)? {
+            return Ok(false);
+        }
+    }
+    Ok(true)
+}
+
 #[test]
-fn messages_of_faults(rt: HostRuntime) -> Result<(), Fail> {
-    let told = [
+fn messages_of_faults(rt: HostRuntime) {
+    let told = &[
         (Fault::Truncated, 1, "the bytes end within a field"),
         (
             Fault::TooLong,
@@ -272,10 +382,7 @@ fn messages_of_faults(rt: HostRuntime) -> Result<(), Fail> {
         (Fault::OutOfMemory, 4, "out of memory"),
         (Fault::BadKind, 5, "no such kind of message"),
     ];
-    for (fault, number, text) in told {
-        assert!(rt; is_told(rt.alloc(), fault, number, text)?, "fault {number}");
-    }
-    Ok(())
+    assert_holds(&rt, are_told(rt.alloc(), told));
 }
 
 /// The empty value with its id.
@@ -285,19 +392,30 @@ fn named_empty_value(alloc: Global) -> Result<Named, Fault> {
     Ok(Named::new(value, id))
 }
 
-#[test]
-fn value_with_its_id(rt: HostRuntime) -> Result<(), Fail> {
-    let named = named_empty_value(rt.alloc())?;
-    assert_eq!(rt; named.id(), EMPTY_ID);
-    assert_eq!(rt; named.into_value().txs.len(), 0);
-    Ok(())
+/// Whether this is the empty value with its id.
+fn is_named_empty(named: &Named) -> bool {
+    named.value().txs.len() == 0 && named.id() == EMPTY_ID
+}
+
+/// Whether a copy is the empty value with its id.
+fn is_named_empty_copied(alloc: Global, named: &Named) -> Result<bool, Fault> {
+    let again = named.copy(alloc)?;
+    Ok(is_named_empty(&again))
+}
+
+/// How many transactions the empty value has, taken from its id.
+fn len_of_unnamed(alloc: Global) -> Result<usize, Fault> {
+    Ok(named_empty_value(alloc)?.into_value().txs.len())
+}
+
+/// Whether the empty value has its id, and its copy too.
+fn empty_is_named(alloc: Global) -> Result<bool, Fault> {
+    let named = named_empty_value(alloc)?;
+    Ok(is_named_empty(&named) && is_named_empty_copied(alloc, &named)?)
 }
 
 #[test]
-fn copy_of_a_value_with_its_id(rt: HostRuntime) -> Result<(), Fail> {
-    let named = named_empty_value(rt.alloc())?;
-    let again = named.copy(rt.alloc())?;
-    assert_eq!(rt; again.value().txs.len(), 0);
-    assert_eq!(rt; again.id(), EMPTY_ID);
-    Ok(())
+fn value_with_its_id(rt: HostRuntime) {
+    assert_holds(&rt, empty_is_named(rt.alloc()));
+    assert!(rt; len_of_unnamed(rt.alloc()) == Ok(0));
 }

@@ -1,20 +1,24 @@
 //! Bytes that spell no body, and bodies without a spelling.
 
 use super::{
-    ASK, CLOSE, ONE_BYTE, PREVOTE, PROPOSAL, bundle_front, bundle_of, nines, there_and_back,
-    value_of,
+    BUNDLE_FRONT, PREVOTE, VECTORS, assert_fault, assert_holds, nines, of_body, spelled_bundle,
+    there_and_back, value_of,
 };
 use crate::{Body, Proposal, read_body, spell_body};
 use std::alloc::{AllocError, Global};
 use std::process::Abort;
-use std::test::Fail;
 use transactions::{Fault, Op, Tx};
+
+/// Why these bytes spell no body.
+fn body_fault(alloc: Global, bytes: &[u8]) -> Option<Fault> {
+    read_body(alloc, bytes).err()
+}
 
 /// Each beginning of the bytes is truncated.
 fn assert_beginnings_truncated(rt: &impl Abort, alloc: Global, bytes: &[u8]) {
     for cut in 0..bytes.len() {
         assert_eq!(rt;
-            read_body(alloc, &bytes[..cut]).err(),
+            body_fault(alloc, &bytes[..cut]),
             Some(Fault::Truncated),
             "cut at {cut}"
         );
@@ -23,127 +27,103 @@ fn assert_beginnings_truncated(rt: &impl Abort, alloc: Global, bytes: &[u8]) {
 
 #[test]
 fn beginnings_are_truncated(rt: HostRuntime) {
-    let vectors = [
-        ONE_BYTE.as_slice(),
-        CLOSE.as_slice(),
-        PROPOSAL.as_slice(),
-        PREVOTE.as_slice(),
-        ASK.as_slice(),
-    ];
-    for bytes in vectors {
+    for bytes in &VECTORS {
         assert_beginnings_truncated(&rt, rt.alloc(), bytes);
     }
 }
 
-/// The spelling of a bundle with so many transactions, precommits and tags of each precommit.
-fn bundle_with(
-    alloc: Global,
-    txs: usize,
-    precommits: usize,
-    tags: usize,
-) -> Result<Vec<u8>, Fault> {
-    let value = value_of(alloc, txs)?;
-    let bundle = bundle_of(alloc, value, precommits, tags)?;
-    spell_body(alloc, &Body::Bundle(bundle))
-}
-
 #[test]
-fn beginnings_of_a_bundle_are_truncated(rt: HostRuntime) -> Result<(), Fail> {
-    let bytes = bundle_with(rt.alloc(), 0, 2, 1)?;
+fn beginnings_of_a_bundle_are_truncated(rt: HostRuntime) -> Result<(), Fault> {
+    let bytes = spelled_bundle(rt.alloc(), 0, 2, 1)?;
     assert_beginnings_truncated(&rt, rt.alloc(), &bytes);
     Ok(())
 }
 
-/// The fault at these bytes with one more behind them.
-fn fault_of_longer(alloc: Global, bytes: &[u8]) -> Result<Option<Fault>, AllocError> {
-    let mut longer = bytes.to_vec(alloc)?;
-    longer.push(0)?;
-    Ok(read_body(alloc, &longer).err())
-}
-
-#[test]
-fn bytes_after_the_end(rt: HostRuntime) -> Result<(), Fail> {
-    let vectors = [
-        ONE_BYTE.as_slice(),
-        CLOSE.as_slice(),
-        PROPOSAL.as_slice(),
-        PREVOTE.as_slice(),
-        ASK.as_slice(),
-    ];
-    for bytes in vectors {
-        assert_eq!(rt;
-            fault_of_longer(rt.alloc(), bytes)?,
-            Some(Fault::BadSpelling)
-        );
-    }
-    Ok(())
-}
-
-#[test]
-fn unknown_kinds(rt: HostRuntime) -> Result<(), Fail> {
-    for kind in [0x00u8, 0x02, 0x0f, 0x15, 0x7f, 0xff] {
-        assert_eq!(rt;
-            read_body(rt.alloc(), &[kind]).err(),
-            Some(Fault::BadKind),
-            "kind {kind}"
-        );
-    }
-    Ok(())
-}
-
-#[test]
-fn flag_of_a_vote(rt: HostRuntime) -> Result<(), Fail> {
-    let mut bytes = PREVOTE[..15].to_vec(rt.alloc())?;
-    bytes.push(2)?;
-    assert_eq!(rt;
-        read_body(rt.alloc(), &bytes).err(),
-        Some(Fault::BadSpelling)
-    );
-    Ok(())
-}
-
-/// The fault at the front of a bundle with these bytes behind it.
-fn fault_behind_front(alloc: Global, behind: &[u8]) -> Result<Option<Fault>, AllocError> {
-    let mut bytes = bundle_front(alloc)?;
+/// The fault at these bytes with these behind them.
+fn fault_behind(alloc: Global, front: &[u8], behind: &[u8]) -> Result<Option<Fault>, AllocError> {
+    let mut bytes = front.to_vec(alloc)?;
     bytes.extend_from_slice(behind)?;
-    Ok(read_body(alloc, &bytes).err())
+    Ok(body_fault(alloc, &bytes))
+}
+
+/// Bytes behind others make this fault.
+fn assert_fault_behind(rt: &impl Abort, alloc: Global, front: &[u8], behind: &[u8], fault: Fault) {
+    assert_eq!(rt;
+        fault_behind(alloc, front, behind),
+        Ok(Some(fault)),
+        "{behind:?} behind {front:?}"
+    );
 }
 
 #[test]
-fn counts_of_precommits(rt: HostRuntime) -> Result<(), Fail> {
-    assert_eq!(rt;
-        fault_behind_front(rt.alloc(), &[65])?,
-        Some(Fault::TooLong)
-    );
-    assert_eq!(rt;
-        fault_behind_front(rt.alloc(), &[64])?,
-        Some(Fault::Truncated)
-    );
-    Ok(())
+fn bytes_after_the_end(rt: HostRuntime) {
+    for bytes in &VECTORS {
+        assert_fault_behind(&rt, rt.alloc(), bytes, &[0], Fault::BadSpelling);
+    }
 }
 
 #[test]
-fn bundle_without_precommits(rt: HostRuntime) -> Result<(), Fail> {
-    let mut bytes = bundle_front(rt.alloc())?;
+fn unknown_kinds(rt: HostRuntime) {
+    for kind in &[0x00u8, 0x02, 0x0f, 0x15, 0x7f, 0xff] {
+        assert_fault(&rt, body_fault(rt.alloc(), &[*kind]), Fault::BadKind);
+    }
+}
+
+#[test]
+fn flag_of_a_vote(rt: HostRuntime) {
+    assert_fault_behind(&rt, rt.alloc(), &PREVOTE[..15], &[2], Fault::BadSpelling);
+}
+
+#[test]
+fn counts_of_precommits(rt: HostRuntime) {
+    assert_fault_behind(&rt, rt.alloc(), &BUNDLE_FRONT, &[65], Fault::TooLong);
+    assert_fault_behind(&rt, rt.alloc(), &BUNDLE_FRONT, &[64], Fault::Truncated);
+}
+
+/// Whether a bundle without precommits is read, and spelled so.
+fn bundle_of_none(alloc: Global) -> Result<bool, Fault> {
+    let mut bytes = BUNDLE_FRONT.to_vec(alloc)?;
     bytes.push(0)?;
-    assert!(rt; there_and_back(rt.alloc(), &bytes)?);
-    Ok(())
+    there_and_back(alloc, &bytes)
 }
 
 #[test]
-fn tags_of_precommits(rt: HostRuntime) -> Result<(), Fail> {
-    for (count, fault) in [(0, Fault::BadSpelling), (65, Fault::TooLong)] {
+fn bundle_without_precommits(rt: HostRuntime) {
+    assert_holds(&rt, bundle_of_none(rt.alloc()));
+}
+
+#[test]
+fn tags_of_precommits(rt: HostRuntime) {
+    assert_fault_behind(
+        &rt,
+        rt.alloc(),
+        &BUNDLE_FRONT,
+        &[1, 0, 3, 0],
+        Fault::BadSpelling,
+    );
+    assert_fault_behind(
+        &rt,
+        rt.alloc(),
+        &BUNDLE_FRONT,
+        &[1, 0, 3, 65],
+        Fault::TooLong,
+    );
+}
+
+/// Bundles with so many transactions, precommits and tags of each precommit have no spelling, for this cause.
+fn assert_no_bundles(rt: &impl Abort, alloc: Global, cases: &[(usize, usize, usize, Fault)]) {
+    for (txs, precommits, tags, fault) in cases {
         assert_eq!(rt;
-            fault_behind_front(rt.alloc(), &[1, 0, 3, count])?,
-            Some(fault)
+            spelled_bundle(alloc, *txs, *precommits, *tags).err(),
+            Some(*fault),
+            "{txs} transactions, {precommits} precommits, {tags} tags"
         );
     }
-    Ok(())
 }
 
 #[test]
 fn bundles_without_spelling(rt: HostRuntime) {
-    let cases = [
+    let cases = &[
         (0, 65, 1, Fault::TooLong),
         (0, 1, 0, Fault::BadSpelling),
         (0, 1, 65, Fault::TooLong),
@@ -151,48 +131,54 @@ fn bundles_without_spelling(rt: HostRuntime) {
         (162, 1, 0, Fault::TooLong),
         (0, 65, 0, Fault::TooLong),
     ];
-    for (txs, precommits, tags, fault) in cases {
-        assert_eq!(rt;
-            bundle_with(rt.alloc(), txs, precommits, tags).err(),
-            Some(fault),
-            "{txs} transactions, {precommits} precommits, {tags} tags"
-        );
-    }
+    assert_no_bundles(&rt, rt.alloc(), cases);
 }
 
-/// The spelling of a proposal of the empty value with this valid round.
-fn proposal_with(alloc: Global, valid_round: Option<u32>) -> Result<Vec<u8>, Fault> {
-    let proposal = Proposal {
+/// A proposal of the empty value with this valid round.
+fn proposal_of(alloc: Global, valid_round: Option<u32>) -> Result<Body, AllocError> {
+    Ok(Body::Proposal(Proposal {
         height: 1,
         round: 2,
         sender: 3,
         valid_round,
         value: value_of(alloc, 0)?,
-    };
-    spell_body(alloc, &Body::Proposal(proposal))
+    }))
+}
+
+/// Its spelling.
+fn proposal_with(alloc: Global, valid_round: Option<u32>) -> Result<Vec<u8>, Fault> {
+    let body = proposal_of(alloc, valid_round)?;
+    spell_body(alloc, &body)
+}
+
+/// Whether the body is a proposal with this valid round.
+fn has_valid_round(body: &Body, valid_round: Option<u32>) -> bool {
+    matches!(body, Body::Proposal(proposal) if proposal.valid_round == valid_round)
 }
 
 /// Whether a proposal with this valid round is read with it again.
 fn valid_round_is_read(alloc: Global, valid_round: Option<u32>) -> Result<bool, Fault> {
     let bytes = proposal_with(alloc, valid_round)?;
-    let body = read_body(alloc, &bytes)?;
-    Ok(matches!(&body, Body::Proposal(proposal) if proposal.valid_round == valid_round))
+    of_body(alloc, &bytes, |body| Ok(has_valid_round(body, valid_round)))
 }
 
 #[test]
-fn valid_rounds(rt: HostRuntime) -> Result<(), Fail> {
-    let last_good = u32::MAX - 1;
-    for valid_round in [None, Some(0), Some(last_good)] {
-        assert!(rt;
-            valid_round_is_read(rt.alloc(), valid_round)?,
-            "{valid_round:?}"
-        );
-    }
-    assert_eq!(rt;
-        proposal_with(rt.alloc(), Some(u32::MAX)).err(),
-        Some(Fault::BadSpelling)
-    );
-    Ok(())
+fn valid_rounds(rt: HostRuntime) {
+    assert_holds(&rt, valid_round_is_read(rt.alloc(), None));
+    assert_holds(&rt, valid_round_is_read(rt.alloc(), Some(0)));
+    assert_holds(&rt, valid_round_is_read(rt.alloc(), Some(u32::MAX - 1)));
+    let too_late = proposal_with(rt.alloc(), Some(u32::MAX)).err();
+    assert_fault(&rt, too_late, Fault::BadSpelling);
+}
+
+/// A close of this client, with this number and so many tags.
+fn close_of(alloc: Global, client: u16, number: u64, tags: usize) -> Result<Body, AllocError> {
+    Ok(Body::Tx(Tx {
+        client,
+        number,
+        op: Op::Close,
+        tags: nines(alloc, tags)?,
+    }))
 }
 
 /// The fault at spelling a close of this client, with this number and so many tags.
@@ -202,18 +188,24 @@ fn fault_of_close(
     number: u64,
     tags: usize,
 ) -> Result<Option<Fault>, AllocError> {
-    let tx = Tx {
-        client,
-        number,
-        op: Op::Close,
-        tags: nines(alloc, tags)?,
-    };
-    Ok(spell_body(alloc, &Body::Tx(tx)).err())
+    let body = close_of(alloc, client, number, tags)?;
+    Ok(spell_body(alloc, &body).err())
+}
+
+/// Closes of these clients, with these numbers and so many tags, have a spelling, or none for this cause.
+fn assert_closes(rt: &impl Abort, alloc: Global, cases: &[(u16, u64, usize, Option<Fault>)]) {
+    for (client, number, tags, fault) in cases {
+        assert_eq!(rt;
+            fault_of_close(alloc, *client, *number, *tags),
+            Ok(*fault),
+            "client {client}, number {number}, {tags} tags"
+        );
+    }
 }
 
 #[test]
-fn transactions_without_spelling(rt: HostRuntime) -> Result<(), Fail> {
-    let cases = [
+fn transactions_without_spelling(rt: HostRuntime) {
+    let cases = &[
         (1023, 1, 0, None),
         (1024, 1, 0, Some(Fault::BadSpelling)),
         (1023, 0, 0, Some(Fault::BadSpelling)),
@@ -222,12 +214,5 @@ fn transactions_without_spelling(rt: HostRuntime) -> Result<(), Fail> {
         // The tags stand behind the body.
         (1023, 1, 1, Some(Fault::BadSpelling)),
     ];
-    for (client, number, tags, fault) in cases {
-        assert_eq!(rt;
-            fault_of_close(rt.alloc(), client, number, tags)?,
-            fault,
-            "client {client}, number {number}, {tags} tags"
-        );
-    }
-    Ok(())
+    assert_closes(&rt, rt.alloc(), cases);
 }

@@ -22,64 +22,64 @@ fn second_event(alloc: Global, line: &str) -> Result<String, AllocError> {
     world(alloc, lines.as_str())
 }
 
-/// Each of these lines fails with the fault of this number.
-fn assert_each_fails(rt: &impl Abort, alloc: Global, faults: &[(&str, u8)]) -> Result<(), Fail> {
-    for row in faults {
-        let (line, number) = *row;
+/// Each of these lines fails with the fault of the number that stands before it.
+fn assert_each_fails(rt: &impl Abort, alloc: Global, rows: &str) -> Result<(), Fail> {
+    for row in rows.lines() {
+        let (number, line) = row.split_once(' ').unwrap_or((row, ""));
         let schedule = second_event(alloc, line)?;
-        let err = format!(in alloc; "tmsim: event 2: fault {number}\n")?;
-        assert_run(
-            rt,
-            alloc,
-            schedule.as_bytes(),
-            3,
-            "0 v3 prevote 0 0 A\n",
-            err.as_str(),
-        );
+        assert_second_fails(rt, alloc, schedule.as_bytes(), number)?;
     }
+    Ok(())
+}
+
+/// The second event fails with the fault of this number.
+fn assert_second_fails(
+    rt: &impl Abort,
+    alloc: Global,
+    schedule: &[u8],
+    number: &str,
+) -> Result<(), Fail> {
+    let err = format!(in alloc; "tmsim: event 2: fault {number}\n")?;
+    assert_run(rt, alloc, schedule, 3, "0 v3 prevote 0 0 A\n", err.as_str());
     Ok(())
 }
 
 /// A number that is no validator's, and what can't be spelled.
 #[test]
 fn each_fault(rt: HostRuntime) -> Result<(), Fail> {
-    let faults = [
-        ("vote 4 3 prevote 0 0 A", 2),
-        ("vote 0 4 prevote 0 0 nil", 2),
-        ("propose 64 3 0 0 -1 A", 2),
-        ("propose 0 65536 0 0 -1 A", 2),
-        ("vote 18446744073709551616 3 prevote 0 0 A", 2),
-        (
-            "vote 0 340282366920938463463374607431768211456 prevote 0 0 A",
-            2,
-        ),
-        ("propose 4 3 0 0 4294967295 A", 2),
-        ("propose 0 3 0 0 4294967295 A", 4),
-        ("propose 0 3 0 0 -1 B", 4),
-        ("propose 0 3 0 0 -1 C", 4),
-        ("vote 0 3 prevote 0 0 D", 4),
-        ("vote 0 3 precommit 9 9 F", 4),
-        ("vote 0 3 precommit 9 9 G", 4),
-        ("vote 4 3 precommit 9 9 G", 2),
-        ("bundle 0 4 0 0 A A 0", 2),
-        ("bundle 4 3 0 0 A A 0", 2),
-        ("bundle 0 3 0 0 B A 0,4", 2),
-        ("bundle 0 3 0 0 B A 0", 4),
-        ("bundle 0 3 0 0 A B 0", 4),
-        ("tx 4 1024:1:61", 2),
-        ("tx 3 1024:1:61", 4),
-        ("tx 3 7:0:61/0", 4),
-        ("raw 4 -", 2),
-        ("timeout 4 propose 0 0", 2),
-        ("ask 18446744073709551616", 2),
-    ];
-    assert_each_fails(&rt, rt.alloc(), &faults)
+    let rows = "\
+2 vote 4 3 prevote 0 0 A
+2 vote 0 4 prevote 0 0 nil
+2 propose 64 3 0 0 -1 A
+2 propose 0 65536 0 0 -1 A
+2 vote 18446744073709551616 3 prevote 0 0 A
+2 vote 0 340282366920938463463374607431768211456 prevote 0 0 A
+2 propose 4 3 0 0 4294967295 A
+4 propose 0 3 0 0 4294967295 A
+4 propose 0 3 0 0 -1 B
+4 propose 0 3 0 0 -1 C
+4 vote 0 3 prevote 0 0 D
+4 vote 0 3 precommit 9 9 F
+4 vote 0 3 precommit 9 9 G
+2 vote 4 3 precommit 9 9 G
+2 bundle 0 4 0 0 A A 0
+2 bundle 4 3 0 0 A A 0
+2 bundle 0 3 0 0 B A 0,4
+4 bundle 0 3 0 0 B A 0
+4 bundle 0 3 0 0 A B 0
+2 tx 4 1024:1:61
+4 tx 3 1024:1:61
+4 tx 3 7:0:61/0
+2 raw 4 -
+2 timeout 4 propose 0 0
+2 ask 18446744073709551616";
+    assert_each_fails(&rt, rt.alloc(), rows)
 }
 
 /// A valid round that isn't below the round, and the last one that is spelled.
 #[test]
 fn lawful_valid_rounds(rt: HostRuntime) -> Result<(), Fail> {
-    for line in ["propose 0 3 0 0 4294967294 A", "propose 0 3 0 0 0 A"] {
+    for line in "propose 0 3 0 0 4294967294 A\npropose 0 3 0 0 0 A".lines() {
         let schedule = second_event(rt.alloc(), line)?;
         let out = "0 v3 prevote 0 0 A\nv3 at 0 0:\n";
         assert_run(&rt, rt.alloc(), schedule.as_bytes(), 0, out, "");

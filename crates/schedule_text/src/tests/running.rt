@@ -1,6 +1,4 @@
-use super::{assert_report, assert_run};
-use std::alloc::Global;
-use std::process::Abort;
+use super::{assert_each_report, assert_report, assert_run};
 use std::test::Fail;
 
 const DECISION: &str = "\
@@ -32,42 +30,32 @@ fn skipped_lines(rt: HostRuntime) {
     assert_run(&rt, rt.alloc(), schedule, 0, "v3 at 0 0:\n", "");
 }
 
-/// Where validator 0 is the correct one, each of these lines of values gives this report.
-fn assert_each_report(
-    rt: &impl Abort,
-    alloc: Global,
-    reports: &[(&str, &str)],
-) -> Result<(), Fail> {
-    for row in reports {
-        let (values, report) = *row;
-        let schedule = format!(in alloc; "powers 1 1 1 1\nclients 8\nliars 1 2 3\n{values}")?;
-        assert_run(rt, alloc, schedule.as_bytes(), 0, report, "");
-    }
-    Ok(())
-}
-
 /// Validator 0 proposes the empty value at height 0, by its first name, or by its id.
 #[test]
 fn own_proposal(rt: HostRuntime) -> Result<(), Fail> {
-    let reports = [
-        (
-            "value E\n",
-            "0 v0 proposal 0 0 -1 E\n1 v0 prevote 0 0 E\nv0 at 0 0:\n",
-        ),
-        (
-            "value A 7:1:61\nvalue F\nvalue E\n",
-            "0 v0 proposal 0 0 -1 F\n1 v0 prevote 0 0 F\nv0 at 0 0:\n",
-        ),
-        (
-            "",
-            "\
+    let cases = "\
+liars 1 2 3
+value E
+report
+0 v0 proposal 0 0 -1 E
+1 v0 prevote 0 0 E
+v0 at 0 0:
+
+liars 1 2 3
+value A 7:1:61
+value F
+value E
+report
+0 v0 proposal 0 0 -1 F
+1 v0 prevote 0 0 F
+v0 at 0 0:
+
+liars 1 2 3
+report
 0 v0 proposal 0 0 -1 96a296d224f285c67bee93c30f8a309157f0daa35dc5b87e410b78630a09cfc7
 1 v0 prevote 0 0 96a296d224f285c67bee93c30f8a309157f0daa35dc5b87e410b78630a09cfc7
-v0 at 0 0:
-",
-        ),
-    ];
-    assert_each_report(&rt, rt.alloc(), &reports)
+v0 at 0 0:";
+    assert_each_report(&rt, rt.alloc(), cases)
 }
 
 /// Three heights, the second of which a quorum prevotes before its proposal comes; the validator

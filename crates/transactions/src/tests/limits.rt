@@ -1,11 +1,12 @@
 //! The last good and the first bad of each limit.
 
-use super::{CLOSE, ONE_BYTE, is_spelling_of_tx, nines, sized, tx_fault, value_fault, value_of};
-use crate::{
-    Fault, Op, Seq, Tx, Value, read_tx, read_value, spell_tx, spell_value, tx_fields_of, value_id,
+use super::{
+    CLOSE, ONE_BYTE, assert_fault, assert_holds, is_spelling_of_tx, nines, of_spelled_tx, sized,
+    tx_fault, value_fault, value_of,
 };
+use crate::{Fault, Op, Seq, Tx, Value, read_value, spell_tx, spell_value, tx_fields_of, value_id};
 use std::alloc::{AllocError, Global};
-use std::test::Fail;
+use std::process::Abort;
 
 /// The bytes and tags of the smallest transaction.
 const SMALLEST: (usize, usize) = (0, 1);
@@ -15,7 +16,8 @@ const LARGEST: (usize, usize) = (1024, 64);
 
 /// The spelling of a transaction with this many bytes and tags.
 fn spelled_sized(alloc: Global, bytes: usize, tags: usize) -> Result<Vec<u8>, Fault> {
-    spell_tx(alloc, &sized(alloc, bytes, tags)?)
+    let tx = sized(alloc, bytes, tags)?;
+    spell_tx(alloc, &tx)
 }
 
 /// Whether this is the transaction with the most of everything.
@@ -26,14 +28,22 @@ fn is_largest(tx: &Tx) -> bool {
         && tx.tags.len() == 64
 }
 
+/// Whether these bytes spell the transaction with the most of everything, and it is spelled so.
+fn spell_largest(alloc: Global, bytes: &[u8]) -> Result<bool, Fault> {
+    of_spelled_tx(alloc, bytes, |tx| {
+        Ok(is_largest(tx) && is_spelling_of_tx(alloc, bytes, tx)?)
+    })
+}
+
+/// Whether the transaction with the most of everything has 3,087 bytes, and is read.
+fn largest_is_read(alloc: Global) -> Result<bool, Fault> {
+    let bytes = spelled_sized(alloc, 1024, 64)?;
+    Ok(bytes.len() == 3087 && spell_largest(alloc, &bytes)?)
+}
+
 #[test]
-fn largest_transaction(rt: HostRuntime) -> Result<(), Fail> {
-    let bytes = spelled_sized(rt.alloc(), 1024, 64)?;
-    assert_eq!(rt; bytes.len(), 3087);
-    let tx = read_tx(rt.alloc(), &bytes)?;
-    assert!(rt; is_largest(&tx));
-    assert!(rt; is_spelling_of_tx(rt.alloc(), &bytes, &tx)?);
-    Ok(())
+fn largest_transaction(rt: HostRuntime) {
+    assert_holds(&rt, largest_is_read(rt.alloc()));
 }
 
 /// Why client 7's transaction 1 is none with this byte at this place.
@@ -45,9 +55,20 @@ fn fault_with(alloc: Global, byte: u8, place: usize) -> Option<Fault> {
     tx_fault(alloc, &bytes)
 }
 
+/// Client 7's transaction 1 has these faults with one byte at a place, which comes first.
+fn assert_faults_with(rt: &impl Abort, alloc: Global, cases: &[(usize, u8, Fault)]) {
+    for (place, byte, fault) in cases {
+        assert_eq!(rt;
+            fault_with(alloc, *byte, *place),
+            Some(*fault),
+            "byte {byte} at {place}"
+        );
+    }
+}
+
 #[test]
 fn fields_out_of_range(rt: HostRuntime) {
-    let cases = [
+    let cases = &[
         // The kind, in its two neighbours.
         (0, 0, Fault::BadSpelling),
         (0, 2, Fault::BadSpelling),
@@ -61,13 +82,7 @@ fn fields_out_of_range(rt: HostRuntime) {
         // The length: 1,025.
         (12, 4, Fault::TooLong),
     ];
-    for (place, byte, fault) in cases {
-        assert_eq!(rt;
-            fault_with(rt.alloc(), byte, place),
-            Some(fault),
-            "byte {byte} at {place}"
-        );
-    }
+    assert_faults_with(&rt, rt.alloc(), cases);
 }
 
 /// Why a close with this count of tags, and none of them, is no transaction.
@@ -79,14 +94,25 @@ fn fault_of_tag_count(alloc: Global, count: u8) -> Option<Fault> {
 
 #[test]
 fn tag_counts(rt: HostRuntime) {
-    assert_eq!(rt; fault_of_tag_count(rt.alloc(), 0), Some(Fault::BadSpelling));
-    assert_eq!(rt; fault_of_tag_count(rt.alloc(), 65), Some(Fault::TooLong));
-    assert_eq!(rt; fault_of_tag_count(rt.alloc(), 64), Some(Fault::Truncated));
+    assert_fault(&rt, fault_of_tag_count(rt.alloc(), 0), Fault::BadSpelling);
+    assert_fault(&rt, fault_of_tag_count(rt.alloc(), 65), Fault::TooLong);
+    assert_fault(&rt, fault_of_tag_count(rt.alloc(), 64), Fault::Truncated);
 }
 
 /// How many bytes spell the value.
 fn spelled_len(alloc: Global, value: &Value) -> Result<usize, Fault> {
     Ok(spell_value(alloc, value)?.len())
+}
+
+/// How many bytes spell the value of so many transactions of one size and one more.
+fn len_of_value_of(
+    alloc: Global,
+    count: usize,
+    each: (usize, usize),
+    last: (usize, usize),
+) -> Result<usize, Fault> {
+    let value = value_of(alloc, count, each, last)?;
+    spelled_len(alloc, &value)
 }
 
 /// How many transactions are read from the value's spelling.
@@ -95,59 +121,80 @@ fn count_read_back(alloc: Global, value: &Value) -> Result<usize, Fault> {
     Ok(read_value(alloc, &bytes)?.txs.len())
 }
 
-#[test]
-fn most_transactions(rt: HostRuntime) -> Result<(), Fail> {
-    let most = value_of(rt.alloc(), 255, SMALLEST, SMALLEST)?;
-    assert_eq!(rt; count_read_back(rt.alloc(), &most), Ok(256));
-    Ok(())
+/// How many transactions are read from the spelling of so many of one size and one more.
+fn count_of_value_of(
+    alloc: Global,
+    count: usize,
+    each: (usize, usize),
+    last: (usize, usize),
+) -> Result<usize, Fault> {
+    let value = value_of(alloc, count, each, last)?;
+    count_read_back(alloc, &value)
 }
 
 #[test]
-fn too_many_transactions(rt: HostRuntime) -> Result<(), Fail> {
-    let more = value_of(rt.alloc(), 256, SMALLEST, SMALLEST)?;
-    assert_eq!(rt; spelled_len(rt.alloc(), &more), Err(Fault::TooLong));
-    assert_eq!(rt; value_id(rt.alloc(), &more), Err(Fault::TooLong));
-    Ok(())
+fn most_transactions(rt: HostRuntime) {
+    assert!(rt; count_of_value_of(rt.alloc(), 255, SMALLEST, SMALLEST) == Ok(256));
+}
+
+/// Why the value of so many transactions of one size and one more has no id.
+fn fault_of_id(
+    alloc: Global,
+    count: usize,
+    each: (usize, usize),
+    last: (usize, usize),
+) -> Result<Option<Fault>, Fault> {
+    let value = value_of(alloc, count, each, last)?;
+    Ok(value_id(alloc, &value).err())
+}
+
+#[test]
+fn too_many_transactions(rt: HostRuntime) {
+    let len = len_of_value_of(rt.alloc(), 256, SMALLEST, SMALLEST);
+    assert!(rt; len == Err(Fault::TooLong));
+    let fault = fault_of_id(rt.alloc(), 256, SMALLEST, SMALLEST);
+    assert!(rt; fault == Ok(Some(Fault::TooLong)));
 }
 
 #[test]
 fn counts_of_transactions(rt: HostRuntime) {
-    assert_eq!(rt; value_fault(rt.alloc(), &[1, 1]), Some(Fault::TooLong));
-    assert_eq!(rt; value_fault(rt.alloc(), &[1, 0]), Some(Fault::Truncated));
-    assert_eq!(rt;
-        value_fault(rt.alloc(), &[0, 1, 2]),
-        Some(Fault::BadSpelling)
-    );
+    assert_fault(&rt, value_fault(rt.alloc(), &[1, 1]), Fault::TooLong);
+    assert_fault(&rt, value_fault(rt.alloc(), &[1, 0]), Fault::Truncated);
+    assert_fault(&rt, value_fault(rt.alloc(), &[0, 1, 2]), Fault::BadSpelling);
 }
 
-/// How many bytes spell the value of so many of the largest transactions and one more.
-fn len_of_value_of(alloc: Global, count: usize, last: (usize, usize)) -> Result<usize, Fault> {
-    spelled_len(alloc, &value_of(alloc, count, LARGEST, last)?)
+/// A count of the largest transactions, the size of one more, and how many bytes spell them, or why none do.
+type SizedValue = (usize, (usize, usize), Result<usize, Fault>);
+
+/// The values of so many of the largest transactions and one more have spellings of these lengths, or none.
+fn assert_lens(rt: &impl Abort, alloc: Global, cases: &[SizedValue]) {
+    for (count, last, len) in cases {
+        assert_eq!(rt;
+            len_of_value_of(alloc, *count, LARGEST, *last),
+            *len,
+            "{count} transactions and one more"
+        );
+    }
 }
 
 #[test]
 fn bytes_of_values(rt: HostRuntime) {
-    assert_eq!(rt; len_of_value_of(rt.alloc(), 160, LARGEST), Ok(497_009));
-    assert_eq!(rt;
-        len_of_value_of(rt.alloc(), 161, LARGEST),
-        Err(Fault::TooLong)
-    );
-    assert_eq!(rt; len_of_value_of(rt.alloc(), 161, (1024, 61)), Ok(500_000));
-    assert_eq!(rt;
-        len_of_value_of(rt.alloc(), 161, (993, 62)),
-        Err(Fault::TooLong)
-    );
+    let cases = &[
+        (160, LARGEST, Ok(497_009)),
+        (161, LARGEST, Err(Fault::TooLong)),
+        (161, (1024, 61), Ok(500_000)),
+        (161, (993, 62), Err(Fault::TooLong)),
+    ];
+    assert_lens(&rt, rt.alloc(), cases);
 }
 
 #[test]
-fn most_bytes(rt: HostRuntime) -> Result<(), Fail> {
-    let most = value_of(rt.alloc(), 161, LARGEST, (1024, 61))?;
-    assert_eq!(rt; count_read_back(rt.alloc(), &most), Ok(162));
-    Ok(())
+fn most_bytes(rt: HostRuntime) {
+    assert!(rt; count_of_value_of(rt.alloc(), 161, LARGEST, (1024, 61)) == Ok(162));
 }
 
 /// Adds so many like transactions with this many bytes and tags.
-fn put_sized(
+fn put_spelled(
     out: &mut Vec<u8>,
     alloc: Global,
     count: usize,
@@ -161,56 +208,80 @@ fn put_sized(
     Ok(())
 }
 
-#[test]
-fn value_that_passes_its_limit(rt: HostRuntime) -> Result<(), Fail> {
-    // 161 of the largest, and one of 2,992 bytes: 500,001 in all.
-    let mut bytes = [0, 162].to_vec(rt.alloc())?;
-    put_sized(&mut bytes, rt.alloc(), 161, 1024, 64)?;
-    put_sized(&mut bytes, rt.alloc(), 1, 993, 62)?;
-    assert_eq!(rt; bytes.len(), 500_001);
-    assert_eq!(rt; value_fault(rt.alloc(), &bytes), Some(Fault::TooLong));
-    bytes.truncate(500_000);
-    assert_eq!(rt; value_fault(rt.alloc(), &bytes), Some(Fault::Truncated));
-    Ok(())
+/// The bytes of a value with 161 of the largest transactions and one of 2,992 bytes: 500,001 in all.
+fn too_many_bytes(alloc: Global) -> Result<Vec<u8>, Fault> {
+    let mut bytes = [0, 162].to_vec(alloc)?;
+    put_spelled(&mut bytes, alloc, 161, 1024, 64)?;
+    put_spelled(&mut bytes, alloc, 1, 993, 62)?;
+    Ok(bytes)
 }
 
-/// How long the spelling of a close is, or why there is none.
-fn len_of_close(alloc: Global, client: u16, number: u64, tags: usize) -> Result<usize, Fault> {
-    let tx = Tx {
+/// Whether these are 500,001 bytes, too many for a value, and too few if the last is absent.
+fn pass_limit(alloc: Global, bytes: &[u8]) -> bool {
+    let [front @ .., _] = bytes else {
+        return false;
+    };
+    front.len() == 500_000
+        && value_fault(alloc, bytes) == Some(Fault::TooLong)
+        && value_fault(alloc, front) == Some(Fault::Truncated)
+}
+
+/// Whether a value of 500,001 bytes is refused where it passes the limit.
+fn limit_is_kept(alloc: Global) -> Result<bool, Fault> {
+    let bytes = too_many_bytes(alloc)?;
+    Ok(pass_limit(alloc, &bytes))
+}
+
+#[test]
+fn value_that_passes_its_limit(rt: HostRuntime) {
+    assert_holds(&rt, limit_is_kept(rt.alloc()));
+}
+
+/// A close of this client, with this number and so many tags.
+fn close_of(alloc: Global, client: u16, number: u64, tags: usize) -> Result<Tx, AllocError> {
+    Ok(Tx {
         client,
         number,
         op: Op::Close,
         tags: nines(alloc, tags)?,
-    };
+    })
+}
+
+/// How long the spelling of a close is, or why there is none.
+fn len_of_close(alloc: Global, client: u16, number: u64, tags: usize) -> Result<usize, Fault> {
+    let tx = close_of(alloc, client, number, tags)?;
     Ok(spell_tx(alloc, &tx)?.len())
+}
+
+/// Closes of these clients, with these numbers and so many tags, have no spelling, for this cause.
+fn assert_no_spelling(rt: &impl Abort, alloc: Global, cases: &[(u16, u64, usize, Fault)]) {
+    for (client, number, tags, fault) in cases {
+        assert_eq!(rt;
+            len_of_close(alloc, *client, *number, *tags),
+            Err(*fault),
+            "client {client}, number {number}, {tags} tags"
+        );
+    }
 }
 
 #[test]
 fn things_without_spelling(rt: HostRuntime) {
-    assert_eq!(rt;
-        len_of_close(rt.alloc(), 1024, 1, 1),
-        Err(Fault::BadSpelling)
-    );
-    assert_eq!(rt;
-        len_of_close(rt.alloc(), 1023, 0, 1),
-        Err(Fault::BadSpelling)
-    );
-    assert_eq!(rt;
-        len_of_close(rt.alloc(), 1023, 0x1_0000_0000_0001, 1),
-        Err(Fault::BadSpelling)
-    );
-    assert_eq!(rt;
-        len_of_close(rt.alloc(), 1023, 1, 0),
-        Err(Fault::BadSpelling)
-    );
-    assert_eq!(rt; len_of_close(rt.alloc(), 1023, 1, 65), Err(Fault::TooLong));
+    let cases = &[
+        (1024, 1, 1, Fault::BadSpelling),
+        (1023, 0, 1, Fault::BadSpelling),
+        (1023, 0x1_0000_0000_0001, 1, Fault::BadSpelling),
+        (1023, 1, 0, Fault::BadSpelling),
+        (1023, 1, 65, Fault::TooLong),
+    ];
+    assert_no_spelling(&rt, rt.alloc(), cases);
 }
 
 #[test]
 fn long_contents_without_spelling(rt: HostRuntime) {
-    assert_eq!(rt;
+    assert_fault(
+        &rt,
         spelled_sized(rt.alloc(), 1025, 65).err(),
-        Some(Fault::TooLong)
+        Fault::TooLong,
     );
 }
 
@@ -226,16 +297,25 @@ fn with_contents(alloc: Global, before: &[u8], count: usize) -> Result<Vec<u8>, 
     Ok(bytes)
 }
 
+/// Whether these bytes are a transaction with 1,024 bytes and no tags, without its kind.
+fn spell_longest_contents(alloc: Global, bytes: &[u8]) -> Result<bool, Fault> {
+    let (tx, rest) = tx_fields_of(alloc, bytes)?;
+    Ok(
+        matches!(&tx.op, Op::Bytes(contents) if contents.len() == 1024)
+            && rest.is_empty()
+            && tx.tags == Seq::new(alloc),
+    )
+}
+
+/// Whether 1,024 bytes of contents are read.
+fn longest_contents_are_read(alloc: Global) -> Result<bool, Fault> {
+    let bytes = with_contents(alloc, &BEFORE_CONTENTS, 1024)?;
+    spell_longest_contents(alloc, &bytes)
+}
+
 #[test]
-fn lengths_of_contents(rt: HostRuntime) -> Result<(), Fail> {
-    assert_eq!(rt;
-        tx_fields_of(rt.alloc(), &BEFORE_CONTENTS).err(),
-        Some(Fault::Truncated)
-    );
-    let bytes = with_contents(rt.alloc(), &BEFORE_CONTENTS, 1024)?;
-    let (tx, rest) = tx_fields_of(rt.alloc(), &bytes)?;
-    assert!(rt; matches!(&tx.op, Op::Bytes(contents) if contents.len() == 1024));
-    assert!(rt; rest.is_empty());
-    assert!(rt; tx.tags == Seq::new(rt.alloc()));
-    Ok(())
+fn lengths_of_contents(rt: HostRuntime) {
+    let cut = tx_fields_of(rt.alloc(), &BEFORE_CONTENTS).err();
+    assert_fault(&rt, cut, Fault::Truncated);
+    assert_holds(&rt, longest_contents_are_read(rt.alloc()));
 }

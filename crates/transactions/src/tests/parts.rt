@@ -1,14 +1,16 @@
 //! The readers and writers of parts, the lists and equality.
 
-use super::{CLOSE, ONE_BYTE, is_same_as_its_copy, nines, read_with_tag, value_of, with_tag};
+use super::{
+    CLOSE, ONE_BYTE, assert_fault, assert_holds, is_same_as_its_copy, nines, of_tx, of_value,
+    value_of, with_tag,
+};
 use crate::fields::{array_at, slice_at, u8_at, u16_at, u32_at, u64_at};
 use crate::{
     Duplicate, Fault, Item, Op, Seq, Shared, Tx, Value, copy_all, len_of_tags, len_of_tx_body,
-    len_of_value, put_tags, put_tx_body, put_u16, put_u32, put_u64, put_value, read_value,
-    same_value, tags_of, tx_fields_of, value_front,
+    len_of_value, put_tags, put_tx_body, put_u16, put_u32, put_u64, put_value, same_value, tags_of,
+    tx_fields_of, value_front,
 };
 use std::alloc::{AllocError, Global};
-use std::test::Fail;
 
 /// The numbers of one, two, four and eight bytes at the front.
 fn numbers_at(bytes: &[u8]) -> Result<(u8, u16, u32, u64), Fault> {
@@ -20,41 +22,36 @@ fn numbers_at(bytes: &[u8]) -> Result<(u8, u16, u32, u64), Fault> {
 }
 
 #[test]
-fn numbers_are_read(rt: HostRuntime) -> Result<(), Fail> {
-    let bytes = [1, 2, 3, 4, 5, 6, 7, 8, 9];
-    assert_eq!(rt;
-        numbers_at(&bytes),
-        Ok((1, 0x0102, 0x0102_0304, 0x0102_0304_0506_0708))
-    );
-    assert_eq!(rt; u64_at(&bytes)?.1, [9].as_slice());
-    Ok(())
+fn numbers_are_read(rt: HostRuntime) {
+    let bytes = &[1, 2, 3, 4, 5, 6, 7, 8, 9];
+    assert!(rt; numbers_at(bytes) == Ok((1, 0x0102, 0x0102_0304, 0x0102_0304_0506_0708)));
+    assert!(rt; matches!(u64_at(bytes), Ok((_, [9]))));
 }
 
 #[test]
 fn numbers_are_cut_off(rt: HostRuntime) {
-    assert_eq!(rt; u8_at(&[]).err(), Some(Fault::Truncated));
-    assert_eq!(rt; u16_at(&[1]).err(), Some(Fault::Truncated));
-    assert_eq!(rt; u32_at(&[1, 2, 3]).err(), Some(Fault::Truncated));
-    assert_eq!(rt;
-        u64_at(&[1, 2, 3, 4, 5, 6, 7]).err(),
-        Some(Fault::Truncated)
-    );
+    assert_fault(&rt, u8_at(&[]).err(), Fault::Truncated);
+    assert_fault(&rt, u16_at(&[1]).err(), Fault::Truncated);
+    assert_fault(&rt, u32_at(&[1, 2, 3]).err(), Fault::Truncated);
+    assert_fault(&rt, u64_at(&[1, 2, 3, 4, 5, 6, 7]).err(), Fault::Truncated);
 }
 
 #[test]
 fn slices_are_read(rt: HostRuntime) {
-    assert_eq!(rt;
-        slice_at(b"abc", 2),
-        Ok((b"ab".as_slice(), b"c".as_slice()))
-    );
-    assert_eq!(rt; slice_at(b"abc", 4), Err(Fault::Truncated));
+    assert!(rt; matches!(slice_at(b"abc", 2), Ok((b"ab", b"c"))));
+    assert_fault(&rt, slice_at(b"abc", 4).err(), Fault::Truncated);
+}
+
+/// Whether the array at the front is this one.
+fn array_is(bytes: &[u8], wanted: &[u8; 32]) -> Result<bool, Fault> {
+    let (array, _) = array_at(bytes)?;
+    Ok(array == *wanted)
 }
 
 #[test]
-fn arrays_are_read(rt: HostRuntime) -> Result<(), Fail> {
-    assert_eq!(rt; array_at(&[5; 33])?.0, [5; 32]);
-    assert_eq!(rt; array_at(&[5; 31]).err(), Some(Fault::Truncated));
-    Ok(())
+fn arrays_are_read(rt: HostRuntime) {
+    assert_holds(&rt, array_is(&[5; 33], &[5; 32]));
+    assert_fault(&rt, array_at(&[5; 31]).err(), Fault::Truncated);
 }
 
 /// Numbers of two, four and eight bytes.
@@ -66,38 +63,49 @@ fn spelled_numbers(alloc: Global) -> Result<Vec<u8>, AllocError> {
     Ok(out)
 }
 
-#[test]
-fn numbers_are_written(rt: HostRuntime) -> Result<(), Fail> {
-    let out = spelled_numbers(rt.alloc())?;
-    assert_eq!(rt;
-        out.as_slice(),
-        [1, 2, 3, 4, 5, 6, 7, 8, 9, 10, 11, 12, 13, 14].as_slice()
-    );
-    Ok(())
+/// Whether numbers of two, four and eight bytes are these bytes.
+fn are_spelled_numbers(alloc: Global, bytes: &[u8]) -> Result<bool, Fault> {
+    Ok(spelled_numbers(alloc)?.as_slice() == bytes)
 }
 
 #[test]
-fn fields_of_a_body_are_read(rt: HostRuntime) -> Result<(), Fail> {
-    let (body, rest) = tx_fields_of(rt.alloc(), &CLOSE[1..])?;
-    assert!(rt; rest.is_empty());
-    assert_eq!(rt; body.number, 2);
-    Ok(())
+fn numbers_are_written(rt: HostRuntime) {
+    let bytes = &[1, 2, 3, 4, 5, 6, 7, 8, 9, 10, 11, 12, 13, 14];
+    assert_holds(&rt, are_spelled_numbers(rt.alloc(), bytes));
+}
+
+/// Whether the fields of the close are read, to the last byte.
+fn fields_of_close(alloc: Global) -> Result<bool, Fault> {
+    let (body, rest) = tx_fields_of(alloc, &CLOSE[1..])?;
+    Ok(rest.is_empty() && body.number == 2)
 }
 
 #[test]
-fn tags_are_read(rt: HostRuntime) -> Result<(), Fail> {
-    let bytes = with_tag(rt.alloc(), &[])?;
-    let (tags, _) = tags_of(rt.alloc(), &bytes)?;
-    assert_eq!(rt; tags.len(), 1);
-    Ok(())
+fn fields_of_a_body_are_read(rt: HostRuntime) {
+    assert_holds(&rt, fields_of_close(rt.alloc()));
+}
+
+/// How many tags are read where one was written.
+fn count_of_one_tag(alloc: Global) -> Result<usize, Fault> {
+    let bytes = with_tag(alloc, &[])?;
+    let (tags, _) = tags_of(alloc, &bytes)?;
+    Ok(tags.len())
 }
 
 #[test]
-fn front_of_a_value_is_read(rt: HostRuntime) -> Result<(), Fail> {
-    let (value, rest) = value_front(rt.alloc(), &[0, 0, 7])?;
-    assert_eq!(rt; value.txs.len(), 0);
-    assert_eq!(rt; rest, [7].as_slice());
-    Ok(())
+fn tags_are_read(rt: HostRuntime) {
+    assert!(rt; count_of_one_tag(rt.alloc()) == Ok(1));
+}
+
+/// Whether the empty value is read, up to a byte behind it.
+fn front_is_empty(alloc: Global) -> Result<bool, Fault> {
+    let (value, rest) = value_front(alloc, &[0, 0, 7])?;
+    Ok(value.txs.len() == 0 && rest == [7].as_slice())
+}
+
+#[test]
+fn front_of_a_value_is_read(rt: HostRuntime) {
+    assert_holds(&rt, front_is_empty(rt.alloc()));
 }
 
 /// Whether the transaction's body is as long as these bytes, and is written so.
@@ -131,26 +139,36 @@ fn is_value(alloc: Global, bytes: &[u8], value: &Value) -> Result<bool, Fault> {
 }
 
 #[test]
-fn body_is_written(rt: HostRuntime) -> Result<(), Fail> {
-    let tx = read_with_tag(rt.alloc(), &ONE_BYTE)?;
-    assert!(rt; is_body(rt.alloc(), &ONE_BYTE, &tx)?);
-    Ok(())
+fn body_is_written(rt: HostRuntime) {
+    let alloc = rt.alloc();
+    assert_holds(
+        &rt,
+        of_tx(alloc, &ONE_BYTE, |tx| is_body(alloc, &ONE_BYTE, tx)),
+    );
+}
+
+/// One tag of nines, behind the count.
+const ONE_TAG: [u8; 33] = [
+    1, 9, 9, 9, 9, 9, 9, 9, 9, 9, 9, 9, 9, 9, 9, 9, 9, 9, 9, 9, 9, 9, 9, 9, 9, 9, 9, 9, 9, 9, 9, 9,
+    9,
+];
+
+#[test]
+fn tags_are_written(rt: HostRuntime) {
+    let alloc = rt.alloc();
+    assert_holds(
+        &rt,
+        of_tx(alloc, &ONE_BYTE, |tx| are_tags(alloc, &ONE_TAG, &tx.tags)),
+    );
 }
 
 #[test]
-fn tags_are_written(rt: HostRuntime) -> Result<(), Fail> {
-    let tx = read_with_tag(rt.alloc(), &ONE_BYTE)?;
-    let mut bytes = [9; 33];
-    bytes[0] = 1;
-    assert!(rt; are_tags(rt.alloc(), &bytes, &tx.tags)?);
-    Ok(())
-}
-
-#[test]
-fn value_is_written(rt: HostRuntime) -> Result<(), Fail> {
-    let value = read_value(rt.alloc(), &[0, 0])?;
-    assert!(rt; is_value(rt.alloc(), &[0, 0], &value)?);
-    Ok(())
+fn value_is_written(rt: HostRuntime) {
+    let alloc = rt.alloc();
+    assert_holds(
+        &rt,
+        of_value(alloc, &[0, 0], |value| is_value(alloc, &[0, 0], value)),
+    );
 }
 
 /// The numbers 1 to 3.
@@ -160,14 +178,21 @@ fn one_two_three(alloc: Global) -> Result<Seq<u8>, AllocError> {
     Ok(list)
 }
 
+/// Whether a copy of the list is equal, and has the numbers 1 to 3.
+fn list_is_copied(alloc: Global, list: &Seq<u8>) -> Result<bool, Fault> {
+    let again = list.copy(alloc)?;
+    Ok(*list == again && again.as_slice() == [1, 2, 3].as_slice())
+}
+
+/// Whether the numbers 1 to 3 are a list of three, as its copy is.
+fn list_is_kept(alloc: Global) -> Result<bool, Fault> {
+    let list = one_two_three(alloc)?;
+    Ok(list.len() == 3 && list_is_copied(alloc, &list)?)
+}
+
 #[test]
-fn lists(rt: HostRuntime) -> Result<(), Fail> {
-    let list = one_two_three(rt.alloc())?;
-    assert_eq!(rt; list.len(), 3);
-    let again = list.copy(rt.alloc())?;
-    assert!(rt; list == again);
-    assert_eq!(rt; again.as_slice(), [1, 2, 3].as_slice());
-    Ok(())
+fn lists(rt: HostRuntime) {
+    assert_holds(&rt, list_is_kept(rt.alloc()));
 }
 
 /// The numbers 1 to 3, to be shared.
@@ -176,21 +201,31 @@ fn shared_one_two_three(alloc: Global) -> Result<Shared<u8>, AllocError> {
     Ok(Shared::from_vec(alloc, list.into_vec())?)
 }
 
-#[test]
-fn shared_lists(rt: HostRuntime) -> Result<(), Fail> {
-    let list = shared_one_two_three(rt.alloc())?;
-    assert_eq!(rt; list.len(), 3);
-    let again = list.copy(rt.alloc())?;
-    assert!(rt; list == again);
-    assert_eq!(rt; again.as_slice(), [1, 2, 3].as_slice());
-    Ok(())
+/// Whether a copy of the shared list is equal, and has the numbers 1 to 3.
+fn shared_is_copied(alloc: Global, list: &Shared<u8>) -> Result<bool, Fault> {
+    let again = list.copy(alloc)?;
+    Ok(*list == again && again.as_slice() == [1, 2, 3].as_slice())
+}
+
+/// Whether the numbers 1 to 3 are a shared list of three, as its copy is.
+fn shared_is_kept(alloc: Global) -> Result<bool, Fault> {
+    let list = shared_one_two_three(alloc)?;
+    Ok(list.len() == 3 && shared_is_copied(alloc, &list)?)
 }
 
 #[test]
-fn copies_of_elements(rt: HostRuntime) -> Result<(), Fail> {
-    let all = copy_all(rt.alloc(), &[1, 2, 3])?;
-    assert_eq!(rt; all.as_slice(), [1, 2, 3].as_slice());
-    Ok(())
+fn shared_lists(rt: HostRuntime) {
+    assert_holds(&rt, shared_is_kept(rt.alloc()));
+}
+
+/// Whether copies of the elements are these elements.
+fn are_copied(alloc: Global, elements: &[u8]) -> Result<bool, Fault> {
+    Ok(copy_all(alloc, elements)?.as_slice() == elements)
+}
+
+#[test]
+fn copies_of_elements(rt: HostRuntime) {
+    assert_holds(&rt, are_copied(rt.alloc(), &[1, 2, 3]));
 }
 
 /// Three bytes and two tags.
@@ -202,34 +237,63 @@ fn is_same(
     value: &Value,
     others: usize,
     last: (usize, usize),
-) -> Result<bool, AllocError> {
+) -> Result<bool, Fault> {
     let other = value_of(alloc, others, SMALL, last)?;
     Ok(same_value(value, &other))
 }
 
-#[test]
-fn equal_values(rt: HostRuntime) -> Result<(), Fail> {
-    let one = value_of(rt.alloc(), 0, SMALL, SMALL)?;
-    assert!(rt; is_same_as_its_copy(rt.alloc(), &one)?);
-    assert_eq!(rt; is_same(rt.alloc(), &one, 1, SMALL), Ok(false));
-    assert_eq!(rt; is_same(rt.alloc(), &one, 0, (3, 1)), Ok(false));
-    assert_eq!(rt; is_same(rt.alloc(), &one, 0, (2, 2)), Ok(false));
-    Ok(())
+/// Whether the value is the same as its copy, and none of these.
+fn is_told_apart(
+    alloc: Global,
+    value: &Value,
+    others: &[(usize, (usize, usize))],
+) -> Result<bool, Fault> {
+    for (count, last) in others {
+        if is_same(alloc, value, *count, *last)? {
+            return Ok(false);
+        }
+    }
+    is_same_as_its_copy(alloc, value)
+}
+
+/// Whether a value of one transaction is the same as its copy, and not as one with more or fewer of anything.
+fn one_is_told_apart(alloc: Global) -> Result<bool, Fault> {
+    let one = value_of(alloc, 0, SMALL, SMALL)?;
+    is_told_apart(alloc, &one, &[(1, SMALL), (0, (3, 1)), (0, (2, 2))])
 }
 
 #[test]
-fn equal_tags(rt: HostRuntime) -> Result<(), Fail> {
-    assert!(rt; nines(rt.alloc(), 2)? == nines(rt.alloc(), 2)?);
-    Ok(())
+fn equal_values(rt: HostRuntime) {
+    assert_holds(&rt, one_is_told_apart(rt.alloc()));
+}
+
+/// Whether tags are equal to these.
+fn are_equal_tags(alloc: Global, tags: &Seq<[u8; 32]>) -> Result<bool, Fault> {
+    Ok(*tags == nines(alloc, 2)?)
+}
+
+/// Whether two times two tags are equal.
+fn tags_are_equal(alloc: Global) -> Result<bool, Fault> {
+    let tags = nines(alloc, 2)?;
+    are_equal_tags(alloc, &tags)
 }
 
 #[test]
-fn equal_items(rt: HostRuntime) -> Result<(), Fail> {
+fn equal_tags(rt: HostRuntime) {
+    assert_holds(&rt, tags_are_equal(rt.alloc()));
+}
+
+/// Whether a copy of the item is equal.
+fn item_is_copied(alloc: Global, item: &Item) -> Result<bool, Fault> {
+    Ok(*item == item.copy(alloc)?)
+}
+
+#[test]
+fn equal_items(rt: HostRuntime) {
     let item = Item {
         client: 7,
         number: 1,
         op: Op::Close,
     };
-    assert!(rt; item == item.copy(rt.alloc())?);
-    Ok(())
+    assert_holds(&rt, item_is_copied(rt.alloc(), &item));
 }
