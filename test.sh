@@ -1,7 +1,4 @@
 #!/usr/bin/env bash
-# Tries the edits that must not compile, runs every schedule, and then proves and tests everything from nothing.
-set -eu
-cd "$(dirname "$0")"
-must-not-compile/run.sh
-schedules/check.sh
-exec rt ci
+# The merge gate: proves, tests and runs everything from nothing, and tries every wrong body. It says how long it takes.
+set -euo pipefail
+exec "$(dirname "${BASH_SOURCE[0]}")/gate/whole.py"

@@ -2,18 +2,14 @@
 # How many events a second tmsim takes in, and its peak memory, on 20,000 votes and 200 proposals
 # at 64 validators: 200 heights that are decided one after the other.
 set -euo pipefail
-cd "$(dirname "$0")/.."
+cd "$(dirname "${BASH_SOURCE[0]}")/.."
+./build.sh >&2
 heights=${1:-200}
 votes=${2:-100}
 work=$(mktemp -d)
 trap 'rm -rf "$work"' EXIT
 python3 bench/heights.py "$heights" "$votes" > "$work/schedule.txt"
-(cd crates/tmsim && rt run -- "$work/schedule.txt") > "$work/first.txt" 2> "$work/build.txt" || {
-  tail -5 "$work/build.txt" >&2
-  exit 1
-}
-program=crates/tmsim/out/tmsim
-/usr/bin/time -f '%e %M' -o "$work/time.txt" "$program" "$work/schedule.txt" > "$work/report.txt"
+/usr/bin/time -f '%e %M' -o "$work/time.txt" bin/tmsim "$work/schedule.txt" > "$work/report.txt"
 read -r seconds kilobytes < "$work/time.txt"
 events=$(grep -cE '^(propose|vote) ' "$work/schedule.txt")
 tail -1 "$work/report.txt" | cut -c1-60

@@ -1,10 +1,12 @@
 #!/usr/bin/env bash
 # Tries each edit must-not-compile/CRATE/NAME.edit in a copy of the repository: the compiler has to refuse it, with the
 # error that its first line names. What proves nothing refuses it, so a copy without earlier work is quick.
-cd "$(dirname "${BASH_SOURCE[0]}")/.." || exit 2
-copy=$(mktemp -d) || exit 2
+# The last line is 'N passed, M failed'.
+set -euo pipefail
+cd "$(dirname "${BASH_SOURCE[0]}")/.."
+copy=$(mktemp -d)
 trap 'rm -rf "$copy"' EXIT
-tar -c --exclude=out --exclude=must-fail --exclude=.git . | tar -x -C "$copy" || exit 2
+tar -c --exclude=out --exclude=./bin --exclude=./.git . | tar -x -C "$copy"
 
 # Makes the edit in the copied crate: the old text stands in its file once.
 apply() {
@@ -20,28 +22,29 @@ open(path, "w").write(text.replace(fields["old"], fields["new"]))
 PYTHON
 }
 
-failed=0
-tried=0
-for edit in must-not-compile/*/*.edit; do
-    [ -e "$edit" ] || break
-    tried=$((tried + 1))
+# Tries one edit, and says what came of it.
+try_edit() {
+    local edit=$1 name wanted crate said
     name=$(basename "$(dirname "$edit")")
     wanted=$(sed -n '1s/^# //p' "$edit")
     crate="$copy/crates/$name"
     rm -rf "$crate/src" && cp -r "crates/$name/src" "$crate/src"
     if ! said=$(apply "$edit" "$crate" 2>&1); then
         echo "$edit: NOT APPLIED: $said"
-        failed=1
-        continue
+        return 1
     fi
-    said=$(cd "$crate" && rt try --test 2>&1)
-    if grep -qF "error[$wanted]" <<<"$said"; then
-        echo "$edit: refused by $wanted"
-    else
-        echo "$edit: NOT REFUSED by $wanted: $(tail -n 3 <<<"$said" | tr '\n' ' ' | cut -c1-400)"
-        failed=1
-    fi
+    said=$(cd "$crate" && rt try --test 2>&1) || true
     rm -rf "$crate/src" && cp -r "crates/$name/src" "$crate/src"
+    if ! grep -qF "error[$wanted]" <<<"$said"; then
+        echo "$edit: NOT REFUSED by $wanted: $(tail -n 3 <<<"$said" | tr '\n' ' ' | cut -c1-400)"
+        return 1
+    fi
+    echo "$edit: refused by $wanted"
+}
+
+passed=0 failed=0
+for edit in must-not-compile/*/*.edit; do
+    if try_edit "$edit"; then passed=$((passed + 1)); else failed=$((failed + 1)); fi
 done
-[ "$tried" -gt 0 ] || { echo "no edit was found"; failed=1; }
-exit "$failed"
+echo "$passed passed, $failed failed"
+[ "$failed" -eq 0 ]

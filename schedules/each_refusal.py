@@ -3,7 +3,7 @@
 
 usage: each_refusal.py [SCHEDULE ..]
 
-Wants the built program (./run.sh builds it) and gcc. With no schedule, all of this folder are run. Where a validator
+Wants the built program (./build.sh builds it) and gcc. With no schedule, all of this folder are run. Where a validator
 refuses a call for want of memory, it is settled and the call made once more: the report has to be the stored one but for
 the line that tells of that refusal, and a line of the second call, where the first had taken the message in: that it
 is kept already, or that its height is decided. Where memory is refused outside the validator, the report has to be a
@@ -17,7 +17,7 @@ import sys
 import tempfile
 
 HERE = pathlib.Path(__file__).resolve().parent
-PROGRAM = HERE.parent / "crates/tmsim/out/tmsim"
+PROGRAM = HERE.parent / "bin/tmsim"
 
 
 def run(library, schedule, number, counted):

@@ -1,0 +1,154 @@
+#!/usr/bin/env python3
+"""The whole gate: every proof, every test and every wrong body, from nothing, on a copy of the sources.
+
+usage: gate/whole.py
+
+Its stages run in turn, each of which says 'N passed, M failed' on its last line: what must not compile; `rt ci`, which
+proves and tests each crate and runs each program; the schedules, by the program as both compilers made it; and the
+wrong bodies. Then come the processor seconds of each crate, and a last line that counts everything.
+"""
+import os
+import re
+import resource
+import shutil
+import signal
+import subprocess
+import sys
+import tempfile
+import threading
+import time
+
+TOP = os.path.dirname(os.path.dirname(os.path.realpath(__file__)))
+STAGES = {
+    "what must not compile": ["must-not-compile/run.sh"],
+    "proofs, tests and programs": ["rt", "ci"],
+    "schedules, as LLVM builds the program": ["schedules/check.sh", "--with", "crates/tmsim/out/tmsim"],
+    "schedules, as Rattle's compiler builds it": ["schedules/check.sh", "--with", "crates/tmsim/out/tmsim.by-rattle"],
+    "wrong bodies": ["gate/wrong_bodies.py", "--built"],
+}
+# Processor seconds from nothing, as the last whole run took them.
+USUAL = 10_000
+# The part of a crate's time that a check belongs to.
+PARTS = ("proof", "tests", "edits")
+TICKS = os.sysconf("SC_CLK_TCK")
+
+
+class Meter(threading.Thread):
+    """Adds up the processor time of each check that runs below this process, by looking at them twice a second."""
+
+    def __init__(self):
+        super().__init__(daemon=True)
+        self.spent, self.names, self.ended = {}, {}, threading.Event()
+
+    def run(self):
+        while not self.ended.wait(0.5):
+            self.look()
+
+    def look(self):
+        seen = dict(filter(None, map(process, filter(str.isdigit, os.listdir("/proc")))))
+        by_number, sums = {key[0]: key for key in seen}, {}
+        for key, (_, spent) in seen.items():
+            first = None
+            while key and key[0] != os.getpid():
+                # (a check may fork: what its copies spend is its own)
+                first = key if self.name_of(key) else first
+                key = by_number.get(seen[key][0])
+            if first and key:
+                sums[first] = sums.get(first, 0.0) + spent
+        self.spent.update(sums)
+
+    def name_of(self, key):
+        """Returns the crate and the part of a check, or None for another process, which may yet become one."""
+        found = self.names.get(key) or check_of(key[0])
+        if found:
+            self.names[key] = found
+        return found
+
+    def table(self):
+        """Returns the seconds by crate and part."""
+        found = {}
+        for key, spent in self.spent.items():
+            crate, part = self.names[key]
+            row = found.setdefault(crate, dict.fromkeys(PARTS, 0.0))
+            row[part] += spent
+        return found
+
+
+def process(number):
+    """Returns a process's number and start, its parent and what it spent itself, with those of its children that ended."""
+    try:
+        with open(f"/proc/{number}/stat", encoding="ascii", errors="replace") as it:
+            fields = it.read().rpartition(")")[2].split()
+    except OSError:
+        return None
+    spent = sum(map(int, fields[11:15])) / TICKS
+    return (int(number), fields[19]), (int(fields[1]), spent)
+
+
+def check_of(number):
+    try:
+        with open(f"/proc/{number}/cmdline", encoding="utf-8", errors="replace") as it:
+            words = it.read().split("\0")
+        folder = os.path.basename(os.readlink(f"/proc/{number}/cwd"))
+    except OSError:
+        return None
+    if os.path.basename(words[0]) != "rattle" or "--crate-name" not in words:
+        return None
+    crate = words[words.index("--crate-name") + 1]
+    if folder.startswith("rt-edit-"):
+        return crate, "edits"
+    return crate, "tests" if "--test" in words else "proof"
+
+
+def run_stage(name, words):
+    """Runs a stage, shows what it prints, and returns how much passed and failed."""
+    print(f"== {name}", flush=True)
+    counts = None
+    with subprocess.Popen(words, stdout=subprocess.PIPE, stderr=subprocess.STDOUT, text=True, errors="replace") as ran:
+        for line in ran.stdout:
+            print(line, end="", flush=True)
+            counts = re.fullmatch(r"(\d+) passed, (\d+) failed\n", line) or counts
+    passed, failed = (int(counts[1]), int(counts[2])) if counts else (0, 0)
+    # (a stage that ends badly has failed, whatever it counted)
+    return passed, max(failed, 1) if ran.returncode else failed
+
+
+def show(table, whole):
+    print(f"\n{'processor seconds':<24}" + "".join(f"{it:>8}" for it in (*PARTS, "all")))
+    for crate, row in sorted(table.items(), key=lambda it: -sum(it[1].values())):
+        print(f"{crate:<24}" + "".join(f"{row[it]:8.0f}" for it in PARTS) + f"{sum(row.values()):8.0f}")
+    sums = [sum(row[it] for row in table.values()) for it in PARTS]
+    print(f"{'all crates':<24}" + "".join(f"{it:8.0f}" for it in sums) + f"{sum(sums):8.0f}")
+    print(f"{'the whole':<24}{whole:32.0f}")
+
+
+def main():
+    if sys.argv[1:]:
+        print(__doc__, file=sys.stderr)
+        return 2
+    minutes = USUAL / 60 / len(os.sched_getaffinity(0)) * 1.1
+    print(f"This proves and tries everything from nothing, on a copy: about {minutes:.0f} minutes on these processors.", flush=True)
+    began, meter, passed, failed = time.time(), Meter(), 0, 0
+    meter.start()
+    with tempfile.TemporaryDirectory(prefix="gate-") as copy:
+        left_out = shutil.ignore_patterns("out", ".git", "bin", "__pycache__")
+        shutil.copytree(TOP, copy, ignore=left_out, symlinks=True, dirs_exist_ok=True)
+        os.chdir(copy)
+        for name, words in STAGES.items():
+            well, badly = run_stage(name, words)
+            passed, failed = passed + well, failed + badly
+            if badly and words[0] == "rt":
+                print("The stages behind stand on these proofs, so they are left out.")
+                break
+        os.chdir(TOP)
+    meter.ended.set()
+    used = resource.getrusage(resource.RUSAGE_CHILDREN)
+    show(meter.table(), used.ru_utime + used.ru_stime)
+    print(f"{(time.time() - began) / 60:.0f} minutes")
+    print(f"{passed} passed, {failed} failed")
+    return 1 if failed else 0
+
+
+if __name__ == "__main__":
+    signal.signal(signal.SIGTERM, lambda *_: sys.exit(1))
+    sys.exit(main())

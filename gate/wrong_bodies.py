@@ -1,0 +1,357 @@
+#!/usr/bin/env python3
+"""Tries the wrong bodies: the prover has to refuse each edit of crates/NAME/wrong/, by the function that it changes.
+
+usage: gate/wrong_bodies.py [--built] [CRATE [EDIT..]]
+
+Edits of different functions' bodies stand in one check together. An edit counts as refused where the prover names a
+goal of the function that it changes; what its group didn't name goes into a further group, and in the end is tried
+alone, as is an edit of a constant or a type.
+Beside them stand the edits of crates/NAME/equal/, bodies that do the same in other words: each has to be proved, so
+that a run can't call everything refused.
+
+All is tried on copies. --built takes the libraries as `rt ci` left them in out/; without it they are built first,
+where they are not up to date. The last line is 'N passed, M failed', and the status 0 where nothing failed.
+"""
+import os
+import re
+import subprocess
+import sys
+import tempfile
+import threading
+from importlib.machinery import SourceFileLoader
+from importlib.util import module_from_spec, spec_from_loader
+from typing import NamedTuple
+
+TOP = os.path.dirname(os.path.dirname(os.path.realpath(__file__)))
+ONE_JOB = ["--jobs", "1"]
+
+
+def load_rt():
+    """Returns the kit's own `rt` as a module: how it reads an edit, checks a copy and shares out the processors."""
+    said = subprocess.run(["rt", "doc"], capture_output=True, text=True, check=True).stdout
+    file = f"{os.path.dirname(said.strip())}/bin/rt"
+    sys.dont_write_bytecode = True
+    loader = SourceFileLoader("rt", file)
+    made = module_from_spec(spec_from_loader("rt", loader))
+    loader.exec_module(made)
+    return made
+
+
+rt = load_rt()
+printing = threading.Lock()
+
+
+def say(text):
+    with printing:
+        print(text, flush=True)
+
+
+class BadEdit(Exception):
+    """An edit that can't be tried: a fault of its own text."""
+
+
+class Function(NamedTuple):
+    """A function of a file in the layout of `rt fmt`: its lines, from 0 and from its attributes on, and where its body begins."""
+
+    file: str
+    owner: str
+    name: str
+    first: int
+    body: int
+    last: int
+
+    @property
+    def key(self):
+        return self.file, self.owner, self.name
+
+    def modules(self):
+        """The names of the modules that lead to its file."""
+        path = self.file[len("src/") : -len(".rt")].split("/")
+        return [it for it in path if it not in ("lib", "main", "mod")]
+
+    def has_proof_folder(self, folder):
+        """Whether the proof files of this folder below proofs/ are the function's."""
+        parts = folder.split("/")
+        above = parts[len(self.modules()) : -1]
+        is_owned = len(above) == 1 and above[0].startswith(self.owner) if self.owner else not above
+        return parts[: len(self.modules())] == self.modules() and parts[-1] == self.name and is_owned
+
+    def is_named(self, crate, path):
+        """Whether the check's line of this path is the function's."""
+        owner = rf"{self.owner}\w*(<.*>)?" if self.owner else None
+        parts = [crate, *map(re.escape, self.modules()), *([owner] if owner else []), re.escape(self.name)]
+        return re.fullmatch("::".join(parts), path) is not None
+
+
+def owner_of(head):
+    """Returns the type that an `impl` is of, or the trait that a `trait` declares."""
+    while re.search(r"<[^<>]*>", head):
+        head = re.sub(r"<[^<>]*>", "", head)
+    return re.findall(r"\w+", head.split(" for ")[-1].replace("impl", "", 1).replace("trait", "", 1))[0]
+
+
+def functions_of(file, text):
+    """Returns the functions of a file, by its layout: a body ends at the line that closes it at the head's indent."""
+    lines, found, owner = text.split("\n"), [], ""
+    for at, line in enumerate(lines):
+        head = re.match(r"(unsafe )?(impl\b|(pub )?trait ).*", line)
+        if head:
+            owner = owner_of(" ".join(lines[at : at + 4]).split("{")[0].replace("pub ", "", 1))
+        elif line == "}":
+            owner = ""
+        head = re.match(r"( *)(pub(\([a-z]+\))? )?(const )?(unsafe )?fn (\w+)", line)
+        if not head:
+            continue
+        indent, name, first = head[1], head[6], at
+        while re.match(r"\s*(#\[|[^/{}\s][^{}]*$)", lines[first - 1]):
+            first -= 1
+        opened = (it for it in range(at, len(lines)) if opens_body(lines[it], indent))
+        body = next(opened, None)
+        if body is None:
+            continue
+        ended = (it for it in range(body + 1, len(lines)) if lines[it] == indent + "}")
+        last = body if lines[body].endswith("{}") else next(ended, len(lines) - 1)
+        found.append(Function(file, owner if indent else "", name, first, body, last))
+    return found
+
+
+def opens_body(line, indent):
+    """Whether a function's body opens on this line: its brace stands alone, or ends the line of its result."""
+    if line.startswith((indent + "{", indent + "{}")):
+        return True
+    is_clause = line.strip().startswith(("ensures", "requires", "ghost", "//"))
+    return not is_clause and line.endswith((" {", " {}"))
+
+
+class Edit:
+    """An edit of a crate's text: pairs of an old text that stands once in its file, and the new one."""
+
+    def __init__(self, crate, folder, name):
+        self.crate, self.is_equal = crate, folder == "equal"
+        self.path = f"{crate.folder}/{folder}/{name}"
+        self.label = f"{crate.name}/{folder}/{name.removesuffix('.edit')}"
+        with open(self.path, encoding="utf-8") as it:
+            self.text = it.read()
+        self.pairs = self.read_pairs()
+        self.functions = self.find_functions()
+
+    def read_pairs(self):
+        why = rt.edited(self.text, self.crate.folder)[1]
+        if why:
+            raise BadEdit(f"{self.label}: BAD EDIT: {why}")
+        pairs, file, old = [], "", ""
+        for line in self.text.split("\n"):
+            if line.startswith("file: "):
+                file = line[len("file: ") :].strip()
+            elif line.startswith("old: "):
+                old = line[len("old: ") :]
+            elif line.startswith("new:"):
+                pairs.append((file, old, line[len("new:") :].removeprefix(" ")))
+        return pairs
+
+    def find_functions(self):
+        """Returns the functions in whose bodies the old texts stand: none for an edit of what several rest on."""
+        texts, found = Texts(self.crate), {}
+        for file, old, new in self.pairs:
+            if not file.startswith("src/"):
+                raise BadEdit(f"{self.label}: BAD EDIT: it changes no code, so it belongs into must-fail/")
+            text = texts.of(file)
+            at = text.count("\n", 0, text.index(old))
+            around = [it.key for it in functions_of(file, text) if it.body <= at <= it.last]
+            if not around:
+                return []
+            found[around[-1]] = None
+            texts.replace(file, old, new)
+        return [*found]
+
+
+class Texts:
+    """The files of a crate with edits made in them."""
+
+    def __init__(self, crate):
+        self.crate, self.changed = crate, {}
+
+    def of(self, file):
+        if file not in self.changed:
+            with open(f"{self.crate.folder}/{file}", encoding="utf-8") as it:
+                self.changed[file] = it.read()
+        return self.changed[file]
+
+    def replace(self, file, old, new):
+        """Whether the old text stood once, and is replaced."""
+        text = self.of(file)
+        self.changed[file] = text.replace(old, new)
+        return text.count(old) == 1
+
+
+def texts_with(crate, edits):
+    """Returns the crate's texts with these edits, or None where one takes away what another wants."""
+    texts = Texts(crate)
+    return texts if all(texts.replace(*pair) for edit in edits for pair in edit.pairs) else None
+
+
+def grouped(crate, edits):
+    """Returns the edits in groups, each of edits of different functions."""
+    groups = []
+    for edit in edits:
+        for group in groups:
+            taken = {key for it in group for key in it.functions}
+            if not taken & {*edit.functions} and texts_with(crate, [*group, edit]):
+                group.append(edit)
+                break
+        else:
+            groups.append([edit])
+    return groups
+
+
+# What a proof file says where it names what the edit took away: a refusal, but one that says little of the contract.
+NAMES = re.compile(r"has no field|is not in scope|has no `")
+
+
+def goals_of(function, text, lines):
+    """Returns the lines that say that a goal of the function itself isn't met."""
+    spans = [it for it in functions_of(function[0], text) if it.key == function]
+    found = []
+    for line in lines:
+        at = re.match(r"note: (src/\S+?\.rt):(\d+):\d+: it is not proved", line)
+        if at and any(it.file == at[1] and it.first < int(at[2]) <= it.last + 1 for it in spans):
+            found.append(line)
+        # (a proof that rests on another, which was refused, says nothing of its own)
+        at = re.match(r"(?:\./)?proofs/(\S+)/\w+\.antt:\d+:\d+: error: ", line)
+        if at and "was not admitted" not in line and any(it.has_proof_folder(at[1]) for it in spans):
+            found.append(line)
+    return found
+
+
+def is_proved(crate, function, text, lines):
+    """Whether the check says that the function is proved."""
+    spans = [it for it in functions_of(function[0], text) if it.key == function]
+    said = [re.match(r"fn (\S+): (.*)", line) for line in lines]
+    own = [it[2] for it in said if it and any(span.is_named(crate.name, it[1]) for span in spans)]
+    return bool(own) and all(it == "proved" for it in own)
+
+
+class Group:
+    """Edits of one crate in one check."""
+
+    def __init__(self, crate, edits, kept):
+        self.crate, self.texts = crate, texts_with(crate, edits)
+        ran = rt.checked(crate, self.texts.changed, ONE_JOB, kept)
+        self.lines = ran.stdout.rstrip("\n").split("\n")
+        reached = ran.returncode in (0, 1) and self.lines[-1].startswith("logic=")
+        self.is_read = reached and not any(rt.unread(it, self.texts.changed) for it in self.lines)
+
+    def verdict(self, edit):
+        """Returns whether all is well with the edit and what to say, or None where this check can't tell."""
+        if not self.is_read:
+            return None
+        found = [(it, self.texts.of(it[0])) for it in edit.functions]
+        if edit.is_equal:
+            well = all(is_proved(self.crate, key, text, self.lines) for key, text in found)
+            return (True, f"{edit.label}: proved, as it must be") if well else None
+        goals = [goal for key, text in found for goal in goals_of(key, text, self.lines)]
+        if not goals:
+            return None
+        told = [it for it in goals if not (it.startswith(("proofs/", "./proofs/")) and NAMES.search(it))]
+        little = "" if told else " (only because a proof file names what the edit took away)"
+        return True, f"{edit.label}: refused, as it must be{little}: {(told or goals)[0][:120]}"
+
+
+def tried_alone(crate, edit, kept):
+    """Tries one edit as `rt ci` tries the edits of must-fail/."""
+    if not edit.is_equal:
+        well, text = rt.must_fail(crate, edit.path, ONE_JOB, kept)
+        return well, f"{edit.label}: {text.partition(': ')[2]}"
+    group = Group(crate, [edit], kept)
+    return group.verdict(edit) or (False, f"{edit.label}: NOT PROVED, though it does the same")
+
+
+def tried(crate, edits):
+    """Tries a crate's edits, and returns for each whether all is well. Each verdict is printed as it is known."""
+    wells, left, alone = [], [it for it in edits if it.functions], [it for it in edits if not it.functions]
+
+    def tell(well, text):
+        wells.append(well)
+        say(text)
+
+    with tempfile.TemporaryDirectory(prefix="wrong-bodies-") as kept:
+        while len(left) > 1:
+            untold = []
+            for together in grouped(crate, left):
+                group = Group(crate, together, kept)
+                for edit in together:
+                    verdict = group.verdict(edit)
+                    tell(*verdict) if verdict else untold.append(edit)
+            if len(untold) == len(left):
+                break
+            left = untold
+        for edit in [*left, *alone]:
+            tell(*tried_alone(crate, edit, kept))
+    return wells
+
+
+def edits_of(crate, names):
+    """Returns the crate's edits, or those that are named, with the equal bodies, and what is wrong with the others."""
+    found, bad = [], []
+    for folder in ("wrong", "equal"):
+        path = f"{crate.folder}/{folder}"
+        for name in sorted(os.listdir(path)) if os.path.isdir(path) else []:
+            if folder == "wrong" and names and name.removesuffix(".edit") not in names:
+                continue
+            try:
+                found.append(Edit(crate, folder, name))
+            except (BadEdit, OSError, UnicodeDecodeError) as fault:
+                bad.append(str(fault))
+    is_lacking = any(not it.is_equal for it in found) and not any(it.is_equal for it in found)
+    if is_lacking:
+        bad.append(f"{crate.name}: no edit in equal/, so nothing shows that its checks can say yes")
+    return found, bad
+
+
+def build_libraries(crates):
+    """Builds the libraries below these crates that are not up to date. Returns whether all are built."""
+    for library in dict.fromkeys(it for crate in crates for it in crate.below()):
+        if library.is_built():
+            continue
+        say(f"building {library.name}")
+        with tempfile.TemporaryFile("w+") as library.out:
+            if library.build_rlib(ONE_JOB, anew=False):
+                library.out.seek(0)
+                say(library.out.read()[-2000:])
+                return False
+    return True
+
+
+def main(words):
+    is_built = "--built" in words
+    words = [it for it in words if it != "--built"]
+    if any(it.startswith("-") for it in words):
+        print(__doc__, file=sys.stderr)
+        return 2
+    os.chdir(TOP)
+    # (its first call sets a signal's handler, which only the main thread may)
+    rt.rtlib.guarded()
+    crates = [it for it in rt.rtlib.crates_below(TOP) if not words or it.name == words[0]]
+    each = {it: edits_of(it, words[1:]) for it in crates}
+    asked = {*words[1:]} - {os.path.basename(e.path).removesuffix(".edit") for found, _ in each.values() for e in found}
+    bad = [text for _, faults in each.values() for text in faults] + [f"no edit {it}" for it in sorted(asked)]
+    if words and not crates:
+        bad.append(f"no crate {words[0]}")
+    for text in bad:
+        say(text)
+    at_work = [crate for crate, (found, _) in each.items() if found]
+    if not is_built and not build_libraries(at_work):
+        print("0 passed, 1 failed")
+        return 1
+    tasks = {}
+    for crate in at_work:
+        call = lambda given, jobs, it=crate: tried(it, each[it][0])
+        tasks[crate.name, "edits"] = ([], crate.count(rb"\n") * len(each[crate][0]), rt.need(crate), call)
+    wells = [well for it in rt.in_lanes(tasks).values() for well in it]
+    failed = len(bad) + wells.count(False)
+    print(f"{wells.count(True)} passed, {failed} failed")
+    return 1 if failed else 0
+
+
+if __name__ == "__main__":
+    sys.exit(main(sys.argv[1:]))
