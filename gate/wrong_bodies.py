@@ -70,17 +70,16 @@ class Function(NamedTuple):
         return [it for it in path if it not in ("lib", "main", "mod")]
 
     def has_proof_folder(self, folder):
-        """Whether the proof files of this folder below proofs/ are the function's."""
-        parts = folder.split("/")
-        above = parts[len(self.modules()) : -1]
-        is_owned = len(above) == 1 and above[0].startswith(self.owner) if self.owner else not above
-        return parts[: len(self.modules())] == self.modules() and parts[-1] == self.name and is_owned
+        """Whether the proof files of this folder below proofs/ are the function's: a method's stand at its type."""
+        *above, name = folder.split("/")
+        if self.owner:
+            return name == self.name and bool(above) and re.fullmatch(rf"{self.owner}([A-Z]\w*)?", above[-1]) is not None
+        return name == self.name and above == self.modules()
 
     def is_named(self, crate, path):
         """Whether the check's line of this path is the function's."""
-        owner = rf"{self.owner}\w*(<.*>)?" if self.owner else None
-        parts = [crate, *map(re.escape, self.modules()), *([owner] if owner else []), re.escape(self.name)]
-        return re.fullmatch("::".join(parts), path) is not None
+        first, *above, name = path.split("::")
+        return first == crate and self.has_proof_folder("/".join([*above, name]))
 
 
 def owner_of(head):
