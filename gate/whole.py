@@ -135,6 +135,9 @@ def main():
         shutil.copytree(TOP, copy, ignore=left_out, symlinks=True, dirs_exist_ok=True)
         os.chdir(copy)
         for name, words in STAGES.items():
+            if words[-1].endswith(".by-rattle") and not os.path.isfile(words[-1]):
+                print(f"== {name}: left out, since `rt ci` above made no such program", flush=True)
+                continue
             well, badly = run_stage(name, words)
             passed, failed = passed + well, failed + badly
             if badly and words[0] == "rt":
