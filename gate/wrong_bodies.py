@@ -1,13 +1,14 @@
 #!/usr/bin/env python3
-"""Tries the wrong bodies: the prover has to refuse each edit of crates/NAME/wrong/, by the function that it changes.
+"""Tries the wrong bodies and definitions: the prover has to refuse each edit of crates/NAME/wrong/.
 
 usage: gate/wrong_bodies.py [--built] [CRATE [EDIT..]]
 
 Edits of different functions' bodies stand in one check together. An edit counts as refused where the prover names a
 goal of the function that it changes; what its group didn't name goes into a further group, and in the end is tried
-alone, as is an edit of a constant or a type.
-Beside them stand the edits of crates/NAME/equal/, bodies that do the same in other words: each has to be proved, so
-that a run can't call everything refused.
+alone, as is an edit of a constant or a type. An edit of a definition has a line 'by: LAW', and that law has to be
+refused with it.
+Beside them stand the edits of crates/NAME/equal/, which say the same in other words: each has to be proved, so that a
+run can't call everything refused.
 
 All is tried on copies. --built takes the libraries as `rt ci` left them in out/; without it they are built first,
 where they are not up to date. The last line is 'N passed, M failed', and the status 0 where nothing failed.
@@ -131,8 +132,10 @@ class Edit:
         self.label = f"{crate.name}/{folder}/{name.removesuffix('.edit')}"
         with open(self.path, encoding="utf-8") as it:
             self.text = it.read()
+        law = re.search(r"(?m)^by: (\w+)$", self.text)
+        self.law = law and law[1]
         self.pairs = self.read_pairs()
-        self.functions = self.find_functions()
+        self.functions = [] if self.law else self.find_functions()
 
     def read_pairs(self):
         why = rt.edited(self.text, self.crate.folder)[1]
@@ -153,7 +156,7 @@ class Edit:
         texts, found = Texts(self.crate), {}
         for file, old, new in self.pairs:
             if not file.startswith("src/"):
-                raise BadEdit(f"{self.label}: BAD EDIT: it changes no code, so it belongs into must-fail/")
+                raise BadEdit(f"{self.label}: BAD EDIT: it changes no code, and no line 'by: LAW' names what refuses it")
             text = texts.of(file)
             at = text.count("\n", 0, text.index(old))
             around = [it.key for it in functions_of(file, text) if it.body <= at <= it.last]
@@ -257,7 +260,7 @@ class Group:
 
 
 def tried_alone(crate, edit, kept):
-    """Tries one edit as `rt ci` tries the edits of must-fail/."""
+    """Tries one edit of code by itself."""
     if not edit.is_equal:
         well, text = rt.must_fail(crate, edit.path, ONE_JOB, kept)
         return well, f"{edit.label}: {text.partition(': ')[2]}"
@@ -265,8 +268,34 @@ def tried_alone(crate, edit, kept):
     return group.verdict(edit) or (False, f"{edit.label}: NOT PROVED, though it does the same")
 
 
+def verdict_by_law(crate, edit):
+    """Returns whether all is well with an edit of definitions, as the check of its law tells, and what to say."""
+    texts = texts_with(crate, [edit]).changed
+    ran = rt.checked(crate, texts, [*ONE_JOB, "--only", edit.law], None)
+    lines = ran.stdout.rstrip("\n").split("\n")
+    unread = next((it for it in lines if rt.unread(it, texts)), "")
+    said = [it.rpartition(": ")[2] for it in lines if it.startswith(f"fn {crate.name}::{edit.law}: ")]
+    if unread or len(said) != 1:
+        return False, f"{edit.label}: BAD EDIT: {unread[:200] or f'the check says nothing of {edit.law}'}"
+    is_proved = said == ["proved"]
+    if edit.is_equal:
+        return is_proved, f"{edit.label}: {'proved, as it must be' if is_proved else 'NOT PROVED, though it says the same'}"
+    if is_proved:
+        return False, f"{edit.label}: NOT REFUSED: {edit.law} is still proved with this edit"
+    told = [it for it in lines if ": error: " in it and "was not admitted" not in it and not NAMES.search(it)]
+    little = "" if told else " (only because a proof file names what the edit took away)"
+    return True, f"{edit.label}: refused, as it must be{little}, by {edit.law}: {(told or [''])[0][:120]}"
+
+
+def tried_by_law(crate, edit):
+    """Tries an edit of definitions, and returns in a list whether all is well."""
+    well, text = verdict_by_law(crate, edit)
+    say(text)
+    return [well]
+
+
 def tried(crate, edits):
-    """Tries a crate's edits, and returns for each whether all is well. Each verdict is printed as it is known."""
+    """Tries a crate's edits of code, and returns for each whether all is well. Each verdict is printed as it is known."""
     wells, left, alone = [], [it for it in edits if it.functions], [it for it in edits if not it.functions]
 
     def tell(well, text):
@@ -301,10 +330,21 @@ def edits_of(crate, names):
                 found.append(Edit(crate, folder, name))
             except (BadEdit, OSError, UnicodeDecodeError) as fault:
                 bad.append(str(fault))
-    is_lacking = any(not it.is_equal for it in found) and not any(it.is_equal for it in found)
-    if is_lacking:
-        bad.append(f"{crate.name}: no edit in equal/, so nothing shows that its checks can say yes")
+    for kind in (False, True):
+        of_kind = [it.is_equal for it in found if bool(it.law) is kind]
+        if of_kind and not any(of_kind):
+            what = "definitions" if kind else "code"
+            bad.append(f"{crate.name}: no edit of {what} in equal/, so nothing shows that its checks can say yes")
     return found, bad
+
+
+def tasks_of(crate, edits):
+    """Returns the checks of a crate's edits, which may run side by side: one for each edit of definitions, and one for all others."""
+    code, size = [it for it in edits if not it.law], crate.count(rb"\n")
+    tasks = {(crate.name, "edits", it.label): ([], size, rt.need(crate), lambda given, jobs, it=it: tried_by_law(crate, it)) for it in edits if it.law}
+    if code:
+        tasks[crate.name, "edits"] = ([], size * len(code), rt.need(crate), lambda given, jobs: tried(crate, code))
+    return tasks
 
 
 def build_libraries(crates):
@@ -342,10 +382,7 @@ def main(words):
     if not is_built and not build_libraries(at_work):
         print("0 passed, 1 failed")
         return 1
-    tasks = {}
-    for crate in at_work:
-        call = lambda given, jobs, it=crate: tried(it, each[it][0])
-        tasks[crate.name, "edits"] = ([], crate.count(rb"\n") * len(each[crate][0]), rt.need(crate), call)
+    tasks = {key: task for crate in at_work for key, task in tasks_of(crate, each[crate][0]).items()}
     wells = [well for it in rt.in_lanes(tasks).values() for well in it]
     failed = len(bad) + wells.count(False)
     print(f"{wells.count(True)} passed, {failed} failed")
