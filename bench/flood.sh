@@ -1,6 +1,8 @@
 #!/usr/bin/env bash
-# How long tmsim takes for a message, the more messages of later rounds are kept: microseconds a message
-# for each thousand, from runs of growing length at 64 validators. Each is the least of three runs.
+# How long tmsim takes for a message, the more messages of later rounds are kept: processor microseconds a
+# message for each thousand, from runs of growing length at 64 validators, each the least of three runs, and
+# how much more that is than a message takes that is only read, checked and refused: what keeping it costs.
+# The senders' 64 tags for each message are most of the rest.
 # usage: bench/flood.sh [STEP]
 set -euo pipefail
 cd "$(dirname "${BASH_SOURCE[0]}")/.."
@@ -11,19 +13,27 @@ trap 'rm -rf "$work"' EXIT
 least() { # least KIND COUNT: the least of three runs, in seconds, and its peak memory in KB
   python3 bench/flood.py "$1" "$2" > "$work/schedule.txt"
   for _ in 1 2 3; do
-    /usr/bin/time -f '%e %M' -o "$work/time.txt" bin/tmsim "$work/schedule.txt" > "$work/report.txt"
+    /usr/bin/time -f '%U %M' -o "$work/time.txt" bin/tmsim "$work/schedule.txt" > "$work/report.txt"
     cat "$work/time.txt"
   done | sort -n | head -1
 }
+read -r nothing _ <<< "$(least refused 0)"
+read -r refused least_kilobytes <<< "$(least refused 31500)"
 for kind in apart together; do
   most=31500
   if [ "$kind" = together ]; then most=10500; fi
-  read -r before _ <<< "$(least "$kind" 0)"
+  before=$nothing
   for ((count = step; count <= most; count += step)); do
     read -r seconds kilobytes <<< "$(least "$kind" "$count")"
-    awk -v k="$kind" -v n="$count" -v s="$step" -v b="$before" -v t="$seconds" -v m="$kilobytes" 'BEGIN {
-      printf "%s: %d kept, %.0f microseconds a message of the last %d, peak %d KB\n", k, n, (t - b) * 1e6 / s, s, m
+    awk -v k="$kind" -v n="$count" -v s="$step" -v b="$before" -v t="$seconds" -v m="$kilobytes" \
+      -v r="$refused" -v z="$nothing" 'BEGIN {
+      each = (t - b) * 1e6 / s
+      printf "%s: %d kept, %.1f microseconds a message of the last %d, %.1f of them to keep it, peak %d KB\n",
+        k, n, each, s, each - (r - z) * 1e6 / 31500, m
     }'
     before=$seconds
   done
+  [ "$kind" = together ] || kept=$kilobytes
 done
+echo "refused: 31500, $(awk -v r="$refused" -v z="$nothing" 'BEGIN { printf "%.1f", (r - z) * 1e6 / 31500 }') microseconds a message, peak $least_kilobytes KB"
+echo "31500 kept prevotes take $((kept - least_kilobytes)) KB"
