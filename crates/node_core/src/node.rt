@@ -72,6 +72,7 @@ impl NodeCore {
         ensures empty { (result.outgoing ≡ []) × (result.scheduled ≡ []) × (result.fired ≡ 0) }
     {
         let Config { me, powers } = config;
+        // The two counts ensure that there are 2 to 64 validators, of whom the ring has the keys.
         let _ = ring.count();
         let _ = powers.count();
         NodeCore {
@@ -107,6 +108,7 @@ impl NodeCore {
         ensures joined { self.now.machine.state.delivered ≡ delivered_in self.now.decisions }
         ensures order { fifo self.now.machine.state.delivered ≡ true }
     {
+        // `frontier` ensures that the list keeps each client's order.
         self.state.frontier();
         self.state.decided()
     }

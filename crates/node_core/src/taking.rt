@@ -125,6 +125,7 @@ impl NodeCore {
         ensures below { IfOk result (λ frame. is_some frame ≡ nat_lt height self.now.machine.state.height) }
         ensures frame { IfOk result (λ frame. IfSome frame (λ f. (n : Node) → Stands n self.now → map (frame_by self.now) (bundles_of height n.journal) ≡ f.items ∷ [])) }
     {
+        // `len` ensures that each stands at the place of its height.
         let _ = self.decisions.len();
         match self.decisions.bundle_for(height) {
             None => Ok(None),
