@@ -130,7 +130,7 @@ ring_lengths me count lines to_validators from_validators to from = (
 )
 
 -- the key at a place
-slice_get-every_key : (found : List (Option (List ℕ))) (keys : List (List ℕ)) (i : ℕ) → every_key found ≡ Ok keys → slice_get keys i ≡ get_or found i None
+pub slice_get-every_key : (found : List (Option (List ℕ))) (keys : List (List ℕ)) (i : ℕ) → every_key found ≡ Ok keys → slice_get keys i ≡ get_or found i None
 unfolding every_key
 slice_get-every_key [] keys i e = let nothing : keys ≡ [] = cc in rw nothing refl
 slice_get-every_key (None ∷ others) keys i e = absurd (cc)

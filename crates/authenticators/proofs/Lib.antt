@@ -4,3 +4,6 @@ pub mod Splits
 pub mod Numbers
 pub mod Parties
 pub mod Files
+pub mod Between
+pub mod Reading
+pub mod Laws

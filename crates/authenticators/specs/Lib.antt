@@ -4,3 +4,4 @@ pub mod Lines
 pub mod Ring
 pub mod Keys
 pub mod Pads
+pub mod Laws
