@@ -16,7 +16,7 @@ use Rattle.protocol.specs.declared.types.Stamp.{Stamp}
 use Rattle.protocol.specs.declared.types.ValueAt.{ValueAt}
 use Rattle.protocol.specs.declared.types.Timeout.{Timeout}
 use Rattle.protocol.specs.State.{Context, State, Node, Queue, Rule, Start, PrevoteFresh, PrevoteAgain, AwaitPrevotes, Lock, PrecommitNil, AwaitPrecommits, Decide, DecideByBundle, SkipRound, TimedOut}
-use Rattle.protocol.specs.Rules.{changed, changed_by_timeout, fired, keeping_own, released_by, saved, saved_by_timeout, starts, proposal_of, scheduled}
+use Rattle.protocol.specs.Rules.{changed, times_out, fired, keeping_own, released_by, saved, starts, proposal_of, scheduled}
 use Rattle.protocol.specs.Queues.{pick, drop_delivered, all_waiting}
 use Rattle.protocol.specs.Arrivals.{is_decision, queues_after}
 use Rattle.protocol.proofs.Waiting.{dropped_in}
@@ -37,7 +37,7 @@ kept_stamps s (Some (OfVote v)) = refl
 kept_stamps s (Some (OfAsk a)) = refl
 kept_stamps s (Some (OfBundle b)) = refl
 
-timed_stamps : (P : Stamp → Type 0) (s : State) (kind : Step) → All P s.stamps → All P (changed_by_timeout s kind).stamps
+timed_stamps : (P : Stamp → Type 0) (s : State) (kind : Step) → All P s.stamps → All P (times_out s kind).next.stamps
 timed_stamps P s Propose all = all
 timed_stamps P s Prevote all = all
 timed_stamps P s Precommit all = all
@@ -82,7 +82,7 @@ starts_plain g s r v = cond_both (proposer g.powers s.height r == g.me) _ _ (λ 
     by_value None = refl
     by_value (Some l) = refl
 
-timed_plain : (g : Context) (s : State) (v : Value) (kind : Step) → decided_in (saved_by_timeout g v s kind) ≡ []
+timed_plain : (g : Context) (s : State) (v : Value) (kind : Step) → decided_in ((times_out s kind).saves g v) ≡ []
 timed_plain g s v Propose = refl
 timed_plain g s v Prevote = refl
 timed_plain g s v Precommit = starts_plain g s (suc s.round) v
@@ -109,12 +109,12 @@ kept_delivered s (Some (OfVote v)) = refl
 kept_delivered s (Some (OfAsk a)) = refl
 kept_delivered s (Some (OfBundle b)) = refl
 
-timed_delivered : (s : State) (kind : Step) → (changed_by_timeout s kind).delivered ≡ s.delivered
+timed_delivered : (s : State) (kind : Step) → (times_out s kind).next.delivered ≡ s.delivered
 timed_delivered s Propose = refl
 timed_delivered s Prevote = refl
 timed_delivered s Precommit = refl
 
-timed_height : (s : State) (kind : Step) → (changed_by_timeout s kind).height ≡ s.height
+timed_height : (s : State) (kind : Step) → (times_out s kind).next.height ≡ s.height
 timed_height s Propose = refl
 timed_height s Prevote = refl
 timed_height s Precommit = refl

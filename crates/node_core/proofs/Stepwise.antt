@@ -1,5 +1,5 @@
 -- Calls step by step: a firing and those after it, and what is handed in and the firings after it.
-use Rattle.std.proofs.Common.{◌≡◌, ℕ, zero, suc, ◌+◌, ◌<◌, true, List, [], ◌∷◌, ◌++◌, map, Option, Some, is_some, min, ◌-◌, ◌^◌, refl, sym, ap, subst, ◌∙◌, arith, below_more}
+use Rattle.std.proofs.Common.{◌≡◌, ℕ, zero, suc, true, List, [], ◌∷◌, ◌++◌, map, Option, Some, is_some, min, ◌-◌, ◌^◌, refl, sym, ap, subst, ◌∙◌, arith, below_more}
 use Rattle.std.proofs.lemmas.List.{append-nil, append_assoc}
 use Rattle.protocol.specs.Messages.{Body}
 use Rattle.protocol.specs.Tags.{Setting}
@@ -8,7 +8,8 @@ use Rattle.protocol.specs.State.{State, Node, Rule}
 use Rattle.protocol.specs.Order.{enabled}
 use Rattle.protocol.specs.Arrivals.{firing}
 use Rattle.protocol.specs.History.{Input, Settle, first, firsts, taken}
-use Rattle.protocol.specs.Effects.{bodies_of, timeouts_of, by_rule, along, bodies_taken, timeouts_taken}
+use Rattle.protocol.specs.Effects.{bodies_of, timeouts_of, along, bodies_taken, timeouts_taken}
+use Rattle.protocol.proofs.Replays.{by_rule}
 use Rattle.node_core.specs.Core.{Core, Stands, IsSame, setting, setting_of, frame_by}
 use Rattle.node_core.specs.Calls.{EachIsNamed, HasFired, HasFiredOnce, IsTaken, IsCalled}
 use Rattle.node_core.specs.Running.{HasRun}

@@ -4,7 +4,7 @@ ghost use Rattle.std.specs.Prelude.{◌≡◌, ◌<◌, ◌≤◌, ◌+◌, ◌-
 ghost use Rattle.powers.specs.Power.{proposer};
 ghost use Rattle.protocol.specs.State.{Context, Node, TimedOut};
 ghost use Rattle.protocol.specs.Rules.{holds, fired};
-ghost use Rattle.protocol.specs.Order.{enabled, IsInternal};
+ghost use Rattle.protocol.specs.Order.{enabled, row};
 ghost use Rattle.protocol.specs.Queues.{pick, drop_delivered};
 ghost use Rattle.protocol.specs.Values.{Item};
 ghost use Rattle.round_machine.specs.Naming.{rule_of, IsPlaced, Serves, ServesRound};
@@ -41,7 +41,7 @@ impl NodeCore {
     fn enabled(&self) -> Option<Rule>
         ensures rule { option_map (rule_of self.now.machine.state) result ≡ enabled self.now.machine.powers self.now.machine.state }
         ensures placed { IfSome result (λ rule. IsPlaced self.now.machine.state rule) }
-        ensures internal { IfSome result (λ rule. IsInternal (rule_of self.now.machine.state rule)) }
+        ensures internal { IfSome result (λ rule. row (rule_of self.now.machine.state rule) < 9) }
         ensures holds { IfSome result (λ rule. holds (context_of self.now) self.now.machine.state (rule_of self.now.machine.state rule) ≡ true) }
     {
         enabled(&self.state)

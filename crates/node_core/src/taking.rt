@@ -41,7 +41,7 @@ impl NodeCore {
         let Message { body, tags } = message;
         match body {
             Body::Tx(tx) => self.take_tx(tx, tags),
-            Body::Proposal(proposal) => self.take_proposal(proposal, tags),
+            Body::Proposal(proposal) => self.take_proposal(proposal),
             Body::Vote(vote) => self.take_vote(vote, tags),
             Body::Ask(ask) => self.take_ask(ask),
             Body::Bundle(bundle) => self.take_bundle(bundle),
@@ -68,15 +68,11 @@ impl NodeCore {
         ensures beside { IsBeside self.old self.new }
         ensures err { OnErr result (self.new ≡ self.old) }
     {
-        let message = Message {
-            body: Body::Vote(vote),
-            tags,
-        };
-        Ok(self.state.take_in(message, true)?)
+        Ok(self.state.take_vote(vote, tags)?)
     }
 
     /// A proposal is kept, with the answer whether its transactions' own tags are right.
-    fn take_proposal(&mut self, proposal: Proposal, tags: Seq<[u8; 32]>) -> Result<(), Refusal>
+    fn take_proposal(&mut self, proposal: Proposal) -> Result<(), Refusal>
         requires { IsValue proposal.value }
         ensures answer { IsAnswer (first_cause (proposal_causes self.old.machine.powers self.old.machine.me self.old.machine.state proposal)) result }
         ensures ok { OnOk result (self.new.machine.state ≡ keeping self.old.machine.state (OfProposal proposal)) }
@@ -85,11 +81,7 @@ impl NodeCore {
     {
         self.state.check_proposal(&proposal)?;
         let genuine = self.is_genuine(&proposal)?;
-        let message = Message {
-            body: Body::Proposal(proposal),
-            tags,
-        };
-        Ok(self.state.take_in(message, genuine)?)
+        Ok(self.state.take_proposal(proposal, genuine)?)
     }
 
     /// Whether the own tags of a proposal's transactions are right. Of one with a valid round nobody asks.

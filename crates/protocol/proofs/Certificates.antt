@@ -13,7 +13,7 @@ use Rattle.protocol.specs.Tags.{Setting, Validator, right}
 use Rattle.protocol.specs.Messages.{◌∈◌, Step, Propose, Prevote, Precommit, step_eq, step_of_vote, Bundle, Signed, Vote, Body, OfTx, OfProposal, OfVote, OfAsk, OfBundle, Record, Own, Decided, Act, Proposing, Prevoting, Precommitting, Message, body_of, precommit, below, tagged}
 use Rattle.protocol.specs.Tally.{senders, is_vote_for}
 use Rattle.protocol.specs.State.{State, Node, ValueAt, Stamp, Rule, Start, PrevoteFresh, PrevoteAgain, AwaitPrevotes, Lock, PrecommitNil, AwaitPrecommits, Decide, DecideByBundle, SkipRound, TimedOut}
-use Rattle.protocol.specs.Rules.{holds, saved, keeping, keeping_own, released_by, starts, proposal_of, saved_by_timeout, certificate, signed_by, is_stamp, changed, changed_by_timeout}
+use Rattle.protocol.specs.Rules.{holds, saved, keeping, keeping_own, released_by, starts, proposal_of, times_out, certificate, signed_by, is_stamp, changed}
 use Rattle.protocol.specs.Restart.{restart, opened, own_since, votes_in}
 use Rattle.protocol.specs.Queues.{pick, is_closed}
 use Rattle.protocol.specs.Refusals.{context, bundle_senders, named_senders, is_vouching, certified}
@@ -149,7 +149,7 @@ starts_certified c p s r picked = cond_both (proposer c.powers s.height r == p) 
     by_value None = tt
     by_value (Some l) = tt
 
-timed_certified : (c : Setting) (p : ℕ) (picked : Value) (s : State) (kind : Step) → OptionCertified c p (saved_by_timeout (context c p) picked s kind)
+timed_certified : (c : Setting) (p : ℕ) (picked : Value) (s : State) (kind : Step) → OptionCertified c p ((times_out s kind).saves (context c p) picked)
 timed_certified c p picked s Propose = tt
 timed_certified c p picked s Prevote = tt
 timed_certified c p picked s Precommit = starts_certified c p s (suc s.round) picked
@@ -205,7 +205,7 @@ since_sender p (Own h r act ∷ j) b v i k = elim (in_append b (own_since p j) (
 ]
 
 -- a rule leaves the height, the votes and the stamps as they are, or empties these
-timed_keeps : (P : ℕ → List Vote → List Stamp → Type 0) (s : State) (kind : Step) → P s.height s.votes s.stamps → P (changed_by_timeout s kind).height (changed_by_timeout s kind).votes (changed_by_timeout s kind).stamps
+timed_keeps : (P : ℕ → List Vote → List Stamp → Type 0) (s : State) (kind : Step) → P s.height s.votes s.stamps → P (times_out s kind).next.height (times_out s kind).next.votes (times_out s kind).next.stamps
 timed_keeps P s Propose st = st
 timed_keeps P s Prevote st = st
 timed_keeps P s Precommit st = st

@@ -8,7 +8,7 @@ use Rattle.protocol.specs.Values.{Value, Item, items, of, in_turn, fifo, valid}
 use Rattle.protocol.specs.Tags.{Setting}
 use Rattle.protocol.specs.Messages.{Step, Propose, Prevote, Precommit, step_eq, Record, Own, Decided}
 use Rattle.protocol.specs.State.{State, Node, ValueAt, Rule, Start, PrevoteFresh, PrevoteAgain, AwaitPrevotes, Lock, PrecommitNil, AwaitPrecommits, Decide, DecideByBundle, SkipRound, TimedOut}
-use Rattle.protocol.specs.Rules.{holds, saved, starts, proposal_of, saved_by_timeout}
+use Rattle.protocol.specs.Rules.{holds, saved, starts, proposal_of, times_out}
 use Rattle.protocol.specs.Restart.{delivered_of, opened}
 use Rattle.protocol.specs.Queues.{pick, is_closed}
 use Rattle.protocol.specs.Refusals.{context}
@@ -33,7 +33,7 @@ starts_valid c p s r picked = cond_both (proposer c.powers s.height r == p) _ _ 
     by_value None = tt
     by_value (Some l) = tt
 
-timed_valid : (c : Setting) (p : ℕ) (picked : Value) (s : State) (kind : Step) → DecidesValid s (saved_by_timeout (context c p) picked s kind)
+timed_valid : (c : Setting) (p : ℕ) (picked : Value) (s : State) (kind : Step) → DecidesValid s ((times_out s kind).saves (context c p) picked)
 timed_valid c p picked s Propose = tt
 timed_valid c p picked s Prevote = tt
 timed_valid c p picked s Precommit = starts_valid c p s (suc s.round) picked

@@ -8,7 +8,7 @@ use Rattle.protocol.specs.Values.{Id, Tx, Value, Item, item, id, valid, value_eq
 use Rattle.protocol.specs.Tags.{Setting, genuine, tx_is_right}
 use Rattle.protocol.specs.Messages.{◌∈◌, Step, Propose, Prevote, Precommit, step_eq, Act, Proposing, Prevoting, Precommitting, Record, Own, Decided, Body, OfTx, OfProposal, OfVote, OfAsk, OfBundle, Proposal, body_of}
 use Rattle.protocol.specs.State.{State, Node, ValueAt, Rule, Start, PrevoteFresh, PrevoteAgain, AwaitPrevotes, Lock, PrecommitNil, AwaitPrecommits, Decide, DecideByBundle, SkipRound, TimedOut}
-use Rattle.protocol.specs.Rules.{holds, saved, changed, keeping, keeping_own, released_by, starts, proposal_of, is_proposed, is_proposed_from, lock_is, lock_allows, saved_by_timeout, changed_by_timeout, content_if}
+use Rattle.protocol.specs.Rules.{holds, saved, changed, keeping, keeping_own, released_by, starts, proposal_of, is_proposed, is_proposed_from, lock_is, lock_allows, times_out, content_if}
 use Rattle.protocol.specs.Restart.{proposals_in}
 use Rattle.protocol.specs.Queues.{pick, all_waiting, drop_delivered}
 use Rattle.protocol.specs.Refusals.{context}
@@ -42,7 +42,7 @@ keeping_own_value : (s : State) (o : Option Body) → (keeping_own s o).valid_va
 keeping_own_value s None = refl
 keeping_own_value s (Some b) = keeping_value s b
 
-timed_proposals : (s : State) (kind : Step) → (changed_by_timeout s kind).proposals ≡ s.proposals
+timed_proposals : (s : State) (kind : Step) → (times_out s kind).next.proposals ≡ s.proposals
 timed_proposals s Propose = refl
 timed_proposals s Prevote = refl
 timed_proposals s Precommit = refl
@@ -166,7 +166,7 @@ module _ (c : Setting) (h : Honesty) (seen : Value → Type 0) where
       by_value None l sn = (kp, sn picked refl)
       by_value (Some a) l sn = (l.0, sn a.value refl)
 
-  timed_vouched : (p : ℕ) (marks : Marks c h) (sent : Sent) (s : State) (kind : Step) (picked : Value) → Known p sent picked.txs → FoundKnown p sent s.valid_value → OptionSeen (saved_by_timeout (context c p) picked s kind) → OptionVouched p marks sent (saved_by_timeout (context c p) picked s kind)
+  timed_vouched : (p : ℕ) (marks : Marks c h) (sent : Sent) (s : State) (kind : Step) (picked : Value) → Known p sent picked.txs → FoundKnown p sent s.valid_value → OptionSeen ((times_out s kind).saves (context c p) picked) → OptionVouched p marks sent ((times_out s kind).saves (context c p) picked)
   timed_vouched p marks sent s Propose picked kp kl sn = tt
   timed_vouched p marks sent s Prevote picked kp kl sn = tt
   timed_vouched p marks sent s Precommit picked kp kl sn = starts_vouched p marks sent s (suc s.round) picked kp kl sn
@@ -233,7 +233,7 @@ module _ (c : Setting) (h : Honesty) (seen : Value → Type 0) where
       ]
   keeps_known p marks sent (Some (Decided b)) t v k q i = k q i
 
-  timed_found : (p : ℕ) (sent : Sent) (s : State) (kind : Step) → FoundKnown p sent s.valid_value → FoundKnown p sent (changed_by_timeout s kind).valid_value
+  timed_found : (p : ℕ) (sent : Sent) (s : State) (kind : Step) → FoundKnown p sent s.valid_value → FoundKnown p sent (times_out s kind).next.valid_value
   timed_found p sent s Propose k = k
   timed_found p sent s Prevote k = k
   timed_found p sent s Precommit k = k

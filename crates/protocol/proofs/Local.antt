@@ -1,6 +1,6 @@
 -- What one validator's variables have to do with its journal, over every event: height, delivered list, lock and place are as the journal tells.
 use Rattle.std.proofs.Common.{◌≡◌, ℕ, suc, ◌<◌, ◌≤◌, Bool, true, false, cond, not, List, [], ◌∷◌, ◌++◌, refl, sym, ◌∙◌, ap, subst, arith, Option, Some, None, eqb-true, option_to_list, le_refl}
-use Rattle.std.specs.Prelude.{is_none, ◌==◌}
+use Rattle.std.specs.Prelude.{is_none, unwrap_or, ◌==◌}
 use Rattle.std.proofs.lemmas.Bool.{and_parts, cond_both, and_from}
 use Rattle.powers.specs.Power.{proposer}
 use Rattle.messages.specs.Framing.{message_of}
@@ -8,8 +8,8 @@ use Rattle.protocol.specs.Values.{Value, items, id}
 use Rattle.protocol.specs.Tags.{Setting}
 use Rattle.protocol.specs.Messages.{Step, Propose, Prevote, Precommit, step_number, step_eq, step_of, Act, Proposing, Prevoting, Precommitting, Bundle, Body, Record, Own, Decided, Message, OfTx, OfProposal, OfVote, OfAsk, OfBundle}
 use Rattle.protocol.specs.State.{State, Node, ValueAt, Rule, Start, PrevoteFresh, PrevoteAgain, AwaitPrevotes, Lock, PrecommitNil, AwaitPrecommits, Decide, DecideByBundle, SkipRound, TimedOut, Timeout}
-use Rattle.protocol.specs.Rules.{holds, holds_timed, saved, changed, keeping, keeping_own, released_by, started, starts, proposal_of, decided, at_step, saved_by_timeout, changed_by_timeout, certificate, content_if}
-use Rattle.protocol.specs.Restart.{restart, opened, height_of, delivered_of, lock_of, lock_by, last_place, round_at, step_at}
+use Rattle.protocol.specs.Rules.{holds, holds_timed, saved, changed, keeping, keeping_own, released_by, started, starts, proposal_of, decided, at_step, times_out, certificate, content_if}
+use Rattle.protocol.specs.Restart.{restart, opened, height_of, delivered_of, lock_of, lock_by, last_place}
 use Rattle.protocol.specs.Queues.{pick, is_closed}
 use Rattle.protocol.specs.Refusals.{context}
 use Rattle.protocol.specs.Arrivals.{firing, taken_in, kept_message}
@@ -107,7 +107,7 @@ votes_tied s t j step act w a begun round at less now lock =
     joins s t j act w a (begun ∙ k.0) lock (let e = ap step_number now in omega arith) (after_last s.begun (last_place j) s.round s.step t.round (step_of act) k.0 w.last (let e = k.1 in omega arith))
 
 timed_tied : (c : Setting) (p : ℕ) (picked : Value) (s : State) (j : List Record) (t : Timeout) (kind : Step) → Tied s j → holds_timed s t kind ≡ true
-    → Tied (changed_by_timeout s kind) (option_to_list (saved_by_timeout (context c p) picked s kind) ++ j)
+    → Tied (times_out s kind).next (option_to_list ((times_out s kind).saves (context c p) picked) ++ j)
 timed_tied c p picked s j t Propose w h = votes_tied s (record s { step = Prevote }) j Propose (Prevoting None) w (record { height = refl; delivered = refl }) refl refl h (omega arith) refl refl
 timed_tied c p picked s j t Prevote w h = votes_tied s (record s { step = Precommit }) j Prevote (Precommitting None) w (record { height = refl; delivered = refl }) refl refl h (omega arith) refl refl
 timed_tied c p picked s j t Precommit w h = starts_tied c p picked s j (suc s.round) w
@@ -168,7 +168,7 @@ fired_tied c p n k w h =
     let o = saved (context c p) (pick n.queues) n.state k in
     keeping_own_tied (changed n.state k) (option_to_list o ++ n.journal) (released_by p o) (changed_tied c p (pick n.queues) n.state n.journal k w h)
 
-restart_reached : (o : Option (ℕ × Step)) → IsReached (not (is_none o)) o (round_at o) (step_at o)
+restart_reached : (o : Option (ℕ × Step)) → IsReached (not (is_none o)) o (unwrap_or o (0, Propose)).0 (unwrap_or o (0, Propose)).1
 restart_reached None = refl
 restart_reached (Some a) = le_refl _
 

@@ -11,7 +11,7 @@ use Rattle.protocol.specs.Messages.{◌∈◌, Propose, Prevote, Precommit, step
 use Rattle.protocol.specs.Tally.{senders, proposers, speakers}
 use Rattle.protocol.specs.State.{Context, State, Rule, Start, PrevoteFresh, PrevoteAgain, AwaitPrevotes, Lock, PrecommitNil, AwaitPrecommits, Decide, DecideByBundle, SkipRound, TimedOut}
 use Rattle.protocol.specs.Rules.{holds, stands_at, is_proposed, is_proposed_from, quorum_for, quorum_any, weak_at}
-use Rattle.protocol.specs.Order.{soonest, highest, starting, is_decidable, deciding, rounds_of, skipping, is_fresh, prevoting, is_backed, is_again, again, again_of, prevoting_again, is_lockable, locking, giving_up, awaiting_prevotes, awaiting_precommits, or_next, enabled, IsInternal, QuietLaw, EnabledLaw}
+use Rattle.protocol.specs.Order.{soonest, highest, starting, is_decidable, deciding, rounds_of, skipping, is_fresh, prevoting, is_backed, is_again, again, again_of, prevoting_again, is_lockable, locking, giving_up, awaiting_prevotes, awaiting_precommits, or_next, enabled, row, QuietLaw, EnabledLaw}
 use Rattle.protocol.proofs.Membership.{in_left, in_right, map_in, any_found, any_in, found_in, found_none}
 use Rattle.protocol.proofs.Searches.{none_some, option_map_none, soonest_passes, soonest_none, highest_passes, highest_none}
 use Rattle.protocol.proofs.Asked.{asked}
@@ -42,7 +42,7 @@ stands_again powers s round q e = subst (λ r. stands_at powers s r q ≡ true) 
 
 abbrev pub IsNamed : Context → State → Option Rule → Type 0
 IsNamed g s None = Unit {0}
-IsNamed g s (Some k) = (holds g s k ≡ true) × IsInternal k
+IsNamed g s (Some k) = (holds g s k ≡ true) × (row k < 9)
 
 module _ (g : Context) (s : State) where
   named_if : (b : Bool) (o : Option Rule) → (b ≡ true → IsNamed g s o) → IsNamed g s (cond b o None)
@@ -52,7 +52,7 @@ module _ (g : Context) (s : State) where
   named_next None other k f = f refl
   named_next (Some r) other k f = k
 
-  named_map : {X : Type 0} (f : X → Rule) (o : Option X) → ((x : X) → o ≡ Some x → (holds g s (f x) ≡ true) × IsInternal (f x)) → IsNamed g s (option_map f o)
+  named_map : {X : Type 0} (f : X → Rule) (o : Option X) → ((x : X) → o ≡ Some x → (holds g s (f x) ≡ true) × (row (f x) < 9)) → IsNamed g s (option_map f o)
   named_map f None k = tt
   named_map f (Some x) k = k x refl
 
@@ -67,25 +67,25 @@ module _ (g : Context) (s : State) where
       let f = soonest_passes (is_decidable g.powers s) s.proposals q e in
       let a = and_parts _ _ f.passes in
       let b = and_parts _ _ a.0 in
-      (and_from _ _ (and_from _ _ (and_from _ _ room (proposed q.round q f.there b.0)) a.1) b.1, tt)))
+      (and_from _ _ (and_from _ _ (and_from _ _ room (proposed q.round q f.there b.0)) a.1) b.1, omega arith)))
 
   module _ (begun : s.begun ≡ true) where
     pub skipping_named : IsNamed g s (skipping g.powers s)
     skipping_named = named_map SkipRound (highest (λ r. nat_lt s.round r && weak_at g.powers s r) (rounds_of s)) (λ r e.
         let a = and_parts _ _ (highest_passes (λ n. nat_lt s.round n && weak_at g.powers s n) (rounds_of s) r e) in
-        (and_from _ _ (and_from _ _ begun a.0) a.1, tt))
+        (and_from _ _ (and_from _ _ begun a.0) a.1, omega arith))
 
     pub prevoting_named : IsNamed g s (prevoting g.powers s)
     prevoting_named = named_if (step_eq s.step Propose) _ (λ at. named_map (λ (q : Proposal). PrevoteFresh q.value) (find (is_fresh g.powers s) s.proposals) (λ q e.
         let f = found_in (is_fresh g.powers s) s.proposals q e in
         let a = and_parts _ _ f.passes in
-        (and_from _ _ (and_from _ _ begun at) (proposed_from s.round None q f.there a.0 (none_round q.valid_round a.1)), tt)))
+        (and_from _ _ (and_from _ _ begun at) (proposed_from s.round None q f.there a.0 (none_round q.valid_round a.1)), omega arith)))
 
     again_named : (q : Proposal) → q ∈ s.proposals → stands_at g.powers s s.round q ≡ true → step_eq s.step Propose ≡ true → (vr : Option ℕ) → q.valid_round ≡ vr → is_backed g.powers s q.value vr ≡ true → IsNamed g s (again q vr)
     again_named q i st at None e b = absurd (let f : false ≡ true = b in cc)
     again_named q i st at (Some r) e b =
         let a = and_parts _ _ b in
-        (and_from _ _ (and_from _ _ (and_from _ _ (and_from _ _ begun at) a.0) (proposed_from s.round (Some r) q i st ((round_eq_decides q.valid_round (Some r)).1 e))) a.1, tt)
+        (and_from _ _ (and_from _ _ (and_from _ _ (and_from _ _ begun at) a.0) (proposed_from s.round (Some r) q i st ((round_eq_decides q.valid_round (Some r)).1 e))) a.1, omega arith)
 
     again_of_named : (o : Option Proposal) → find (is_again g.powers s) s.proposals ≡ o → step_eq s.step Propose ≡ true → IsNamed g s (again_of o)
     again_of_named None e at = tt
@@ -103,23 +103,23 @@ module _ (g : Context) (s : State) where
         let t = and_parts _ _ at in
         let a = and_parts _ _ f.passes in
         let b = and_parts _ _ a.0 in
-        (and_from _ _ (and_from _ _ (and_from _ _ (and_from _ _ (and_from _ _ begun t.0) (proposed s.round q f.there b.0)) a.1) b.1) t.1, tt)))
+        (and_from _ _ (and_from _ _ (and_from _ _ (and_from _ _ (and_from _ _ begun t.0) (proposed s.round q f.there b.0)) a.1) b.1) t.1, omega arith)))
 
     pub giving_up_named : IsNamed g s (giving_up g.powers s)
-    giving_up_named = named_if (step_eq s.step Prevote && quorum_for g.powers s s.round Prevote None) _ (λ at. let a = and_parts _ _ at in (and_from _ _ (and_from _ _ begun a.0) a.1, tt))
+    giving_up_named = named_if (step_eq s.step Prevote && quorum_for g.powers s s.round Prevote None) _ (λ at. let a = and_parts _ _ at in (and_from _ _ (and_from _ _ begun a.0) a.1, omega arith))
 
     pub awaiting_prevotes_named : IsNamed g s (awaiting_prevotes g.powers s)
     awaiting_prevotes_named = named_if (step_eq s.step Prevote && not s.prevotes_awaited && quorum_any g.powers s s.round Prevote) _ (λ at.
         let a = and_parts _ _ at in
         let b = and_parts _ _ a.0 in
-        (and_from _ _ (and_from _ _ (and_from _ _ begun b.0) a.1) b.1, tt))
+        (and_from _ _ (and_from _ _ (and_from _ _ begun b.0) a.1) b.1, omega arith))
 
     pub awaiting_precommits_named : IsNamed g s (awaiting_precommits g.powers s)
-    awaiting_precommits_named = named_if (not s.precommits_awaited && quorum_any g.powers s s.round Precommit) _ (λ at. let a = and_parts _ _ at in (and_from _ _ (and_from _ _ begun a.1) a.0, tt))
+    awaiting_precommits_named = named_if (not s.precommits_awaited && quorum_any g.powers s s.round Precommit) _ (λ at. let a = and_parts _ _ at in (and_from _ _ (and_from _ _ begun a.1) a.0, omega arith))
 
   pub starting_named : (b : Bool) → s.begun ≡ b → IsNamed g s (cond b None (Some Start))
   starting_named true e = tt
-  starting_named false e = (rw e refl, tt)
+  starting_named false e = (rw e refl, omega arith)
 
   pub has_begun : starting s ≡ None → s.begun ≡ true
   has_begun e = elim (cases_Bool s.begun) [ inl t ↦ t | inr t ↦ absurd (let f : cond s.begun None (Some Start) ≡ None = e in let k : Some Start ≡ None = rw t at f in none_some Start (sym k)) ]
@@ -135,11 +135,11 @@ module _ (g : Context) (s : State) where
       named_next (giving_up g.powers s) _ (giving_up_named b) (λ _.
       named_next (awaiting_prevotes g.powers s) (awaiting_precommits g.powers s) (awaiting_prevotes_named b) (λ _. awaiting_precommits_named b))))))))
 
-pub enabled_named : (g : Context) (s : State) (k : Rule) → enabled g.powers s ≡ Some k → (holds g s k ≡ true) × IsInternal k
+pub enabled_named : (g : Context) (s : State) (k : Rule) → enabled g.powers s ≡ Some k → (holds g s k ≡ true) × (row k < 9)
 enabled_named g s k e = subst (IsNamed g s) e (all_named g s)
 
 pub enabled_law : EnabledLaw
-enabled_law g s k e = (enabled_named g s k e).0
+enabled_law g s k e = let n = enabled_named g s k e in (n.1, n.0)
 
 -- ---- where no stage names a rule
 
@@ -294,7 +294,7 @@ module _ (g : Context) (s : State) where
       let w = none_next (awaiting_prevotes g.powers s) (awaiting_precommits g.powers s) u.1 in
       record { starts = a.0; decides = b.0; skips = c.0; prevotes = d.0; prevotes_again = f.0; locks = l.0; gives_up = u.0; awaits_prevotes = w.0; awaits_precommits = w.1 }
 
-  no_rule : NoStage → (k : Rule) → IsInternal k → holds g s k ≡ true → ⊥
+  no_rule : NoStage → (k : Rule) → row k < 9 → holds g s k ≡ true → ⊥
   no_rule n Start i e = no_start n.starts e
   no_rule n (Decide r v) i e = no_decide r v n.decides e
   no_rule n (SkipRound r) i e = no_skip r n.skips e
@@ -304,8 +304,8 @@ module _ (g : Context) (s : State) where
   no_rule n PrecommitNil i e = no_give_up n.gives_up e
   no_rule n AwaitPrevotes i e = no_await_prevotes n.awaits_prevotes e
   no_rule n AwaitPrecommits i e = no_await_precommits n.awaits_precommits e
-  no_rule n (DecideByBundle b) i e = absurd i
-  no_rule n (TimedOut t) i e = absurd i
+  no_rule n (DecideByBundle b) i e = absurd (omega arith)
+  no_rule n (TimedOut t) i e = absurd (omega arith)
 
 pub quiet_law : QuietLaw
 quiet_law g s none k i = elim (cases_Bool (holds g s k)) [ inl t ↦ absurd (no_rule g s (no_stage g s none) k i t) | inr f ↦ f ]

@@ -8,7 +8,7 @@ use Rattle.protocol.specs.Values.{Value, id, valid}
 use Rattle.protocol.specs.Tags.{Setting, genuine}
 use Rattle.protocol.specs.Messages.{◌∈◌, Step, Propose, Prevote, Precommit, step_eq, step_of, Precommitting, Record, Own, Decided, Bundle}
 use Rattle.protocol.specs.State.{State, ValueAt, Rule, Start, PrevoteFresh, PrevoteAgain, AwaitPrevotes, Lock, PrecommitNil, AwaitPrecommits, Decide, DecideByBundle, SkipRound, TimedOut}
-use Rattle.protocol.specs.Rules.{holds, saved, changed, started, starts, proposal_of, lock_is, lock_allows, saved_by_timeout, changed_by_timeout, content_if}
+use Rattle.protocol.specs.Rules.{holds, saved, changed, started, starts, proposal_of, lock_is, lock_allows, times_out, content_if}
 use Rattle.protocol.specs.Refusals.{context, bundle_senders}
 use Rattle.protocol.specs.Premises.{Honesty, IsCorrect}
 use Rattle.protocol.proofs.Asked.{asked}
@@ -58,7 +58,7 @@ module _ (c : Setting) (h : Honesty) where
       by_value None = (refl, refl, refl, tt)
       by_value (Some l) = (refl, refl, refl, tt)
 
-  timed_reason : (marks : Marks c h) (p : ℕ) (picked : Value) (s : State) (j : List Record) (kind : Step) → HasReason marks s j (changed_by_timeout s kind) (saved_by_timeout (context c p) picked s kind)
+  timed_reason : (marks : Marks c h) (p : ℕ) (picked : Value) (s : State) (j : List Record) (kind : Step) → HasReason marks s j (times_out s kind).next ((times_out s kind).saves (context c p) picked)
   timed_reason marks p picked s j Propose = (refl, refl, refl, tt)
   timed_reason marks p picked s j Prevote = (refl, refl, refl, tt)
   timed_reason marks p picked s j Precommit = starts_reason marks p picked s j (suc s.round)

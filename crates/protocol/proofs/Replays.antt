@@ -1,5 +1,6 @@
 -- What calls do to a node, release and schedule, by the order of firing, is what their events do in a run.
-use Rattle.std.proofs.Common.{◌≡◌, ℕ, zero, suc, Bool, true, cond, not, ◌&&◌, List, [], ◌∷◌, ◌++◌, map, reverse, refl, sym, ◌∙◌, ap, subst, Option, Some, None, eq-eqb, ne_eqb, append_assoc, append-nil, option_to_list}
+use Rattle.std.proofs.Common.{◌≡◌, ℕ, zero, suc, ◌<◌, Bool, true, cond, not, ◌&&◌, List, [], ◌∷◌, ◌++◌, map, reverse, refl, sym, ◌∙◌, ap, subst, arith, Option, Some, None, option_map, eq-eqb, ne_eqb, append_assoc, append-nil, option_to_list}
+use Rattle.std.specs.Prelude.{unwrap_or}
 use Rattle.std.proofs.lemmas.List.{reverse-append}
 use Rattle.std.proofs.lemmas.Bool.{and_from}
 use Rattle.protocol.specs.Tags.{Setting}
@@ -10,15 +11,15 @@ use Rattle.protocol.specs.Queues.{pick}
 use Rattle.protocol.specs.Refusals.{context}
 use Rattle.protocol.specs.Arrivals.{Outcome, arrival, firing, nothing}
 use Rattle.protocol.specs.World.{World, Event, Comes, Fires, happens, run, is_bundles, tried}
-use Rattle.protocol.specs.Order.{enabled, IsInternal}
-use Rattle.protocol.specs.History.{first_by, firsts, Input, Settle, Given, Due, taken, after, replay}
-use Rattle.protocol.specs.Effects.{bodies_of, timeouts_of, bodies_taken, timeouts_taken, timeouts_after, by_rule, along}
+use Rattle.protocol.specs.Order.{enabled, row}
+use Rattle.protocol.specs.History.{firsts, Input, Settle, Given, Due, taken, after, replay}
+use Rattle.protocol.specs.Effects.{bodies_of, timeouts_of, bodies_taken, timeouts_taken, timeouts_after, along}
 use Rattle.protocol.specs.Laws.{events_of, call_events, scheduled_by, schedule_of, history_events, Leaves, HistoryLaw, ReplayLaw}
 use Rattle.protocol.proofs.Growth.{run_append}
 use Rattle.protocol.proofs.Order.{enabled_named}
 
 -- a rule that needs no bundle isn't a bundle's
-not_bundles : (k : Rule) → IsInternal k → not (is_bundles k) ≡ true
+not_bundles : (k : Rule) → row k < 9 → not (is_bundles k) ≡ true
 not_bundles Start i = refl
 not_bundles (PrevoteFresh v) i = refl
 not_bundles (PrevoteAgain r v) i = refl
@@ -27,9 +28,9 @@ not_bundles (Lock v) i = refl
 not_bundles PrecommitNil i = refl
 not_bundles AwaitPrecommits i = refl
 not_bundles (Decide r v) i = refl
-not_bundles (DecideByBundle b) i = absurd i
+not_bundles (DecideByBundle b) i = absurd (omega arith)
 not_bundles (SkipRound r) i = refl
-not_bundles (TimedOut t) i = absurd i
+not_bundles (TimedOut t) i = refl
 
 schedule_append : (c : Setting) (w : World) (es fs : List Event) → schedule_of c w (es ++ fs) ≡ schedule_of c w es ++ schedule_of c (run c w es) fs
 schedule_append c w [] fs = refl
@@ -82,6 +83,13 @@ reverse_one (Some b) = refl
 
 reverse_out : (c : Setting) (p : ℕ) (n : Node) (k : Rule) (later : List Body) → reverse later ++ bodies_of c p n k ≡ reverse (bodies_of c p n k ++ later)
 reverse_out c p n k later = ap (λ l. reverse later ++ l) (sym (reverse_one (released_by p (saved (context c p) (pick n.queues) n.state k)))) ∙ sym (reverse-append (bodies_of c p n k) later)
+
+-- what a rule gives, and the node after it, where the order names one
+abbrev pub by_rule : {X : Type 0} → (Node → Rule → List X) → Node → Option Rule → List X
+by_rule give n named = unwrap_or (option_map (give n) named) []
+
+abbrev first_by : Setting → ℕ → Node → Option Rule → Node
+first_by c p n named = unwrap_or (option_map (λ k. (firing c p n k).node) named) n
 
 -- one more first, where the order names this rule or none
 one_more : (c : Setting) (w : World) (p times : ℕ) → ((v : World) → LeavesAlong c v p times (v.nodes p)) → (o : Option Rule) → enabled c.powers (w.nodes p).state ≡ o

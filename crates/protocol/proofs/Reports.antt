@@ -1,15 +1,16 @@
 -- A run's report tells each released body, and each decision in a journal but those that cuts added.
-use Rattle.std.proofs.Common.{◌≡◌, ℕ, suc, ◌+◌, inl, length, arith, true, false, cond, List, [], ◌∷◌, ◌++◌, map, reverse, flat_map, refl, sym, ◌∙◌, ap, ap₂, subst, Option, Some, None, append-nil, append_assoc, option_to_list, eqb-true}
+use Rattle.std.proofs.Common.{◌≡◌, ℕ, suc, ◌+◌, inl, length, arith, true, false, cond, List, [], ◌∷◌, ◌++◌, map, reverse, flat_map, refl, sym, ◌∙◌, ap, ap₂, subst, Option, Some, None, append-nil, append_assoc, option_to_list, eqb-true, Result}
 use Rattle.std.specs.Prelude.{◌==◌}
 use Rattle.std.proofs.lemmas.Bool.{cond_both}
 use Rattle.std.proofs.lemmas.Grind.{flat_map-append}
 use Rattle.std.proofs.lemmas.List.{reverse-append, map-append}
+use Rattle.transactions.specs.declared.fault.Fault.{Fault}
 use Rattle.messages.specs.Framing.{message_of}
 use Rattle.protocol.specs.Tags.{Setting}
-use Rattle.protocol.specs.Messages.{◌∈◌, Body, Record, Own, Decided}
+use Rattle.protocol.specs.Messages.{◌∈◌, Body, Message, Record, Own, Decided}
 use Rattle.protocol.specs.State.{Node, Rule, TimedOut}
 use Rattle.protocol.specs.Restart.{restart, opened, own_since}
-use Rattle.protocol.specs.Refusals.{Refusal, answer, refusal_number}
+use Rattle.protocol.specs.Refusals.{Refusal, refusal_of, refusal_number}
 use Rattle.protocol.specs.Calls.{timeout_answer}
 use Rattle.protocol.specs.Queues.{is_closed}
 use Rattle.protocol.specs.Arrivals.{Outcome, arrival}
@@ -76,23 +77,23 @@ joined_journals (Decided b ∷ new) old = ap (λ l. l ++ decision_of b ∷ []) (
 
 -- ---- bodies
 
-event_bodies : (c : Setting) (w : World) (e : Event) → (happens c w e).released ≡ flat_map body_in (tells c w e) ++ w.released
-event_bodies c w (Sends client op) = cond_both (is_closed client (w.sent client)) _ _ (λ (v : World). v.released ≡ w.released) (λ _. refl) (λ _. refl)
-event_bodies c w (Comes p bytes) = ap (λ l. l ++ w.released) (sym (told_bodies _ (arrival c p (w.nodes p) bytes)))
-event_bodies c w (Fires p k) = ap (λ l. l ++ w.released) (sym (told_bodies _ (tried c p (w.nodes p) k)))
-event_bodies c w (Asks p) = refl
-event_bodies c w (Resends p) = ap (λ l. l ++ w.released) (sym (released_bodies _))
-event_bodies c w (Restarts p cut) = refl
+event_bodies : (read : List ℕ → Result Message Fault) (c : Setting) (w : World) (e : Event) → (happens c w e).released ≡ flat_map body_in (tells read c w e) ++ w.released
+event_bodies read c w (Sends client op) = cond_both (is_closed client (w.sent client)) _ _ (λ (v : World). v.released ≡ w.released) (λ _. refl) (λ _. refl)
+event_bodies read c w (Comes p bytes) = ap (λ l. l ++ w.released) (sym (told_bodies _ (arrival c p (w.nodes p) bytes)))
+event_bodies read c w (Fires p k) = ap (λ l. l ++ w.released) (sym (told_bodies _ (tried c p (w.nodes p) k)))
+event_bodies read c w (Asks p) = refl
+event_bodies read c w (Resends p) = ap (λ l. l ++ w.released) (sym (released_bodies _))
+event_bodies read c w (Restarts p cut) = refl
 
-run_bodies : (c : Setting) (n : ℕ) (w : World) (es : List Event) → (run c w es).released ≡ flat_map bodies (reverse (by_event tells n c w es)) ++ w.released
-run_bodies c n w [] = refl
-run_bodies c n w (e ∷ es) =
-    let now = noted n (at_validator e) (tells c w e) in
-    let later = by_event tells (suc n) c (happens c w e) es in
-    let here : (happens c w e).released ≡ bodies now ++ w.released = event_bodies c w e ∙ ap (λ l. l ++ w.released) (sym (noted_bodies n (at_validator e) (tells c w e))) in
+run_bodies : (read : List ℕ → Result Message Fault) (c : Setting) (n : ℕ) (w : World) (es : List Event) → (run c w es).released ≡ flat_map bodies (reverse (by_event (tells read) n c w es)) ++ w.released
+run_bodies read c n w [] = refl
+run_bodies read c n w (e ∷ es) =
+    let now = noted n (at_validator e) (tells read c w e) in
+    let later = by_event (tells read) (suc n) c (happens c w e) es in
+    let here : (happens c w e).released ≡ bodies now ++ w.released = event_bodies read c w e ∙ ap (λ l. l ++ w.released) (sym (noted_bodies n (at_validator e) (tells read c w e))) in
     let parts : flat_map bodies (reverse (now ∷ later)) ≡ flat_map bodies (reverse later) ++ bodies now =
     ap (flat_map bodies) (reverse-append (now ∷ []) later) ∙ flat_map-append bodies (reverse later) (now ∷ []) ∙ ap (λ l. flat_map bodies (reverse later) ++ l) (append-nil (bodies now)) in
-    run_bodies c (suc n) (happens c w e) es
+    run_bodies read c (suc n) (happens c w e) es
     ∙ ap (λ l. flat_map bodies (reverse later) ++ l) here
     ∙ sym (append_assoc (flat_map bodies (reverse later)) (bodies now) w.released)
     ∙ ap (λ l. l ++ w.released) (sym parts)
@@ -115,39 +116,39 @@ at_moved p q n nodes after got whats grown named = cond_both (p == q) after (nod
     (λ e. sym (append-nil (decisions_in (nodes p).journal)) ∙ ap (λ l. decisions_in (nodes p).journal ++ l) (sym (noted_elsewhere p n (Some q) whats e)))
 
 -- what an event tells, and leaves untold
-abbrev both : Setting → World → Event → List What
-both c w e = tells c w e ++ untold c w e
+abbrev both : (List ℕ → Result Message Fault) → Setting → World → Event → List What
+both read c w e = tells read c w e ++ untold c w e
 
 told_alone : (r : Option Refusal) (o : Outcome) → flat_map decision_in (told_of r o ++ []) ≡ decisions_in (option_to_list o.wrote)
 told_alone r o = ap (flat_map decision_in) (append-nil (told_of r o)) ∙ told_decisions r o
 
-event_decisions : (c : Setting) (n : ℕ) (w : World) (e : Event) (p : ℕ)
-    → decisions_in ((happens c w e).nodes p).journal ≡ decisions_in (w.nodes p).journal ++ decisions p (noted n (at_validator e) (both c w e))
-event_decisions c n w (Sends client op) p =
+event_decisions : (read : List ℕ → Result Message Fault) (c : Setting) (n : ℕ) (w : World) (e : Event) (p : ℕ)
+    → decisions_in ((happens c w e).nodes p).journal ≡ decisions_in (w.nodes p).journal ++ decisions p (noted n (at_validator e) (both read c w e))
+event_decisions read c n w (Sends client op) p =
     cond_both (is_closed client (w.sent client)) _ _ (λ (v : World). decisions_in (v.nodes p).journal ≡ decisions_in (w.nodes p).journal) (λ _. refl) (λ _. refl)
     ∙ sym (append-nil (decisions_in (w.nodes p).journal))
-event_decisions c n w (Comes q bytes) p =
+event_decisions read c n w (Comes q bytes) p =
     let o = arrival c q (w.nodes q) bytes in
-    at_moved p q n w.nodes o.node (option_to_list o.wrote) _ (arrival_saves c q (w.nodes q) bytes) (told_alone (answer c q (w.nodes q) bytes) o)
-event_decisions c n w (Fires q k) p =
+    at_moved p q n w.nodes o.node (option_to_list o.wrote) _ (arrival_saves c q (w.nodes q) bytes) (told_alone (refusal_of c q (w.nodes q) (read bytes)) o)
+event_decisions read c n w (Fires q k) p =
     let o = tried c q (w.nodes q) k in
     at_moved p q n w.nodes o.node (option_to_list o.wrote) _ (tried_saves c q (w.nodes q) k) (told_alone (firing_answer (w.nodes q) k) o)
-event_decisions c n w (Asks q) p = at_moved p q n w.nodes (w.nodes q) [] (both c w (Asks q)) refl refl
-event_decisions c n w (Resends q) p = at_moved p q n w.nodes (w.nodes q) [] (both c w (Resends q)) refl (ap (flat_map decision_in) (append-nil (map Released (own_since q (w.nodes q).journal))) ∙ released_decisions (own_since q (w.nodes q).journal))
-event_decisions c n w (Restarts q cut) p =
+event_decisions read c n w (Asks q) p = at_moved p q n w.nodes (w.nodes q) [] (both read c w (Asks q)) refl refl
+event_decisions read c n w (Resends q) p = at_moved p q n w.nodes (w.nodes q) [] (both read c w (Resends q)) refl (ap (flat_map decision_in) (append-nil (map Released (own_since q (w.nodes q).journal))) ∙ released_decisions (own_since q (w.nodes q).journal))
+event_decisions read c n w (Restarts q cut) p =
     let got = cut_record c q (w.nodes q) cut in
-    at_moved p q n w.nodes (opened q (got ++ (w.nodes q).journal)) got (both c w (Restarts q cut)) refl (named_decisions (decisions_in got))
+    at_moved p q n w.nodes (opened q (got ++ (w.nodes q).journal)) got (both read c w (Restarts q cut)) refl (named_decisions (decisions_in got))
 
 joined_decisions : (p : ℕ) (part : List Told) (parts : List (List Told)) → decisions p (joined (part ∷ parts)) ≡ decisions p part ++ decisions p (joined parts)
 joined_decisions p part parts = flat_map-append _ part (joined parts)
 
-run_decisions : (c : Setting) (n : ℕ) (w : World) (es : List Event) (p : ℕ) → decisions_in ((run c w es).nodes p).journal ≡ decisions_in (w.nodes p).journal ++ decisions p (joined (by_event both n c w es))
-run_decisions c n w [] p = sym (append-nil (decisions_in (w.nodes p).journal))
-run_decisions c n w (e ∷ es) p =
-    let now = noted n (at_validator e) (both c w e) in
-    let later = by_event both (suc n) c (happens c w e) es in
-    run_decisions c (suc n) (happens c w e) es p
-    ∙ ap (λ l. l ++ decisions p (joined later)) (event_decisions c n w e p)
+run_decisions : (read : List ℕ → Result Message Fault) (c : Setting) (n : ℕ) (w : World) (es : List Event) (p : ℕ) → decisions_in ((run c w es).nodes p).journal ≡ decisions_in (w.nodes p).journal ++ decisions p (joined (by_event (both read) n c w es))
+run_decisions read c n w [] p = sym (append-nil (decisions_in (w.nodes p).journal))
+run_decisions read c n w (e ∷ es) p =
+    let now = noted n (at_validator e) (both read c w e) in
+    let later = by_event (both read) (suc n) c (happens c w e) es in
+    run_decisions read c (suc n) (happens c w e) es p
+    ∙ ap (λ l. l ++ decisions p (joined later)) (event_decisions read c n w e p)
     ∙ append_assoc (decisions_in (w.nodes p).journal) (decisions p now) (decisions p (joined later))
     ∙ ap (λ l. decisions_in (w.nodes p).journal ++ l) (sym (joined_decisions p now later))
 
@@ -164,16 +165,16 @@ nothing_later (x ∷ xs) ys e = absurd (cc)
 noted_decisions : (p n : ℕ) (v : Option ℕ) (a b : List What) → decisions p (noted n v (a ++ b)) ≡ decisions p (noted n v a) ++ decisions p (noted n v b)
 noted_decisions p n v a b = ap (decisions p) (map-append _ a b) ∙ flat_map-append _ (noted n v a) (noted n v b)
 
-all_told : (c : Setting) (n : ℕ) (w : World) (es : List Event) (p : ℕ) → decisions p (joined (by_event untold n c w es)) ≡ [] → decisions p (joined (by_event both n c w es)) ≡ decisions p (joined (by_event tells n c w es))
-all_told c n w [] p none = refl
-all_told c n w (e ∷ es) p none =
+all_told : (read : List ℕ → Result Message Fault) (c : Setting) (n : ℕ) (w : World) (es : List Event) (p : ℕ) → decisions p (joined (by_event untold n c w es)) ≡ [] → decisions p (joined (by_event (both read) n c w es)) ≡ decisions p (joined (by_event (tells read) n c w es))
+all_told read c n w [] p none = refl
+all_told read c n w (e ∷ es) p none =
     let v = at_validator e in
     let split = sym (joined_decisions p (noted n v (untold c w e)) (by_event untold (suc n) c (happens c w e) es)) ∙ none in
     let first = nothing_first _ _ split in
-    let later = all_told c (suc n) (happens c w e) es p (nothing_later _ _ split) in
-    joined_decisions p (noted n v (both c w e)) (by_event both (suc n) c (happens c w e) es)
-    ∙ ap₂ (λ (a b : List Decision). a ++ b) (noted_decisions p n v (tells c w e) (untold c w e) ∙ ap (λ l. decisions p (noted n v (tells c w e)) ++ l) first ∙ append-nil _) later
-    ∙ sym (joined_decisions p (noted n v (tells c w e)) (by_event tells (suc n) c (happens c w e) es))
+    let later = all_told read c (suc n) (happens c w e) es p (nothing_later _ _ split) in
+    joined_decisions p (noted n v (both read c w e)) (by_event (both read) (suc n) c (happens c w e) es)
+    ∙ ap₂ (λ (a b : List Decision). a ++ b) (noted_decisions p n v (tells read c w e) (untold c w e) ∙ ap (λ l. decisions p (noted n v (tells read c w e)) ++ l) first ∙ append-nil _) later
+    ∙ sym (joined_decisions p (noted n v (tells read c w e)) (by_event (tells read) (suc n) c (happens c w e) es))
 
 -- ---- refusals
 
@@ -182,28 +183,28 @@ told_in n v r None rest e = absurd (cc)
 told_in n v r (Some s) rest e = inl (let f : s ≡ r = cc in ap (λ a. record { event = n; validator = v; what = Answered (refusal_number a) }) (sym f))
 
 -- what an event tells is in the report, with the event's number
-in_report : (c : Setting) (t : Told) (n : ℕ) (w : World) (early late : List Event) (e : Event) → t ∈ noted (n + length early) (at_validator e) (tells c (run c w early) e) → t ∈ joined (by_event tells n c w (early ++ e ∷ late))
-in_report c t n w [] late e i = in_left t (noted n (at_validator e) (tells c w e)) _ (subst (λ k. t ∈ noted k (at_validator e) (tells c w e)) (omega arith) i)
-in_report c t n w (x ∷ early) late e i = in_right t (noted n (at_validator x) (tells c w x)) _
-    (in_report c t (suc n) (happens c w x) early late e (subst (λ k. t ∈ noted k (at_validator e) (tells c (run c (happens c w x) early) e)) (omega arith) i))
+in_report : (read : List ℕ → Result Message Fault) (c : Setting) (t : Told) (n : ℕ) (w : World) (early late : List Event) (e : Event) → t ∈ noted (n + length early) (at_validator e) (tells read c (run c w early) e) → t ∈ joined (by_event (tells read) n c w (early ++ e ∷ late))
+in_report read c t n w [] late e i = in_left t (noted n (at_validator e) (tells read c w e)) _ (subst (λ k. t ∈ noted k (at_validator e) (tells read c w e)) (omega arith) i)
+in_report read c t n w (x ∷ early) late e i = in_right t (noted n (at_validator x) (tells read c w x)) _
+    (in_report read c t (suc n) (happens c w x) early late e (subst (λ k. t ∈ noted k (at_validator e) (tells read c (run c (happens c w x) early) e)) (omega arith) i))
 
-refusals_told : (c : Setting) → RefusalsTold c
-refusals_told c early late p r =
+refusals_told : (read : List ℕ → Result Message Fault) (c : Setting) → RefusalsTold read c
+refusals_told read c early late p r =
     let n : Node = (run c (beginning c) early).nodes p in
     let told : Told = record { event = suc (length early); validator = Some p; what = Answered (refusal_number r) } in
-    let at : (e : Event) → told ∈ noted (suc (length early)) (at_validator e) (tells c (run c (beginning c) early) e) → told ∈ report c (beginning c) (early ++ e ∷ late) =
-    λ e i. in_report c told 1 (beginning c) early late e (subst (λ k. told ∈ noted k (at_validator e) (tells c (run c (beginning c) early) e)) (omega arith) i) in (
-      λ bytes e. at (Comes p bytes) (told_in (suc (length early)) (Some p) r (answer c p n bytes) _ e),
+    let at : (e : Event) → told ∈ noted (suc (length early)) (at_validator e) (tells read c (run c (beginning c) early) e) → told ∈ report read c (beginning c) (early ++ e ∷ late) =
+    λ e i. in_report read c told 1 (beginning c) early late e (subst (λ k. told ∈ noted k (at_validator e) (tells read c (run c (beginning c) early) e)) (omega arith) i) in (
+      λ bytes e. at (Comes p bytes) (told_in (suc (length early)) (Some p) r (refusal_of c p n (read bytes)) _ e),
       λ t e. at (Fires p (TimedOut t)) (told_in (suc (length early)) (Some p) r (timeout_answer n.state t) _ e),
     )
 
 pub report_law : ReportLaw
 unfolding restart
-report_law c events =
+report_law read c events =
     let w = beginning c in
-    let all : (p : ℕ) → decisions_in ((run c w events).nodes p).journal ≡ decisions p (joined (by_event both 1 c w events)) = λ p. run_decisions c 1 w events p in (
-      run_bodies c 1 w events ∙ append-nil _,
+    let all : (p : ℕ) → decisions_in ((run c w events).nodes p).journal ≡ decisions p (joined (by_event (both read) 1 c w events)) = λ p. run_decisions read c 1 w events p in (
+      run_bodies read c 1 w events ∙ append-nil _,
       all,
-      λ p none. all p ∙ all_told c 1 w events p none,
-      refusals_told c,
+      λ p none. all p ∙ all_told read c 1 w events p none,
+      refusals_told read c,
     )

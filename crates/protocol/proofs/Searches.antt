@@ -1,5 +1,5 @@
 -- What the searches for the lowest and the highest round find, that it is the lowest and the highest, and when they find nothing.
-use Rattle.std.proofs.Common.{◌≡◌, ℕ, ◌<◌, ◌≤◌, ◌⊎◌, inl, inr, Bool, true, false, cond, ◌&&◌, List, [], ◌∷◌, refl, sym, ◌∙◌, ap, subst, arith, Option, Some, None, max, fold, option_map, ltb-true, ltb-false}
+use Rattle.std.proofs.Common.{◌≡◌, ℕ, zero, suc, ◌<◌, ◌≤◌, ◌⊎◌, inl, inr, Bool, true, false, cond, ◌&&◌, List, [], ◌∷◌, refl, sym, ◌∙◌, ap, subst, arith, Option, Some, None, max, fold, find, take, drop, option_map, ltb-true, ltb-false}
 use Rattle.std.proofs.lemmas.Bool.{and_parts, and_from, cases_Bool, cond_both, cases_lt}
 use Rattle.protocol.specs.Messages.{◌∈◌, Proposal}
 use Rattle.protocol.specs.Order.{is_sooner, sooner, soonest, higher, highest}
@@ -96,6 +96,38 @@ least_from test best (x ∷ qs) y e = cond_both (test x && is_sooner x best) (So
 
 pub soonest_least : (test : Proposal → Bool) (qs : List Proposal) (y : Proposal) → soonest test qs ≡ Some y → (x : Proposal) → x ∈ qs → test x ≡ true → y.round ≤ x.round
 soonest_least test qs y e = (least_from test None qs y e).each
+
+-- ---- among the first n
+
+-- the best so far stays, or gives way to one of a lower round
+sooner_than : (test : Proposal → Bool) (b : Proposal) (qs : List Proposal) (a : Proposal) → fold (sooner test) (Some b) qs ≡ Some a → (b ≡ a) ⊎ (a.round < b.round)
+sooner_than test b [] a e = inl cc
+sooner_than test b (x ∷ qs) a e = cond_both (test x && is_sooner x (Some b)) (Some x) (Some b) (λ o. fold (sooner test) o qs ≡ Some a → (b ≡ a) ⊎ (a.round < b.round))
+    (λ t k. let low : x.round < b.round = ltb-true x.round b.round (and_parts (test x) (is_sooner x (Some b)) t).1 in elim (sooner_than test x qs a k) [
+      | inl same ↦ inr (subst (λ (q : Proposal). q.round < b.round) same low)
+      | inr lower ↦ inr (omega arith)
+    ])
+    (λ _ k. sooner_than test b qs a k) e
+
+soonest_split : (test : Proposal → Bool) (best : Option Proposal) (n : ℕ) (qs : List Proposal) → fold (sooner test) best qs ≡ fold (sooner test) (fold (sooner test) best (take n qs)) (drop n qs)
+soonest_split test best zero qs = refl
+soonest_split test best (suc n) [] = refl
+soonest_split test best (suc n) (x ∷ qs) = soonest_split test (sooner test best x) n qs
+
+-- the soonest of the first n is the soonest of all, where they are of one round
+pub soonest_first : (test : Proposal → Bool) (n : ℕ) (qs : List Proposal) (b a : Proposal) → soonest test (take n qs) ≡ Some b → soonest test qs ≡ Some a → b.round ≤ a.round → b ≡ a
+soonest_first test n qs b a early now le =
+    let k : fold (sooner test) (Some b) (drop n qs) ≡ Some a = subst (λ o. fold (sooner test) o (drop n qs) ≡ Some a) early (sym (soonest_split test None n qs) ∙ now) in
+    elim (sooner_than test b (drop n qs) a k) [ inl same ↦ same | inr lower ↦ absurd (omega arith) ]
+
+-- what is found among the first n is found among all
+pub find_first : (test : Proposal → Bool) (n : ℕ) (qs : List Proposal) → (find test (take n qs) ≡ None) ⊎ (find test (take n qs) ≡ find test qs)
+find_first test zero qs = inl refl
+find_first test (suc n) [] = inl refl
+find_first test (suc n) (x ∷ qs) = elim (cases_Bool (test x)) [
+  | inl t ↦ inr (rw t refl)
+  | inr f ↦ elim (find_first test n qs) [ inl none ↦ inl (rw f none) | inr same ↦ inr (rw f same) ]
+]
 
 -- ---- the highest
 

@@ -4,7 +4,7 @@ use Rattle.transactions.specs.declared.fault.Fault.{Fault}
 use Rattle.messages.specs.Framing.{message_of}
 use Rattle.protocol.specs.Values.{Id}
 use Rattle.protocol.specs.Tags.{Setting}
-use Rattle.protocol.specs.Messages.{Step, Propose, Prevote, Precommit, step_of_vote, Body, OfTx, OfProposal, OfVote, OfAsk, OfBundle, Message, Record, Own, Decided}
+use Rattle.protocol.specs.Messages.{Step, Precommit, step_of_vote, Body, OfTx, OfProposal, OfVote, OfAsk, OfBundle, Message, Record, Own, Decided}
 use Rattle.protocol.specs.State.{State, Stamp, Queue, Node, Rule, Decide, DecideByBundle}
 use Rattle.protocol.specs.Rules.{saved, fired, released_by, keeping}
 use Rattle.protocol.specs.Queues.{pick, queued, drop_delivered}
@@ -24,9 +24,7 @@ nothing n = record { node = n; wrote = None; out = [] }
 -- a precommit for a value keeps its tags
 abbrev pub stamp_of : Step → ℕ → ℕ → Option Id → List (List ℕ) → List Stamp
 stamp_of Precommit round sender (Some x) tags = record { round = round; id = x; signed = record { sender = sender; tags = tags } } ∷ []
-stamp_of Precommit round sender None tags = []
-stamp_of Prevote round sender content tags = []
-stamp_of Propose round sender content tags = []
+stamp_of _ round sender _ tags = []
 
 -- a proposal or a vote is kept
 abbrev pub kept_message : State → Message → Body → State

@@ -1,5 +1,5 @@
 -- What a node's calls leave beside it: the bodies that it releases, and the timeouts that it schedules.
-use Rattle.std.specs.Prelude.{ℕ, zero, suc, cond, Option, Some, None, List, [], ◌∷◌, ◌++◌, option_to_list}
+use Rattle.std.specs.Prelude.{ℕ, zero, suc, cond, List, [], ◌∷◌, ◌++◌, option_to_list, option_map, unwrap_or}
 use Rattle.protocol.specs.Tags.{Setting}
 use Rattle.protocol.specs.Messages.{Body, Bundle, Record, Own, Decided}
 use Rattle.protocol.specs.State.{Node, Rule, Timeout, TimedOut}
@@ -33,13 +33,9 @@ timeouts_taken c p n (Due t) = cond (holds (context c p) n.state (TimedOut t)) (
 
 -- ---- of the first enabled rules, this many times
 
-abbrev pub by_rule : {X : Type 0} → (Node → Rule → List X) → Node → Option Rule → List X
-by_rule give n None = []
-by_rule give n (Some k) = give n k
-
 abbrev pub along : {X : Type 0} → (Node → Rule → List X) → Setting → ℕ → ℕ → Node → List X
 along give c p zero n = []
-along give c p (suc times) n = by_rule give n (enabled c.powers n.state) ++ along give c p times (first c p n)
+along give c p (suc times) n = unwrap_or (option_map (give n) (enabled c.powers n.state)) [] ++ along give c p times (first c p n)
 
 -- ---- of a call: its input, and then this many firings
 

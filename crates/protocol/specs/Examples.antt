@@ -1,17 +1,19 @@
 -- Worked runs and cases of four validators of power 1. The tags and ids are written out, as another program computed them.
 use Rattle.std.specs.Prelude.{◌≡◌, ℕ, ◌-◌, true, false, Option, Some, None, List, [], ◌∷◌, ◌++◌, ◌==◌, replicate, map, option_map}
 use Rattle.transactions.specs.Fields.{number_bytes}
-use Rattle.messages.specs.Framing.{frame_spelling}
+use Rattle.messages.specs.Framing.{message_of, frame_spelling}
 use Rattle.protocol.specs.Values.{Id, Tx, Bytes, Close, Value, Item, id, item, valid}
 use Rattle.protocol.specs.Tags.{Setting, Party, Validator, Client}
 use Rattle.protocol.specs.Messages.{Step, Propose, Prevote, Precommit, Vote, prevote, precommit, Signed, Bundle, Body, OfTx, OfProposal, OfVote, OfAsk, OfBundle, Record, Own, Decided, Proposing, Prevoting, Precommitting}
 use Rattle.protocol.specs.Tally.{power_for, power_any, power_above}
 use Rattle.protocol.specs.State.{State, ValueAt, Timeout, Node, Start, PrevoteFresh, PrevoteAgain, Lock, Decide, DecideByBundle, TimedOut}
 use Rattle.protocol.specs.Rules.{saved, holds}
-use Rattle.protocol.specs.Restart.{restart, opened, delivered_of}
+use Rattle.protocol.specs.Restart.{restart, opened, own_since, delivered_of}
 use Rattle.protocol.specs.Refusals.{context, answer, refusal_number, WrongDigest, BadTag, first_cause, judge_causes}
 use Rattle.protocol.specs.Calls.{timeout_answer, call_answer, call_number}
-use Rattle.protocol.specs.World.{Event, Comes, Fires, Asks, Restarts, beginning, run}
+use Rattle.protocol.specs.Queues.{pick}
+use Rattle.protocol.specs.Arrivals.{firing, replies}
+use Rattle.protocol.specs.World.{Event, InFiring, Sends, Comes, Fires, Asks, Resends, Restarts, beginning, run}
 use Rattle.protocol.specs.Reports.{What, Answered, DecidedAt, Released, Told, report}
 use Rattle.protocol.specs.Order.{enabled}
 
@@ -225,6 +227,28 @@ Ends = (option_map refusal_number (timeout_answer at_limit (ending 1000000)) ≡
 abbrev pub Halts : Type 0
 Halts = (option_map call_number (call_answer true (Some BadTag)) ≡ Some (15, 0)) × (option_map call_number (call_answer false (Some BadTag)) ≡ Some (6, 0)) × (call_answer false None ≡ None)
 
+-- validator 0 where the client's transaction waits
+abbrev pub asked : Node
+asked = record (opened 0 []) { queues = record { client = 5; waiting = hello ∷ [] } ∷ [] }
+
+-- that transaction decided, by nobody's precommits
+abbrev pub greeted : Bundle
+greeted = record { height = 0; sender = 1; round = 0; id = greeting_id; value = greeting; precommits = [] }
+
+-- A proposer picks what waits, and what a decision delivers waits no more.
+abbrev pub Picks : Type 0
+Picks = (pick asked.queues ≡ greeting) × ((firing four 0 asked (DecideByBundle greeted)).node.queues ≡ record { client = 5; waiting = [] } ∷ [])
+
+-- An ask is answered by the decision of its height.
+abbrev pub Answers : Type 0
+Answers = replies (opened 0 (Decided greeted ∷ [])) (OfAsk (record { height = 0; sender = 1 })) ≡ OfBundle greeted ∷ []
+
+-- A client's first item is sent. Own messages are sent again, the oldest first, also the one whose save a stop cut.
+abbrev pub Sent : Type 0
+Sent = ((run four (beginning four) (Sends 5 Close ∷ [])).sent 5 ≡ record { client = 5; number = 1; op = Close } ∷ [])
+    × ((run four (beginning four) (Restarts 0 (Some (InFiring Start)) ∷ Resends 0 ∷ [])).released ≡ proposal 0 None empty ∷ [])
+    × (own_since 0 (Own 0 0 (Prevoting None) ∷ Own 0 0 (Proposing None empty) ∷ []) ≡ proposal 0 None empty ∷ OfVote (prevote 0 0 0 None) ∷ [])
+
 -- ---- a report
 
 -- A validator with all the power decides the empty value, gets bytes that are no frame, and asks for its next height.
@@ -239,7 +263,7 @@ told_at event what = record { event = event; validator = Some 0; what = what }
 
 -- Each event tells one thing: a proposal, two votes, the decision, the refusal, the ask.
 abbrev pub Reports : Type 0
-Reports = report lone (beginning lone) reporting
+Reports = report message_of lone (beginning lone) reporting
     ≡ told_at 1 (Released (proposal 0 None empty)) ∷ told_at 2 (Released (OfVote (prevote 0 0 0 (Some empty_id)))) ∷ told_at 3 (Released (OfVote (precommit 0 0 0 (Some empty_id))))
     ∷ told_at 4 (DecidedAt 0 0 empty_id) ∷ told_at 5 (Answered (1, 0)) ∷ told_at 6 (Released (OfAsk (record { height = 1; sender = 0 }))) ∷ []
 
@@ -249,4 +273,4 @@ abbrev pub WorkedRuns : Type 0
 WorkedRuns = Decides × Relocks × Bundles × Reports
 
 abbrev pub WorkedCases : Type 0
-WorkedCases = Tallies × Holds × Orders × Waits × Starts × Refuses × Takes × Judges × Ends × Halts
+WorkedCases = Tallies × Holds × Orders × Waits × Starts × Refuses × Takes × Judges × Ends × Halts × Picks × Answers × Sent

@@ -1,18 +1,14 @@
 -- A node's history: what came to it, and how often a rule fired after each.
-use Rattle.std.specs.Prelude.{ℕ, zero, suc, Option, Some, None, List, [], ◌∷◌}
+use Rattle.std.specs.Prelude.{ℕ, zero, suc, option_map, unwrap_or, List, [], ◌∷◌}
 use Rattle.protocol.specs.Tags.{Setting}
-use Rattle.protocol.specs.State.{Rule, Timeout, Node, TimedOut}
+use Rattle.protocol.specs.State.{Timeout, Node, TimedOut}
 use Rattle.protocol.specs.Order.{enabled}
 use Rattle.protocol.specs.Arrivals.{arrival, firing}
 use Rattle.protocol.specs.World.{tried}
 
 -- the node after its first enabled rule has fired
-abbrev pub first_by : Setting → ℕ → Node → Option Rule → Node
-first_by c p n None = n
-first_by c p n (Some k) = (firing c p n k).node
-
 abbrev pub first : Setting → ℕ → Node → Node
-first c p n = first_by c p n (enabled c.powers n.state)
+first c p n = unwrap_or (option_map (λ k. (firing c p n k).node) (enabled c.powers n.state)) n
 
 abbrev pub firsts : Setting → ℕ → ℕ → Node → Node
 firsts c p zero n = n

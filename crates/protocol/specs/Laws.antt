@@ -1,7 +1,8 @@
 -- The theorems.
-use Rattle.std.specs.Prelude.{◌≡◌, ℕ, suc, ◌+◌, ◌*◌, ◌^◌, ◌<◌, ◌≤◌, Ok, ◌≢◌, Bool, true, false, cond, not, ◌&&◌, Option, Some, None, ◌⊎◌, ◌↔◌, List, [], ◌∷◌, ◌++◌, length, map, flat_map, reverse}
+use Rattle.std.specs.Prelude.{◌≡◌, ℕ, suc, ◌+◌, ◌*◌, ◌^◌, ◌<◌, ◌≤◌, Result, Ok, ◌≢◌, Bool, true, false, cond, not, ◌&&◌, Option, Some, None, ◌⊎◌, ◌↔◌, List, [], ◌∷◌, ◌++◌, length, map, flat_map, reverse}
 use Rattle.std.specs.List.{AllByRecursion}
 use Rattle.powers.specs.Power.{FewLie, IsQuorum}
+use Rattle.transactions.specs.declared.fault.Fault.{Fault}
 use Rattle.messages.specs.Grammar.{body_spelling, IsBody}
 use Rattle.messages.specs.Framing.{message_of, frame_spelling, IsMessage, SpellsFrame}
 use Rattle.protocol.specs.Values.{Id, Value, id, Item, of, in_turn}
@@ -10,7 +11,7 @@ use Rattle.protocol.specs.Messages.{◌∈◌, Body, sender_of, tagged, Message,
 use Rattle.protocol.specs.Restart.{height_of, delivered_of, lock_of, last_place}
 use Rattle.protocol.specs.State.{State, Node, Timeout, DecideByBundle, TimedOut}
 use Rattle.protocol.specs.Rules.{holds}
-use Rattle.protocol.specs.Refusals.{Refusal, RoundLimit, answer, refusal_number, context, first_cause, judge_causes, named_senders, bundle_senders}
+use Rattle.protocol.specs.Refusals.{Refusal, RoundLimit, answer, refusal_of, refusal_number, context, first_cause, judge_causes, named_senders, bundle_senders}
 use Rattle.protocol.specs.Calls.{timeout_answer}
 use Rattle.protocol.specs.Arrivals.{arrival, nothing}
 use Rattle.protocol.specs.World.{World, Event, Comes, Fires, beginning, happens, is_bundles, run, tried, delivered}
@@ -170,22 +171,22 @@ TimeoutLaw = (c : Setting) (p : ℕ) (n : Node) (t : Timeout) →
     × (IsRoundEnd n.state t → holds (context c p) n.state (TimedOut t) ≡ false → timeout_answer n.state t ≡ Some RoundLimit)
     × (holds (context c p) n.state (TimedOut t) ≡ false → tried c p n (TimedOut t) ≡ nothing n)
 
--- Each refusal of bytes, or of a timeout, is told at its event and validator.
-abbrev pub RefusalsTold : Setting → Type 0
-RefusalsTold c = (early late : List Event) (p : ℕ) (r : Refusal) →
+-- Each refusal of bytes, or of a timeout, is told at its event and validator, however bytes are read.
+abbrev pub RefusalsTold : (List ℕ → Result Message Fault) → Setting → Type 0
+RefusalsTold read c = (early late : List Event) (p : ℕ) (r : Refusal) →
     let n : Node = (run c (beginning c) early).nodes p in
     let told : Told = record { event = suc (length early); validator = Some p; what = Answered (refusal_number r) } in
-    ((bytes : List ℕ) → answer c p n bytes ≡ Some r → told ∈ report c (beginning c) (early ++ Comes p bytes ∷ late))
-    × ((t : Timeout) → timeout_answer n.state t ≡ Some r → told ∈ report c (beginning c) (early ++ Fires p (TimedOut t) ∷ late))
+    ((bytes : List ℕ) → refusal_of c p n (read bytes) ≡ Some r → told ∈ report read c (beginning c) (early ++ Comes p bytes ∷ late))
+    × ((t : Timeout) → timeout_answer n.state t ≡ Some r → told ∈ report read c (beginning c) (early ++ Fires p (TimedOut t) ∷ late))
 
 -- The bodies of a report are the world's released ones: in it the newest event's come first.
 -- A journal's decisions are, in order, those that the report tells of its validator, and those that a restart's cut added; so where no cut added one, they are those told.
 abbrev pub ReportLaw : Type 0
-ReportLaw = (c : Setting) (events : List Event) →
-    ((run c (beginning c) events).released ≡ flat_map bodies (reverse (by_event tells 1 c (beginning c) events)))
-    × ((p : ℕ) → decisions_in ((run c (beginning c) events).nodes p).journal ≡ decisions p (account c (beginning c) events))
-    × ((p : ℕ) → decisions p (unreported c (beginning c) events) ≡ [] → decisions_in ((run c (beginning c) events).nodes p).journal ≡ decisions p (report c (beginning c) events))
-    × RefusalsTold c
+ReportLaw = (read : List ℕ → Result Message Fault) (c : Setting) (events : List Event) →
+    ((run c (beginning c) events).released ≡ flat_map bodies (reverse (by_event (tells read) 1 c (beginning c) events)))
+    × ((p : ℕ) → decisions_in ((run c (beginning c) events).nodes p).journal ≡ decisions p (account read c (beginning c) events))
+    × ((p : ℕ) → decisions p (unreported c (beginning c) events) ≡ [] → decisions_in ((run c (beginning c) events).nodes p).journal ≡ decisions p (report read c (beginning c) events))
+    × RefusalsTold read c
 
 -- A body whose fields are in range is a message with its tags, for 1 to 64 validators: its frame is read again, and each receiver finds its tag right.
 abbrev pub TaggedLaw : Type 0

@@ -1,8 +1,8 @@
 -- The one order in which the code fires rules: the first stage that names a rule names the next one.
-use Rattle.std.specs.Prelude.{◌≡◌, ℕ, ◌<◌, ◌^◌, Bool, true, false, cond, not, ◌&&◌, Option, Some, None, List, ◌++◌, map, find, option_map, is_none, nat_lt, max, fold}
+use Rattle.std.specs.Prelude.{◌≡◌, ℕ, ◌<◌, ◌^◌, Bool, true, false, cond, not, ◌&&◌, Option, Some, None, List, ◌++◌, map, find, option_map, is_none, nat_lt, max, fold, take}
 use Rattle.protocol.specs.Values.{Value, id, valid}
 use Rattle.protocol.specs.Messages.{Propose, Prevote, Precommit, step_eq, Proposal, Vote}
-use Rattle.protocol.specs.State.{Context, State, Rule, Start, PrevoteFresh, PrevoteAgain, AwaitPrevotes, Lock, PrecommitNil, AwaitPrecommits, Decide, DecideByBundle, SkipRound, TimedOut}
+use Rattle.protocol.specs.State.{Context, State, Rule, Start, PrevoteFresh, PrevoteAgain, AwaitPrevotes, Lock, PrecommitNil, AwaitPrecommits, Decide, SkipRound}
 use Rattle.protocol.specs.Rules.{holds, stands_at, quorum_for, quorum_any, weak_at}
 
 -- ---- the lowest and the highest
@@ -104,28 +104,6 @@ enabled powers s =
     (or_next (awaiting_prevotes powers s)
     (awaiting_precommits powers s))))))))
 
--- a rule that needs no timeout and no bundle
-abbrev pub IsInternal : Rule → Type 0
-IsInternal (DecideByBundle b) = ⊥
-IsInternal (TimedOut t) = ⊥
-IsInternal Start = Unit {0}
-IsInternal (PrevoteFresh v) = Unit {0}
-IsInternal (PrevoteAgain r v) = Unit {0}
-IsInternal AwaitPrevotes = Unit {0}
-IsInternal (Lock v) = Unit {0}
-IsInternal PrecommitNil = Unit {0}
-IsInternal AwaitPrecommits = Unit {0}
-IsInternal (Decide r v) = Unit {0}
-IsInternal (SkipRound r) = Unit {0}
-
--- where the order names no rule, none holds but a timeout's or a bundle's
-abbrev pub QuietLaw : Type 0
-QuietLaw = (g : Context) (s : State) → enabled g.powers s ≡ None → (k : Rule) → IsInternal k → holds g s k ≡ false
-
--- a rule that the order names holds
-abbrev pub EnabledLaw : Type 0
-EnabledLaw = (g : Context) (s : State) (k : Rule) → enabled g.powers s ≡ Some k → holds g s k ≡ true
-
 -- ---- the order, said without the stages
 
 -- the place of a rule's row; a timeout's and a bundle's rules have none
@@ -139,8 +117,7 @@ row (Lock v) = 5
 row PrecommitNil = 6
 row AwaitPrevotes = 7
 row AwaitPrecommits = 8
-row (DecideByBundle b) = 9
-row (TimedOut t) = 9
+row _ = 9
 
 -- The lower round decides first, the higher round is skipped to first, and otherwise the earlier row is first.
 abbrev pub comes_before : Rule → Rule → Bool
@@ -148,6 +125,20 @@ comes_before (Decide r v) (Decide q u) = nat_lt r q
 comes_before (SkipRound r) (SkipRound q) = nat_lt q r
 comes_before j k = nat_lt (row j) (row k)
 
--- no rule that comes before the one that the order names holds
+-- as it was when n proposals were kept
+abbrev pub with_first : ℕ → State → State
+with_first n s = record s { proposals = take n s.proposals }
+
+-- where the order names no rule, none holds but a timeout's or a bundle's
+abbrev pub QuietLaw : Type 0
+QuietLaw = (g : Context) (s : State) → enabled g.powers s ≡ None → (k : Rule) → row k < 9 → holds g s k ≡ false
+
+-- a rule that the order names is neither a timeout's nor a bundle's, and holds
+abbrev pub EnabledLaw : Type 0
+EnabledLaw = (g : Context) (s : State) (k : Rule) → enabled g.powers s ≡ Some k → (row k < 9) × (holds g s k ≡ true)
+
+-- No rule that comes before the one that the order names holds. Of rules of which neither comes before the other, it is the one whose proposal was kept first: it holds as soon as one of them does.
 abbrev pub FirstLaw : Type 0
-FirstLaw = (g : Context) (s : State) (j k : Rule) → enabled g.powers s ≡ Some k → row j < 9 → comes_before j k ≡ true → holds g s j ≡ false
+FirstLaw = (g : Context) (s : State) (j k : Rule) → enabled g.powers s ≡ Some k →
+    (comes_before j k ≡ true → holds g s j ≡ false)
+    × (comes_before j k ≡ false → comes_before k j ≡ false → (n : ℕ) → holds g (with_first n s) j ≡ true → holds g (with_first n s) k ≡ true)

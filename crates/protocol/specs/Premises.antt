@@ -5,8 +5,8 @@ use Rattle.messages.specs.Grammar.{body_spelling}
 use Rattle.messages.specs.Framing.{message_of}
 use Rattle.protocol.specs.Values.{Tx, Value, Item, item, id}
 use Rattle.protocol.specs.Tags.{Setting, Party, Validator, Client, right}
-use Rattle.protocol.specs.Messages.{◌∈◌, precommit, Signed, Bundle, Body, OfTx, OfProposal, OfVote, OfBundle, Message, Record, Proposing, Prevoting, Precommitting, Own, Decided, own_body, sender_of}
-use Rattle.protocol.specs.World.{World, Event, InArrival, InFiring, Sends, Comes, Fires, Asks, Resends, Restarts, beginning, happens, run}
+use Rattle.protocol.specs.Messages.{◌∈◌, precommit, Signed, Bundle, Body, OfTx, OfProposal, OfVote, OfBundle, Message, Record, Proposing, Precommitting, Own, Decided, own_body, sender_of}
+use Rattle.protocol.specs.World.{World, Event, InArrival, Sends, Comes, Fires, Asks, Resends, Restarts, beginning, happens, run}
 
 -- which validators lie, and which clients are correct
 pub record Honesty : Type 0 where
@@ -47,12 +47,7 @@ MessageUnforged c h w p (Err fault) = Unit {0}
 abbrev pub EventUnforged : Setting → Honesty → World → Event → Type 0
 EventUnforged c h w (Comes p bytes) = MessageUnforged c h w p (message_of bytes)
 EventUnforged c h w (Restarts p (Some (InArrival bytes))) = MessageUnforged c h w p (message_of bytes)
-EventUnforged c h w (Restarts p (Some (InFiring k))) = Unit {0}
-EventUnforged c h w (Restarts p None) = Unit {0}
-EventUnforged c h w (Fires p k) = Unit {0}
-EventUnforged c h w (Sends client op) = Unit {0}
-EventUnforged c h w (Asks p) = Unit {0}
-EventUnforged c h w (Resends p) = Unit {0}
+EventUnforged c h w _ = Unit {0}
 
 -- events happen at correct validators, and each is unforged
 abbrev pub at_validator : Event → Option ℕ
@@ -78,9 +73,8 @@ Unforged c h w (e ∷ es) = AtCorrect c h (at_validator e) × EventUnforged c h 
 abbrev pub RecordHas : Value → Record → Type 0
 RecordHas v (Own h r (Proposing vr u)) = u ≡ v
 RecordHas v (Own h r (Precommitting (Some u))) = u ≡ v
-RecordHas v (Own h r (Precommitting None)) = ⊥
-RecordHas v (Own h r (Prevoting x)) = ⊥
 RecordHas v (Decided b) = b.value ≡ v
+RecordHas v _ = ⊥
 
 abbrev pub BodyHas : Value → Body → Type 0
 BodyHas v (OfProposal q) = q.value ≡ v

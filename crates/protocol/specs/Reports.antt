@@ -1,11 +1,12 @@
 -- The report of a run: what is told at each event, and how validators end.
-use Rattle.std.specs.Prelude.{ℕ, suc, Bool, false, cond, Option, Some, None, List, [], ◌∷◌, ◌++◌, map, flat_map, ◌==◌, option_to_list}
+use Rattle.std.specs.Prelude.{ℕ, suc, Bool, false, cond, Option, Some, None, List, [], ◌∷◌, ◌++◌, map, flat_map, ◌==◌, option_to_list, Result}
+use Rattle.transactions.specs.declared.fault.Fault.{Fault}
 use Rattle.protocol.specs.Values.{Id, Item}
 use Rattle.protocol.specs.Tags.{Setting}
-use Rattle.protocol.specs.Messages.{Body, OfAsk, Bundle, Record, Own, Decided}
+use Rattle.protocol.specs.Messages.{Body, OfAsk, Bundle, Message, Record, Own, Decided}
 use Rattle.protocol.specs.State.{Node, Rule, TimedOut}
 use Rattle.protocol.specs.Restart.{own_since}
-use Rattle.protocol.specs.Refusals.{Refusal, answer, refusal_number}
+use Rattle.protocol.specs.Refusals.{Refusal, refusal_of, refusal_number}
 use Rattle.protocol.specs.Calls.{timeout_answer}
 use Rattle.protocol.specs.Arrivals.{Outcome, arrival}
 use Rattle.protocol.specs.World.{World, Event, Sends, Comes, Fires, Asks, Resends, Restarts, happens, tried, cut_record}
@@ -42,8 +43,7 @@ decisions_in (Own h r act ∷ rest) = decisions_in rest
 
 -- Only a refusal is told: an answer that all went well isn't.
 abbrev pub answered : Option Refusal → List What
-answered None = []
-answered (Some r) = Answered (refusal_number r) ∷ []
+answered refusal = map (λ r. Answered (refusal_number r)) (option_to_list refusal)
 
 abbrev pub decided_by : List Record → List What
 decided_by records = map (λ (d : Decision). DecidedAt d.height d.round d.id) (decisions_in records)
@@ -57,13 +57,14 @@ abbrev pub firing_answer : Node → Rule → Option Refusal
 firing_answer n (TimedOut t) = timeout_answer n.state t
 firing_answer n _ = None
 
-abbrev pub tells : Setting → World → Event → List What
-tells c w (Sends client op) = []
-tells c w (Comes p bytes) = told_of (answer c p (w.nodes p) bytes) (arrival c p (w.nodes p) bytes)
-tells c w (Fires p k) = told_of (firing_answer (w.nodes p) k) (tried c p (w.nodes p) k)
-tells c w (Asks p) = Released (OfAsk (record { height = (w.nodes p).state.height; sender = p })) ∷ []
-tells c w (Resends p) = map Released (own_since p (w.nodes p).journal)
-tells c w (Restarts p cut) = []
+-- Bytes are read in this way: which of its faults is told of bytes that are no frame is for it to say.
+abbrev pub tells : (List ℕ → Result Message Fault) → Setting → World → Event → List What
+tells read c w (Sends client op) = []
+tells read c w (Comes p bytes) = told_of (refusal_of c p (w.nodes p) (read bytes)) (arrival c p (w.nodes p) bytes)
+tells read c w (Fires p k) = told_of (firing_answer (w.nodes p) k) (tried c p (w.nodes p) k)
+tells read c w (Asks p) = Released (OfAsk (record { height = (w.nodes p).state.height; sender = p })) ∷ []
+tells read c w (Resends p) = map Released (own_since p (w.nodes p).journal)
+tells read c w (Restarts p cut) = []
 
 -- the decision that a journal got as its validator stopped, which nobody was told
 abbrev pub untold : Setting → World → Event → List What
@@ -83,16 +84,16 @@ by_event give n c w (e ∷ es) = noted n (at_validator e) (give c w e) ∷ by_ev
 abbrev pub joined : List (List Told) → List Told
 joined parts = flat_map (λ part. part) parts
 
-abbrev pub report : Setting → World → List Event → List Told
-report c w es = joined (by_event tells 1 c w es)
+abbrev pub report : (List ℕ → Result Message Fault) → Setting → World → List Event → List Told
+report read c w es = joined (by_event (tells read) 1 c w es)
 
 -- what stops left to be found in journals
 abbrev pub unreported : Setting → World → List Event → List Told
 unreported c w es = joined (by_event untold 1 c w es)
 
 -- both, in order of events
-abbrev pub account : Setting → World → List Event → List Told
-account c w es = joined (by_event (λ c w e. tells c w e ++ untold c w e) 1 c w es)
+abbrev pub account : (List ℕ → Result Message Fault) → Setting → World → List Event → List Told
+account read c w es = joined (by_event (λ c w e. tells read c w e ++ untold c w e) 1 c w es)
 
 -- ---- parts of a report
 

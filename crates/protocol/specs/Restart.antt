@@ -1,8 +1,8 @@
 -- What a validator makes of its own journal.
-use Rattle.std.specs.Prelude.{ℕ, suc, not, false, Option, Some, None, List, [], ◌∷◌, ◌++◌, is_none, flat_map}
+use Rattle.std.specs.Prelude.{ℕ, suc, not, Option, Some, None, List, [], ◌∷◌, ◌++◌, is_none, unwrap_or, flat_map}
 use Rattle.protocol.specs.Values.{Item, items}
-use Rattle.protocol.specs.Messages.{Step, Propose, Proposal, Vote, Body, OfProposal, OfVote, Act, Proposing, Prevoting, Precommitting, step_of, Record, Own, Decided, body_of}
-use Rattle.protocol.specs.State.{State, Node, ValueAt}
+use Rattle.protocol.specs.Messages.{Step, Propose, Proposal, Vote, Body, OfProposal, OfVote, Act, Precommitting, step_of, Record, Own, Decided, body_of}
+use Rattle.protocol.specs.State.{State, fresh, Node, ValueAt}
 
 -- the values of the decisions, joined in order of height
 abbrev pub delivered_of : List Record → List Item
@@ -18,36 +18,23 @@ height_of (Own h r act ∷ rest) = height_of rest
 
 -- the round and step of the last own message since the last decision
 abbrev pub last_place : List Record → Option (ℕ × Step)
-last_place [] = None
-last_place (Decided b ∷ rest) = None
 last_place (Own h r act ∷ rest) = Some (r, step_of act)
+last_place _ = None
 
 -- the lock after an act
 abbrev pub lock_by : ℕ → Act → Option ValueAt → Option ValueAt
 lock_by r (Precommitting (Some v)) before = Some (record { round = r; value = v })
-lock_by r (Precommitting None) before = before
-lock_by r (Proposing vr v) before = before
-lock_by r (Prevoting x) before = before
+lock_by r _ before = before
 
 -- the last own precommit for a value since the last decision
 abbrev pub lock_of : List Record → Option ValueAt
-lock_of [] = None
-lock_of (Decided b ∷ rest) = None
 lock_of (Own h r act ∷ rest) = lock_by r act (lock_of rest)
+lock_of _ = None
 
 -- the own messages since the last decision, the oldest first
 abbrev pub own_since : ℕ → List Record → List Body
-own_since p [] = []
-own_since p (Decided b ∷ rest) = []
 own_since p (Own h r act ∷ rest) = own_since p rest ++ body_of p h r act ∷ []
-
-abbrev pub round_at : Option (ℕ × Step) → ℕ
-round_at None = 0
-round_at (Some a) = a.0
-
-abbrev pub step_at : Option (ℕ × Step) → Step
-step_at None = Propose
-step_at (Some a) = a.1
+own_since p _ = []
 
 -- the proposal, or the vote, that a body is
 abbrev pub proposals_in : Body → List Proposal
@@ -60,20 +47,13 @@ votes_in _ = []
 
 -- No round of the height has begun where the journal has no own message of it.
 unfoldable pub restart : ℕ → List Record → State
-restart p journal = record {
-  delivered = delivered_of journal;
-  height = height_of journal;
+restart p journal = record (fresh (delivered_of journal) (height_of journal)) {
   begun = not (is_none (last_place journal));
-  round = round_at (last_place journal);
-  step = step_at (last_place journal);
+  round = (unwrap_or (last_place journal) (0, Propose)).0;
+  step = (unwrap_or (last_place journal) (0, Propose)).1;
   lock = lock_of journal;
-  valid_value = None;
   proposals = flat_map proposals_in (own_since p journal);
   votes = flat_map votes_in (own_since p journal);
-  stamps = [];
-  prevotes_awaited = false;
-  value_found = false;
-  precommits_awaited = false;
 }
 
 -- the node of a validator that is opened over this journal

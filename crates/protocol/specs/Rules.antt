@@ -1,12 +1,12 @@
 -- The rules: what each asks, and what it saves, changes, sends and schedules. Ln is line n of algorithm 1 of arXiv 1807.04938.
-use Rattle.std.specs.Prelude.{◌≡◌, ℕ, suc, ◌^◌, Bool, true, false, cond, not, ◌&&◌, ◌||◌, Option, Some, None, List, [], ◌∷◌, ◌++◌, map, length, ◌==◌, nat_lt, nat_le, flat_map, find, option_to_list}
+use Rattle.std.specs.Prelude.{◌≡◌, ℕ, suc, ◌^◌, Bool, true, false, cond, not, ◌&&◌, ◌||◌, Option, Some, None, List, [], ◌∷◌, ◌++◌, map, length, ◌==◌, nat_lt, nat_le, flat_map, find, option_to_list, option_and_then}
 use Rattle.std.specs.List.{list_any}
 use Rattle.std.specs.Str.{bytes_eq}
 use Rattle.powers.specs.Power.{power, is_quorum, is_weak, proposer}
 use Rattle.protocol.specs.Values.{Id, Value, items, id, value_eq, valid}
-use Rattle.protocol.specs.Messages.{Step, Propose, Prevote, Precommit, step_eq, round_eq, Signed, Proposal, Body, OfProposal, OfVote, Record, Proposing, Prevoting, Precommitting, Own, Decided, own_body, below}
+use Rattle.protocol.specs.Messages.{Step, Propose, Prevote, Precommit, step_eq, round_eq, Signed, Proposal, Bundle, Body, OfProposal, OfVote, Record, Act, Proposing, Prevoting, Precommitting, Own, Decided, own_body, below}
 use Rattle.protocol.specs.Tally.{power_for, power_any, power_above, senders, is_vote_for}
-use Rattle.protocol.specs.State.{Context, State, ValueAt, Stamp, Timeout, Rule, Start, PrevoteFresh, PrevoteAgain, AwaitPrevotes, Lock, PrecommitNil, AwaitPrecommits, Decide, DecideByBundle, SkipRound, TimedOut}
+use Rattle.protocol.specs.State.{Context, State, fresh, ValueAt, Stamp, Timeout, Rule, Start, PrevoteFresh, PrevoteAgain, AwaitPrevotes, Lock, PrecommitNil, AwaitPrecommits, Decide, DecideByBundle, SkipRound, TimedOut}
 
 -- ---- what a rule asks
 
@@ -81,7 +81,7 @@ holds g s (SkipRound r) = s.begun && nat_lt s.round r && weak_at g.powers s r
 -- L57, L61, L65: a timeout of this height and round
 holds g s (TimedOut t) = (t.height == s.height) && (t.round == s.round) && holds_timed s t t.kind
 
--- ---- what a rule saves, sends, schedules and changes
+-- ---- parts of what a firing does
 
 -- what StartRound(r) saves, where the proposer picks this value unless it has a valid one
 abbrev pub proposal_of : State → ℕ → Value → Option ValueAt → Record
@@ -90,6 +90,17 @@ proposal_of s r picked (Some l) = Own s.height r (Proposing (Some l.round) l.val
 
 abbrev pub starts : Context → State → ℕ → Value → Option Record
 starts g s r picked = cond (proposer g.powers s.height r == g.me) (Some (proposal_of s r picked s.valid_value)) None
+
+abbrev pub start_timeout : Context → State → ℕ → Option Timeout
+start_timeout g s r = cond (proposer g.powers s.height r == g.me) None (Some (record { kind = Propose; height = s.height; round = r }))
+
+-- the round begins
+abbrev pub started : State → ℕ → State
+started s r = record s { begun = true; round = r; step = Propose; prevotes_awaited = false; value_found = false; precommits_awaited = false }
+
+-- the next height begins
+abbrev pub decided : State → Value → State
+decided s v = fresh (s.delivered ++ items v) (suc s.height)
 
 -- the stamp is validator i's of this round and id
 abbrev pub is_stamp : ℕ → Id → ℕ → Stamp → Bool
@@ -108,70 +119,66 @@ certificate g s r x = flat_map (signed_by g s r x) (below (length g.powers))
 abbrev pub content_if : Bool → Value → Option Id
 content_if agreed v = cond agreed (Some (id v)) None
 
-abbrev pub saved_by_timeout : Context → Value → State → Step → Option Record
-saved_by_timeout g picked s Propose = Some (Own s.height s.round (Prevoting None))
-saved_by_timeout g picked s Prevote = Some (Own s.height s.round (Precommitting None))
-saved_by_timeout g picked s Precommit = starts g s (suc s.round) picked
+-- ---- what a firing does: one line for each rule
+
+-- The variables after a firing, before its message is kept; the record that it saves, by the value that a proposer picks; the timeout that it schedules.
+pub record Effect : Type 0 where
+  pub next : State
+  pub saves : Context → Value → Option Record
+  pub schedules : Context → Option Timeout
+
+-- the own vote of the present round, and its step
+abbrev pub says : State → Step → (Context → Act) → Effect
+says s step act = record { next = record s { step = step }; saves = λ g picked. Some (Own s.height s.round (act g)); schedules = λ g. None }
+
+-- the present round's timeout of this kind
+abbrev pub waits : State → Step → State → Effect
+waits s kind next = record { next = next; saves = λ g picked. None; schedules = λ g. Some (record { kind = kind; height = s.height; round = s.round }) }
+
+-- The value is found valid in this round. At its prevote a validator also locks it, and precommits it.
+abbrev pub locks : State → Value → Effect
+locks s v =
+    let found = Some (record { round = s.round; value = v }) in
+    let next = record s { lock = cond (step_eq s.step Prevote) found s.lock; step = Precommit; valid_value = found; value_found = true } in
+    record { next = next; saves = λ g picked. cond (step_eq s.step Prevote) (Some (Own s.height s.round (Precommitting (Some v)))) None; schedules = λ g. None }
+
+-- StartRound(r), L11 to L21: the proposer proposes, the others wait for it
+abbrev pub begins : State → ℕ → Effect
+begins s r = record { next = started s r; saves = λ g picked. starts g s r picked; schedules = λ g. start_timeout g s r }
+
+-- the value is delivered by this bundle, and the next height begins
+abbrev pub decides : State → Value → (Context → Bundle) → Effect
+decides s v bundle = record { next = decided s v; saves = λ g picked. Some (Decided (bundle g)); schedules = λ g. None }
+
+abbrev pub times_out : State → Step → Effect
+times_out s Propose = says s Prevote (λ g. Prevoting None)
+times_out s Prevote = says s Precommit (λ g. Precommitting None)
+times_out s Precommit = begins s (suc s.round)
+
+abbrev pub effect : State → Rule → Effect
+effect s Start = begins s 0
+effect s (PrevoteFresh v) = says s Prevote (λ g. Prevoting (content_if (valid s.delivered v && g.genuine v && lock_is s.lock v) v))
+effect s (PrevoteAgain r v) = says s Prevote (λ g. Prevoting (content_if (valid s.delivered v && lock_allows s.lock r v) v))
+effect s AwaitPrevotes = waits s Prevote (record s { prevotes_awaited = true })
+effect s (Lock v) = locks s v
+effect s PrecommitNil = says s Precommit (λ g. Precommitting None)
+effect s AwaitPrecommits = waits s Precommit (record s { precommits_awaited = true })
+effect s (Decide r v) = decides s v (λ g. record { height = s.height; sender = g.me; round = r; id = id v; value = v; precommits = certificate g s r (id v) })
+effect s (DecideByBundle b) = decides s b.value (λ g. record b { sender = g.me; precommits = g.certified b })
+effect s (SkipRound r) = begins s r
+effect s (TimedOut t) = times_out s t.kind
 
 -- the record that the firing saves, if any
 abbrev pub saved : Context → Value → State → Rule → Option Record
-saved g picked s Start = starts g s 0 picked
-saved g picked s (PrevoteFresh v) = Some (Own s.height s.round (Prevoting (content_if (valid s.delivered v && g.genuine v && lock_is s.lock v) v)))
-saved g picked s (PrevoteAgain r v) = Some (Own s.height s.round (Prevoting (content_if (valid s.delivered v && lock_allows s.lock r v) v)))
-saved g picked s AwaitPrevotes = None
-saved g picked s (Lock v) = cond (step_eq s.step Prevote) (Some (Own s.height s.round (Precommitting (Some v)))) None
-saved g picked s PrecommitNil = Some (Own s.height s.round (Precommitting None))
-saved g picked s AwaitPrecommits = None
-saved g picked s (Decide r v) = Some (Decided (record { height = s.height; sender = g.me; round = r; id = id v; value = v; precommits = certificate g s r (id v) }))
-saved g picked s (DecideByBundle b) = Some (Decided (record b { sender = g.me; precommits = g.certified b }))
-saved g picked s (SkipRound r) = starts g s r picked
-saved g picked s (TimedOut t) = saved_by_timeout g picked s t.kind
-
--- StartRound(r)
-abbrev pub started : State → ℕ → State
-started s r = record s { begun = true; round = r; step = Propose; prevotes_awaited = false; value_found = false; precommits_awaited = false }
-
--- the next height begins
-abbrev pub decided : State → Value → State
-decided s v = record {
-  delivered = s.delivered ++ items v;
-  height = suc s.height;
-  begun = false;
-  round = 0;
-  step = Propose;
-  lock = None;
-  valid_value = None;
-  proposals = [];
-  votes = [];
-  stamps = [];
-  prevotes_awaited = false;
-  value_found = false;
-  precommits_awaited = false;
-}
-
-abbrev pub changed_by_timeout : State → Step → State
-changed_by_timeout s Propose = record s { step = Prevote }
-changed_by_timeout s Prevote = record s { step = Precommit }
-changed_by_timeout s Precommit = started s (suc s.round)
+saved g picked s k = (effect s k).saves g picked
 
 -- the variables after the firing, before its message is kept
 abbrev pub changed : State → Rule → State
-changed s Start = started s 0
-changed s (PrevoteFresh v) = record s { step = Prevote }
-changed s (PrevoteAgain r v) = record s { step = Prevote }
-changed s AwaitPrevotes = record s { prevotes_awaited = true }
-changed s (Lock v) = record s {
-  lock = cond (step_eq s.step Prevote) (Some (record { round = s.round; value = v })) s.lock;
-  step = Precommit;
-  valid_value = Some (record { round = s.round; value = v });
-  value_found = true;
-}
-changed s PrecommitNil = record s { step = Precommit }
-changed s AwaitPrecommits = record s { precommits_awaited = true }
-changed s (Decide r v) = decided s v
-changed s (DecideByBundle b) = decided s b.value
-changed s (SkipRound r) = started s r
-changed s (TimedOut t) = changed_by_timeout s t.kind
+changed s k = (effect s k).next
+
+-- the timeout that the firing schedules, if any
+abbrev pub scheduled : Context → State → Rule → Option Timeout
+scheduled g s k = (effect s k).schedules g
 
 -- a proposal or a vote joins the kept ones
 abbrev pub keeping : State → Body → State
@@ -185,30 +192,8 @@ keeping_own s (Some b) = keeping s b
 
 -- the bodies that a record lets its validator send
 abbrev pub released_by : ℕ → Option Record → Option Body
-released_by p None = None
-released_by p (Some r) = own_body p r
+released_by p wrote = option_and_then (own_body p) wrote
 
 -- the variables after the firing of a rule that holds: the own message is kept as it is released
 abbrev pub fired : Context → Value → State → Rule → State
 fired g picked s k = keeping_own (changed s k) (released_by g.me (saved g picked s k))
-
--- as a relation: the rule may fire at s, leaves t, saves this record, and releases this body
-abbrev pub IsFiring : Context → Value → Rule → State → State → Option Record → Option Body → Type 0
-IsFiring g picked k s t wrote out = (holds g s k ≡ true) × (t ≡ fired g picked s k) × (wrote ≡ saved g picked s k) × (out ≡ released_by g.me wrote)
-
--- the timeouts that the firing schedules: one at most
-abbrev pub start_timeout : Context → State → ℕ → Option Timeout
-start_timeout g s r = cond (proposer g.powers s.height r == g.me) None (Some (record { kind = Propose; height = s.height; round = r }))
-
-abbrev pub scheduled : Context → State → Rule → Option Timeout
-scheduled g s Start = start_timeout g s 0
-scheduled g s (PrevoteFresh v) = None
-scheduled g s (PrevoteAgain r v) = None
-scheduled g s AwaitPrevotes = Some (record { kind = Prevote; height = s.height; round = s.round })
-scheduled g s (Lock v) = None
-scheduled g s PrecommitNil = None
-scheduled g s AwaitPrecommits = Some (record { kind = Precommit; height = s.height; round = s.round })
-scheduled g s (Decide r v) = None
-scheduled g s (DecideByBundle b) = None
-scheduled g s (SkipRound r) = start_timeout g s r
-scheduled g s (TimedOut t) = cond (step_eq t.kind Precommit) (start_timeout g s (suc s.round)) None

@@ -1,7 +1,7 @@
 -- A validator's state, and the names of its rules.
-use Rattle.std.specs.Prelude.{ℕ, Bool, Option, List}
+use Rattle.std.specs.Prelude.{ℕ, Bool, false, Option, None, List, []}
 use Rattle.protocol.specs.Values.{Tx, Value, Item, Id}
-use Rattle.protocol.specs.Messages.{Step, Bundle, Signed, Proposal, Vote, Record}
+use Rattle.protocol.specs.Messages.{Step, Propose, Bundle, Signed, Proposal, Vote, Record}
 pub use Rattle.protocol.specs.declared.types.ValueAt.{ValueAt}
 pub use Rattle.protocol.specs.declared.types.Stamp.{Stamp}
 pub use Rattle.protocol.specs.declared.types.Timeout.{Timeout}
@@ -30,6 +30,24 @@ pub record State : Type 0 where
   pub prevotes_awaited : Bool  -- AwaitPrevotes has fired in this round
   pub value_found : Bool  -- Lock has fired in this round
   pub precommits_awaited : Bool  -- AwaitPrecommits has fired in this round
+
+-- the height at which this list is delivered, before its first round
+abbrev pub fresh : List Item → ℕ → State
+fresh delivered height = record {
+  delivered = delivered;
+  height = height;
+  begun = false;
+  round = 0;
+  step = Propose;
+  lock = None;
+  valid_value = None;
+  proposals = [];
+  votes = [];
+  stamps = [];
+  prevotes_awaited = false;
+  value_found = false;
+  precommits_awaited = false;
+}
 
 -- the transactions that a client waits to see delivered
 pub record Queue : Type 0 where

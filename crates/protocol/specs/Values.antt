@@ -32,9 +32,8 @@ of client d = filter (λ t. t.client == client) d
 
 -- a close has nothing after it
 abbrev pub ends : Op → List Item → Bool
-ends (Bytes b) ts = true
-ends Close [] = true
 ends Close (t ∷ ts) = false
+ends _ _ = true
 
 -- these numbers are n, n + 1, .., and a close stands only as the last
 abbrev pub in_turn : ℕ → List Item → Bool

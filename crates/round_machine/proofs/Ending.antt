@@ -7,7 +7,7 @@ use Rattle.protocol.specs.declared.types.Step.{Step}
 use Rattle.protocol.specs.declared.types.Step.TheVariants.{Propose, Prevote, Precommit}
 use Rattle.protocol.specs.State.{Context, State, Start, PrevoteFresh, AwaitPrevotes, Lock, PrecommitNil, AwaitPrecommits, Decide, SkipRound}
 use Rattle.protocol.specs.Rules.{holds, at_step, keeping_own, changed, fired, released_by, saved}
-use Rattle.protocol.specs.Order.{IsInternal}
+use Rattle.protocol.specs.Order.{row}
 use Rattle.protocol.proofs.Asked.{asked}
 use Rattle.round_states.specs.Steps.{proposal_at}
 use Rattle.round_machine.specs.Naming.{rule_of, prevote_again, IsPlaced}
@@ -86,7 +86,7 @@ prevote_less s at =
     let f = past_propose s.step a.1 in
     round_less s Prevote s.prevotes_awaited s.value_found s.precommits_awaited a.0 (omega (arith, f))
 
-changed_less : (g : Context) (s : State) (n : Name) → IsPlaced s n → IsInternal (rule_of s n) → holds g s (rule_of s n) ≡ true → left (changed s (rule_of s n)) < left s
+changed_less : (g : Context) (s : State) (n : Name) → IsPlaced s n → row (rule_of s n) < 9 → holds g s (rule_of s n) ≡ true → left (changed s (rule_of s n)) < left s
 changed_less g s names.Start placed internal h = let f = start_less s.begun s.round (of_round s.step s.prevotes_awaited s.value_found s.precommits_awaited) (asked g s Start h) in omega (arith, f)
 changed_less g s (names.Decide i) placed internal h = let room = (asked g s (Decide (proposal_at s i).round (proposal_at s i).value) h).room in omega (arith, room)
 changed_less g s (names.SkipRound r) placed internal h =
@@ -110,10 +110,10 @@ changed_less g s names.AwaitPrecommits placed internal h =
     let a = asked g s AwaitPrecommits h in
     let f = fires_once s.precommits_awaited a.first in
     round_less s s.step s.prevotes_awaited s.value_found true a.begun (omega (arith, f))
-changed_less g s (names.TimedOut t) placed internal h = absurd internal
+changed_less g s (names.TimedOut t) placed internal h = absurd (omega arith)
 
 -- the firing of an enabled rule
-pub less_after : (g : Context) (v : Value) (s t : State) (n : Name) → IsPlaced s n → IsInternal (rule_of s n) → holds g s (rule_of s n) ≡ true → t ≡ fired g v s (rule_of s n) → left t < left s
+pub less_after : (g : Context) (v : Value) (s t : State) (n : Name) → IsPlaced s n → row (rule_of s n) < 9 → holds g s (rule_of s n) ≡ true → t ≡ fired g v s (rule_of s n) → left t < left s
 less_after g v s t n placed internal h e =
     let k = kept_left (changed s (rule_of s n)) (released_by g.me (saved g v s (rule_of s n))) in
     rw (e, k) (changed_less g s n placed internal h)

@@ -1,4 +1,4 @@
-pub mod Places
+pub mod InRound
 pub mod Stages
 pub mod Soonest
 pub mod Highest

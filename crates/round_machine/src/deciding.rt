@@ -1,11 +1,12 @@
 //! The proposal that is decided first: of the lowest round, and the first that came of it.
 
-ghost use Rattle.std.specs.Prelude.{◌≡◌, ◌<◌, ◌&&◌, Bool, cond, Some, option_map, IfSome, length};
+ghost use Rattle.std.specs.Prelude.{◌≡◌, ◌<◌, option_map, IfSome, length};
 ghost use Rattle.protocol.specs.Order as order;
 ghost use Rattle.round_states.specs.Steps.{proposal_at};
-ghost use Rattle.round_machine.specs.Judging.{can_decide, is_sooner_than};
+ghost use Rattle.round_machine.specs.Judging.{can_decide, is_sooner_than, sooner_place};
 
 use crate::naming::{has_quorum, stands_at};
+use crate::seeking::{Sought, first_place};
 use messages::Step as VoteStep;
 use round_states::{KeptProposal, State};
 
@@ -16,20 +17,16 @@ pub(crate) struct Place {
     round: u32,
 }
 
-/// The place of the decidable proposal that goes first.
+/// The place of the decidable proposal that goes first. Only rounds in which a quorum precommitted one id are
+/// looked at.
 pub(crate) fn soonest_decidable(state: &State) -> Option<usize>
     ensures soonest { option_map (proposal_at state.now.state) result ≡ order.soonest (order.is_decidable state.now.powers state.now.state) state.now.state.proposals }
     ensures placed { IfSome result (λ place. place < length state.now.state.proposals) }
 {
-    let kept = state.kept();
     let mut best: Option<Place> = None;
-    for number in 0..kept.len() {
-        let found = &kept[number];
-        let place = Place {
-            number,
-            round: found.proposal.round,
-        };
-        best = sooner(best, place, can_decide(state, found));
+    for round in state.tally().decisive() {
+        let found = first_place(state, *round, Sought::Decidable);
+        best = sooner(best, *round, found);
     }
     match best {
         None => None,
@@ -37,14 +34,20 @@ pub(crate) fn soonest_decidable(state: &State) -> Option<usize>
     }
 }
 
-/// The sooner of the best so far and a place that may pass.
-fn sooner(best: Option<Place>, place: Place, passes: bool) -> Option<Place>
-    ensures { result ≡ cond (passes && is_sooner_than place best) (Some place) best }
+/// The sooner of the best so far and what was found in a round.
+fn sooner(best: Option<Place>, round: u32, found: Option<usize>) -> Option<Place>
+    ensures { result ≡ sooner_place best round found }
 {
-    if passes && is_sooner(place, best) {
-        Some(place)
-    } else {
-        best
+    match found {
+        None => best,
+        Some(number) => {
+            let place = Place { number, round };
+            if is_sooner(place, best) {
+                Some(place)
+            } else {
+                best
+            }
+        }
     }
 }
 
@@ -57,7 +60,7 @@ fn is_sooner(place: Place, best: Option<Place>) -> bool
     }
 }
 
-fn can_decide(state: &State, kept: &KeptProposal) -> bool
+pub(crate) fn can_decide(state: &State, kept: &KeptProposal) -> bool
     ensures { result ≡ can_decide state.now.powers state.now.state kept.now }
 {
     let round = kept.proposal.round;

@@ -11,6 +11,7 @@ mod firing;
 mod naming;
 mod releasing;
 mod rule;
+mod seeking;
 mod skipping;
 mod timing;
 

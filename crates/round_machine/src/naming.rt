@@ -1,7 +1,6 @@
 //! The first enabled rule: stages in a fixed order, each the first proposal or the highest round that fits.
 
-ghost use Rattle.std.specs.Prelude.{◌≡◌, option_map, true, false, Some, None, IfSome, IfNone};
-ghost use Rattle.std.specs.List.{position_from};
+ghost use Rattle.std.specs.Prelude.{◌≡◌, ◌<◌, option_map, true, false, Some, None, IfSome, IfNone};
 ghost use Rattle.protocol.specs.State.{Context, Rule as AnyRule};
 ghost use Rattle.protocol.specs.Rules.{holds, stands_at, quorum_for, quorum_any};
 ghost use Rattle.protocol.specs.Messages.{step_eq, step_of_vote};
@@ -11,6 +10,7 @@ ghost use Rattle.round_machine.specs.Judging.{can_lock, can_prevote_again, has_b
 
 use crate::deciding::soonest_decidable;
 use crate::rule::Rule;
+use crate::seeking::{Sought, first_place};
 use crate::skipping::highest_weak;
 use messages::Step as VoteStep;
 use protocol::Step;
@@ -26,9 +26,9 @@ const MOST_HEIGHT: u64 = 1 << 48;
 pub fn enabled(state: &State) -> Option<Rule>
     ensures rule { option_map (rule_of state.now.state) result ≡ order.enabled state.now.powers state.now.state }
     ensures placed { IfSome result (λ rule. IsPlaced state.now.state rule) }
-    ensures internal { IfSome result (λ rule. order.IsInternal (rule_of state.now.state rule)) }
+    ensures internal { IfSome result (λ rule. order.row (rule_of state.now.state rule) < 9) }
     ensures holds { IfSome result (λ rule. (g : Context) → g.powers ≡ state.now.powers → holds g state.now.state (rule_of state.now.state rule) ≡ true) }
-    ensures quiet { IfNone result ((g : Context) → g.powers ≡ state.now.powers → (rule : AnyRule) → order.IsInternal rule → holds g state.now.state rule ≡ false) }
+    ensures quiet { IfNone result ((g : Context) → g.powers ≡ state.now.powers → (rule : AnyRule) → order.row rule < 9 → holds g state.now.state rule ≡ false) }
 {
     first_named(state)
 }
@@ -91,14 +91,8 @@ fn prevoting(state: &State) -> Option<Rule>
     if !is_at(state, Step::Propose) {
         return None;
     }
-    let place = first_fresh(state, state.kept())?;
+    let place = first_place(state, state.round(), Sought::Fresh)?;
     Some(Rule::PrevoteFresh(place))
-}
-
-fn first_fresh(state: &State, kept: &[KeptProposal]) -> Option<usize>
-    ensures { result ≡ position_from (λ k. order.is_fresh state.now.powers state.now.state k.proposal) 0 kept.now }
-{
-    kept.iter().position(|kept| is_fresh(state, kept))
 }
 
 fn prevoting_again(state: &State) -> Option<Rule>
@@ -108,14 +102,8 @@ fn prevoting_again(state: &State) -> Option<Rule>
     if !is_at(state, Step::Propose) {
         return None;
     }
-    let place = first_again(state, state.kept())?;
+    let place = first_place(state, state.round(), Sought::Backed)?;
     Some(Rule::PrevoteAgain(place))
-}
-
-fn first_again(state: &State, kept: &[KeptProposal]) -> Option<usize>
-    ensures { result ≡ position_from (can_prevote_again state.now.powers state.now.state) 0 kept.now }
-{
-    kept.iter().position(|kept| can_prevote_again(state, kept))
 }
 
 fn locking(state: &State) -> Option<Rule>
@@ -125,14 +113,8 @@ fn locking(state: &State) -> Option<Rule>
     if is_at(state, Step::Propose) || state.is_value_found() {
         return None;
     }
-    let place = first_lockable(state, state.kept())?;
+    let place = first_place(state, state.round(), Sought::Lockable)?;
     Some(Rule::Lock(place))
-}
-
-fn first_lockable(state: &State, kept: &[KeptProposal]) -> Option<usize>
-    ensures { result ≡ position_from (can_lock state.now.powers state.now.state) 0 kept.now }
-{
-    kept.iter().position(|kept| can_lock(state, kept))
 }
 
 fn giving_up(state: &State) -> Option<Rule>
@@ -204,13 +186,13 @@ pub(crate) fn stands_at(state: &State, kept: &KeptProposal, round: u32) -> bool
         && kept.proposal.sender == state.powers().proposer(state.height(), round)
 }
 
-fn is_fresh(state: &State, kept: &KeptProposal) -> bool
+pub(crate) fn is_fresh(state: &State, kept: &KeptProposal) -> bool
     ensures { result ≡ order.is_fresh state.now.powers state.now.state kept.now.proposal }
 {
     stands_at(state, kept, state.round()) && kept.proposal.valid_round.is_none()
 }
 
-fn can_prevote_again(state: &State, kept: &KeptProposal) -> bool
+pub(crate) fn can_prevote_again(state: &State, kept: &KeptProposal) -> bool
     ensures { result ≡ can_prevote_again state.now.powers state.now.state kept.now }
 {
     stands_at(state, kept, state.round()) && has_backing(state, kept.id, kept.proposal.valid_round)
@@ -228,7 +210,7 @@ fn has_backing(state: &State, id: Id, valid_round: Option<u32>) -> bool
     }
 }
 
-fn can_lock(state: &State, kept: &KeptProposal) -> bool
+pub(crate) fn can_lock(state: &State, kept: &KeptProposal) -> bool
     ensures { result ≡ can_lock state.now.powers state.now.state kept.now }
 {
     let round = state.round();

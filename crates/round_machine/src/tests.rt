@@ -1,11 +1,10 @@
 ghost use Rattle.std.specs.Prelude.{◌≡◌, false, true, [], cond, map, is_none, IsSome, IfSome, IfOk};
 ghost use Rattle.transactions.specs.Grammar.{IsValue};
 ghost use Rattle.protocol.specs.State.{Context};
-ghost use Rattle.round_states.specs.Taking.{IsKept};
 ghost use Rattle.round_machine.specs.Naming.{pick_in};
 
 use super::*;
-use messages::{Body, Message, Proposal, Step as VoteStep, Vote};
+use messages::{Body, Proposal, Step as VoteStep, Vote};
 use powers::Powers;
 use protocol::{Step, Timeout};
 use round_states::{Fired, Picked, Refusal, State, release};
@@ -41,11 +40,16 @@ impl Validator {
         })
     }
 
-    /// Takes a message in.
-    fn hear(&mut self, message: Message) -> Result<(), Refusal>
-        requires { IsKept message.body }
+    /// Takes a proposal in.
+    fn hear(&mut self, proposal: Proposal) -> Result<(), Refusal>
+        requires { IsValue proposal.value }
     {
-        self.state.take_in(message, self.genuine)
+        self.state.take_proposal(proposal, self.genuine)
+    }
+
+    /// Takes a vote in, without tags.
+    fn hear_vote(&mut self, vote: Vote) -> Result<(), Refusal> {
+        self.state.take_vote(vote, Seq::new(self.alloc))
     }
 
     /// What it picks of its clients' queues.
@@ -174,15 +178,14 @@ fn hear_proposal(
 ) -> Result<(), Fail>
     requires { IsValue value }
 {
-    let body = Body::Proposal(Proposal {
+    let proposal = Proposal {
         height: 0,
         round,
         sender: validator.state.powers().proposer(0, round),
         valid_round,
         value,
-    });
-    let tags = Seq::new(validator.alloc);
-    validator.hear(Message { body, tags })?;
+    };
+    validator.hear(proposal)?;
     Ok(())
 }
 
@@ -195,9 +198,7 @@ fn hear_votes(
     content: Option<Id>,
 ) -> Result<(), Fail> {
     for sender in senders.0..senders.1 {
-        let body = Body::Vote(vote(step, round, sender, content));
-        let tags = Seq::new(validator.alloc);
-        validator.hear(Message { body, tags })?;
+        validator.hear_vote(vote(step, round, sender, content))?;
     }
     Ok(())
 }

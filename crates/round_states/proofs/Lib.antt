@@ -1,3 +1,4 @@
 pub mod Beginning
 pub mod Certificates
 pub mod Deciding
+pub mod ByRound

@@ -4,3 +4,4 @@ pub mod Found
 pub mod Taking
 pub mod Seen
 pub mod Steps
+pub mod Places

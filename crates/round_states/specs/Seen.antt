@@ -10,6 +10,7 @@ use Rattle.proposal_validity.specs.Standing.{IsFrontierOf}
 use Rattle.round_states.specs.Machine.{Machine}
 use Rattle.round_states.specs.Pending.{Pending}
 use Rattle.round_states.specs.Found.{proposal_in, IsFound}
+use Rattle.round_states.specs.Places.{places_of, places_at}
 use Rattle.round_states.specs.declared.state.KeptProposal.{KeptProposal}
 use Rattle.round_states.specs.declared.rounds.Stage.{Stage}
 use Rattle.round_states.specs.declared.rounds.Stage.TheVariants as stages
@@ -92,6 +93,7 @@ seen a = record {
 
 pub record IsSound (a : Inside) : Type 0 where
   pub proposals : a.tally.proposals ≡ map proposal_in a.kept.items
+  pub places : (round : ℕ) → places_at a.places round ≡ places_of round (map proposal_in a.kept.items)
   pub found : All (IsFound (delivered_by a.decided.items)) a.kept.items
   pub frontier : IsFrontierOf (delivered_by a.decided.items) a.frontier
   pub stage : IsOf a.tally.me a.height a.stage

@@ -1,5 +1,5 @@
 -- The steps that rules are made of.
-use Rattle.std.specs.Prelude.{◌≡◌, ℕ, cond, List, [], ◌∷◌, Option, Some, None, IfSome, ◌==◌, length, map, flat_map, find, option_to_list, slice_index_or}
+use Rattle.std.specs.Prelude.{◌≡◌, ℕ, cond, List, [], ◌∷◌, Option, Some, None, IfSome, ◌==◌, length, map, flat_map, find, option_to_list, slice_index_or, slice_get}
 use Rattle.powers.specs.Power.{proposer}
 use Rattle.transactions.specs.Grammar.{IsValue}
 use Rattle.protocol.specs.Values.{Id, Value}
@@ -52,6 +52,15 @@ opening_timeout m r = cond (proposer m.powers m.state.height r == m.me) None (So
 abbrev pub signed_with : Machine → List (List ℕ) → ℕ → Id → ℕ → List Signed
 signed_with m own_tags r x i = cond (senders m.state.votes (is_vote_for r Precommit (Some x)) i)
     (cond (i == m.me) (record { sender = i; tags = own_tags } ∷ []) (map (λ (stamp : Stamp). stamp.signed) (option_to_list (find (is_stamp r x i) m.state.stamps)))) []
+
+-- validator i's first place, after one more of this sender
+abbrev pub noted : ℕ → ℕ → ℕ → Option ℕ → Option ℕ
+noted sender place i None = cond (sender == i) (Some place) None
+noted sender place i (Some first) = Some first
+
+abbrev pub stamp_at : List Stamp → Option ℕ → Option Stamp
+stamp_at stamps None = None
+stamp_at stamps (Some place) = slice_get stamps place
 
 abbrev pub certificate_with : Machine → List (List ℕ) → ℕ → Id → List Signed
 certificate_with m own_tags r x = flat_map (signed_with m own_tags r x) (below (length m.powers))

@@ -14,24 +14,10 @@ use Rattle.vote_tally.specs.declared.TallyFault.TheVariants as faults
 use Rattle.round_states.specs.declared.taking.Refusal.{Refusal as Answer}
 use Rattle.round_states.specs.declared.taking.Refusal.TheVariants as answers
 
--- a proposal with a value that can be spelled, or a vote
-abbrev pub IsKept : Body → Type 0
-IsKept (OfProposal q) = IsValue q.value
-IsKept (OfVote v) = Unit {0}
-IsKept (OfTx t) = ⊥
-IsKept (OfAsk a) = ⊥
-IsKept (OfBundle b) = ⊥
-
--- the first cause against keeping a message
-abbrev pub cause_against : Machine → Body → Option Refusal
-cause_against m (OfProposal q) = first_cause (proposal_causes m.powers m.me m.state q)
-cause_against m (OfVote v) = first_cause (vote_causes m.me m.state v)
-cause_against m _ = None
-
--- The answer is that cause, unless memory ran out.
+-- The answer is that cause. Memory runs out only where there is none.
 abbrev pub IsAnswer : Option Refusal → Result (Unit {0}) Answer → Type 0
 IsAnswer cause (Ok done) = cause ≡ None
-IsAnswer cause (Err answers.OutOfMemory) = Unit {0}
+IsAnswer cause (Err answers.OutOfMemory) = cause ≡ None
 IsAnswer cause (Err answers.OtherHeight) = cause ≡ Some causes.OtherHeight
 IsAnswer cause (Err answers.VoterFull) = cause ≡ Some causes.VoterFull
 IsAnswer cause (Err answers.Repeat) = cause ≡ Some causes.Repeat
@@ -39,13 +25,19 @@ IsAnswer cause (Err answers.RoundLimit) = cause ≡ Some causes.RoundLimit
 IsAnswer cause (Err answers.RoundAhead) = cause ≡ Some causes.RoundAhead
 IsAnswer cause (Err answers.WrongProposer) = cause ≡ Some causes.WrongProposer
 
--- The handed answer is this context's, where the message is a proposal without a valid round.
-abbrev pub IsTold : Context → Body → Bool → Type 0
-IsTold g (OfProposal q) genuine = (genuine || is_some q.valid_round) ≡ (g.genuine q.value || is_some q.valid_round)
-IsTold g (OfVote v) genuine = Unit {0}
-IsTold g (OfTx t) genuine = Unit {0}
-IsTold g (OfAsk a) genuine = Unit {0}
-IsTold g (OfBundle b) genuine = Unit {0}
+-- The handed answer is this context's, where it is asked for: of a proposal without a valid round.
+abbrev pub IsTold : Context → Proposal → Bool → Type 0
+IsTold g q genuine = (genuine || is_some q.valid_round) ≡ (g.genuine q.value || is_some q.valid_round)
+
+-- the numbers that callers see
+abbrev pub number_of : Answer → ℕ
+number_of answers.OtherHeight = 7
+number_of answers.VoterFull = 8
+number_of answers.Repeat = 9
+number_of answers.RoundLimit = 10
+number_of answers.RoundAhead = 11
+number_of answers.WrongProposer = 12
+number_of answers.OutOfMemory = 16
 
 -- ---- the parts
 
@@ -63,10 +55,6 @@ place_answer powers s q =
     else if nat_lt (s.round + 2) q.round then Err answers.RoundAhead
     else if not (q.sender == proposer powers q.height q.round) then Err answers.WrongProposer
     else Ok tt
-
--- a vote with its tags is kept
-abbrev pub with_vote : Machine → Vote → List (List ℕ) → Machine
-with_vote m v tags = record m { state = record (keeping m.state (OfVote v)) { stamps = m.state.stamps ++ stamp_of (step_of_vote v.step) v.round v.sender v.content tags } }
 
 -- a proposal is kept, with the handed answer where it is asked for
 abbrev pub with_proposal : Machine → Proposal → Bool → Machine

@@ -5,13 +5,13 @@
 #![tactic(auto)]
 
 mod certificate;
+mod places;
 mod rounds;
 mod state;
 mod steps;
 mod taking;
 mod unsaved;
 
-pub use rounds::{Precommit, Prevote, Propose, Round};
 pub use state::{KeptProposal, State};
 pub use steps::{Fired, Picked};
 pub use taking::{MOST_ROUNDS, Refusal};

@@ -1,6 +1,6 @@
 //! A round in each of its steps (`step_p` of algorithm 1 of arXiv 1807.04938). A vote spends the step that allows it, so there is one in each.
 
-ghost use Rattle.std.specs.Prelude.{◌≡◌};
+ghost use Rattle.std.specs.Prelude.{◌≡◌, ◌<◌};
 ghost use Rattle.protocol.specs.Messages.{Own, Prevoting, Precommitting};
 
 use crate::unsaved::Unsaved;
@@ -8,19 +8,19 @@ use transactions::{Id, Named};
 
 /// The step that waits for a proposal.
 #[derive(Drop)]
-pub struct Propose;
+pub(crate) struct Propose;
 
 /// The step after the own prevote.
 #[derive(Drop)]
-pub struct Prevote;
+pub(crate) struct Prevote;
 
 /// The step after the own precommit.
 #[derive(Drop)]
-pub struct Precommit;
+pub(crate) struct Precommit;
 
 /// A round of a height at a validator, in the step S.
 #[derive(Drop)]
-pub struct Round<S> {
+pub(crate) struct Round<S> {
     validator: u16,
     height: u64,
     number: u32,
@@ -41,7 +41,7 @@ impl Round<Propose> {
     }
 
     /// The one prevote of this round: for an id, or for nil.
-    pub fn prevote(self, content: Option<Id>) -> (Round<Prevote>, Unsaved)
+    pub(crate) fn prevote(self, content: Option<Id>) -> (Round<Prevote>, Unsaved)
         ensures round { (result.0.validator ≡ self.validator) × (result.0.height ≡ self.height) × (result.0.number ≡ self.number) }
         ensures unsaved { result.1 ≡ record { sender = self.validator; entry = Own self.height self.number (Prevoting content) } }
     {
@@ -52,43 +52,26 @@ impl Round<Propose> {
 
 impl Round<Prevote> {
     /// The one precommit of this round: for a value, or for nil.
-    pub fn precommit(self, choice: Option<Named>) -> (Round<Precommit>, Unsaved)
+    pub(crate) fn precommit(self, choice: Option<Named>) -> (Round<Precommit>, Unsaved)
         ensures round { (result.0.validator ≡ self.validator) × (result.0.height ≡ self.height) × (result.0.number ≡ self.number) }
         ensures unsaved { result.1 ≡ record { sender = self.validator; entry = Own self.height self.number (Precommitting choice) } }
     {
         let unsaved = Unsaved::precommit(self.validator, self.height, self.number, choice);
         (self.into_step(Precommit), unsaved)
     }
-
-    /// The state before the prevote, which is spent and never sent.
-    pub fn take_back(self, unsaved: Unsaved) -> Round<Propose>
-        ensures { (result.validator ≡ self.validator) × (result.height ≡ self.height) × (result.number ≡ self.number) }
-    {
-        unsaved.forget();
-        self.into_step(Propose)
-    }
-}
-
-impl Round<Precommit> {
-    /// The state before the precommit, which is spent and never sent.
-    pub fn take_back(self, unsaved: Unsaved) -> Round<Prevote>
-        ensures { (result.validator ≡ self.validator) × (result.height ≡ self.height) × (result.number ≡ self.number) }
-    {
-        unsaved.forget();
-        self.into_step(Prevote)
-    }
 }
 
 impl<S: Drop> Round<S> {
     /// The number of the round.
-    pub fn number(&self) -> u32
+    pub(crate) fn number(&self) -> u32
         ensures { result ≡ self.now.number }
     {
         self.number
     }
 
     /// A later round of the same height.
-    pub fn next(self, number: u32) -> Round<Propose>
+    pub(crate) fn next(self, number: u32) -> Round<Propose>
+        requires { self.number < number }
         ensures { (result.validator ≡ self.validator) × (result.height ≡ self.height) × (result.number ≡ number) }
     {
         let Round {
@@ -133,7 +116,8 @@ pub(crate) enum Stage {
 }
 
 impl Stage {
-    /// The same stage, for a copy of the whole state.
+    /// The same stage, for a copy of the whole state. The copy of a state may vote where the state may: whoever
+    /// makes one lets only one of the two vote.
     pub(crate) fn copy(&self) -> Stage
         ensures { result ≡ self.now }
     {

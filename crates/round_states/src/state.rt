@@ -1,20 +1,23 @@
 //! The state: the variables of the algorithm at one validator. Line numbers are those of algorithm 1
 //! of arXiv 1807.04938.
 
-ghost use Rattle.std.specs.Prelude.{◌≡◌, ◌≤◌, ◌^◌, false, None, IfOk, All, map, [], length};
+ghost use Rattle.std.specs.Prelude.{◌≡◌, ◌<◌, ◌≤◌, ◌^◌, false, None, IfOk, All, map, [], length};
 ghost use Rattle.std.specs.Option.{option_copied};
 ghost use Rattle.proposal_validity.specs.Standing.{IsFrontierOf};
 ghost use Rattle.protocol.specs.declared.types.Step.TheVariants as at_steps;
 ghost use Rattle.protocol.specs.Restart.{restart};
 ghost use Rattle.round_states.specs.Found.{proposal_in, IsFound};
+ghost use Rattle.round_states.specs.Places.{places_of};
 ghost use Rattle.round_states.specs.Seen.{delivered_by};
 
+use crate::places::{Places, places_at, places_in};
 use crate::rounds::Stage;
 use messages::Proposal;
 use powers::Powers;
 use proposal_validity::Frontier;
 use protocol::{Stamp, Step, ValueAt};
 use std::alloc::{AllocError, Global};
+use std::collections::BTreeMap;
 use std::marker::Model;
 use transactions::{Duplicate, Id, Value, copy_all};
 use vote_tally::Tally;
@@ -55,6 +58,7 @@ pub struct State {
     pub(crate) lock: Option<ValueAt>,
     pub(crate) valid_value: Option<ValueAt>,
     pub(crate) kept: Vec<KeptProposal>,
+    pub(crate) places: Places,
     pub(crate) stamps: Vec<Stamp>,
     pub(crate) prevotes_awaited: bool,
     pub(crate) value_found: bool,
@@ -89,6 +93,7 @@ impl State {
             lock: None,
             valid_value: None,
             kept: Vec::new(alloc),
+            places: BTreeMap::new(alloc),
             stamps: Vec::new(alloc),
             prevotes_awaited: false,
             value_found: false,
@@ -180,6 +185,14 @@ impl State {
         &self.kept
     }
 
+    /// The places of the kept proposals of a round, in order of arrival.
+    pub fn places(&self, round: u32) -> &[usize]
+        ensures places { result.now ≡ places_of round self.now.state.proposals }
+        ensures within { All (λ place. place < length self.now.state.proposals) result.now }
+    {
+        places_at(&self.places, round)
+    }
+
     /// The kept messages of the height, and the power of their senders.
     pub fn tally(&self) -> &Tally
         ensures { result.now ≡ record { powers = self.now.powers; me = self.now.me; proposals = self.now.state.proposals; votes = self.now.state.votes } }
@@ -223,7 +236,8 @@ impl State {
         &self.decided
     }
 
-    /// An equal state. Values are shared and not copied.
+    /// An equal state. Values are shared and not copied. The copy stands at the same step of the same round, so
+    /// each of the two may vote there: whoever makes a copy lets go the votes of one of them alone.
     pub fn copy(&self) -> Result<State, AllocError>
         ensures { IfOk result (λ copy. copy ≡ self.now) }
     {
@@ -235,6 +249,7 @@ impl State {
             lock: copy_of(self.alloc, &self.lock)?,
             valid_value: copy_of(self.alloc, &self.valid_value)?,
             kept: copy_all(self.alloc, &self.kept)?,
+            places: places_in(self.alloc, &self.kept)?,
             stamps: copy_all(self.alloc, &self.stamps)?,
             prevotes_awaited: self.prevotes_awaited,
             value_found: self.value_found,

@@ -359,6 +359,7 @@ impl State {
         self.decided.push_reserved(value);
         self.tally.clear();
         self.kept.clear();
+        self.places.clear();
         self.stamps.clear();
         self.height += 1;
         self.stage = Stage::Before;

@@ -3,15 +3,17 @@
 ghost use Rattle.std.specs.Prelude.{◌≡◌, ◌≢◌, ◌≤◌, OnOk, OnErr, Some, None, Err, Option, option_to_list, length};
 ghost use Rattle.transactions.specs.Grammar.{IsValue};
 ghost use Rattle.protocol.specs.Values.{id as name_of};
-ghost use Rattle.protocol.specs.Messages.{step_of_vote};
+ghost use Rattle.protocol.specs.Messages.{OfVote, step_of_vote};
 ghost use Rattle.protocol.specs.State.{Context};
 ghost use Rattle.protocol.specs.Arrivals.{kept_message, stamp_of};
 ghost use Rattle.protocol.specs.Refusals.{first_cause, proposal_causes, vote_causes};
 ghost use Rattle.round_states.specs.Machine.{Agrees};
-ghost use Rattle.round_states.specs.Taking.{IsKept, IsTold, IsAnswer, cause_against, with_vote, with_proposal, place_answer};
+ghost use Rattle.round_states.specs.Taking.{IsTold, IsAnswer, with_proposal, place_answer, number_of};
+ghost use Rattle.round_states.specs.Steps.{at};
 
+use crate::places::{add_place, make_room};
 use crate::state::{KeptProposal, State};
-use messages::{Body, Message, Precommit, Proposal, Step, Vote};
+use messages::{Precommit, Proposal, Step, Vote};
 use protocol::Stamp;
 use std::alloc::{AllocError, AllocFailed};
 use transactions::{Id, Seq, value_id};
@@ -50,6 +52,15 @@ pub enum Refusal {
     OutOfMemory = 16,
 }
 
+impl Refusal {
+    /// The number of the refusal.
+    pub fn number(self) -> u8
+        ensures { result ≡ number_of self }
+    {
+        self as u8
+    }
+}
+
 impl From<AllocError> for Refusal {
     ghost use Rattle.round_states.specs.declared.taking.Refusal.TheVariants.{OutOfMemory};
 
@@ -85,24 +96,6 @@ impl From<TallyFault> for Refusal {
 }
 
 impl State {
-    /// Keeps a proposal or a vote of a known sender. `genuine` says whether the own tags of a
-    /// proposal's transactions are right: nobody asks of a proposal with a valid round, and a vote has
-    /// none. The id of a proposal's value and whether it may be delivered next are found here, once.
-    pub fn take_in(&mut self, message: Message, genuine: bool) -> Result<(), Refusal>
-        requires { IsKept message.body }
-        ensures answer { IsAnswer (cause_against self.old message.body) result }
-        ensures ok { OnOk result (self.new.state ≡ kept_message self.old.state message message.body) }
-        ensures agrees { (g : Context) → Agrees g self.old → IsTold g message.body genuine → Agrees g self.new }
-        ensures err { OnErr result (self.new ≡ self.old) }
-    {
-        let Message { body, tags } = message;
-        match body {
-            Body::Proposal(proposal) => self.take_proposal(proposal, genuine),
-            Body::Vote(vote) => self.take_vote(vote, tags),
-            Body::Tx(_) | Body::Ask(_) | Body::Bundle(_) => unreachable!(),
-        }
-    }
-
     /// The first cause against keeping a proposal, found before anything of it is hashed.
     ///
     /// It takes no memory.
@@ -117,10 +110,43 @@ impl State {
         }
     }
 
-    fn take_vote(&mut self, vote: Vote, tags: Seq<[u8; 32]>) -> Result<(), Refusal>
+    /// Keeps a vote of a known sender, and of a precommit for a value its tags.
+    pub fn take_vote(&mut self, vote: Vote, tags: Seq<[u8; 32]>) -> Result<(), Refusal>
         ensures answer { IsAnswer (first_cause (vote_causes self.old.me self.old.state vote)) result }
-        ensures ok { OnOk result (self.new ≡ with_vote self.old vote tags) }
+        ensures ok { OnOk result (self.new ≡ at self.old (kept_message self.old.state (record { body = OfVote vote; tags = tags }) (OfVote vote))) }
+        ensures agrees { (g : Context) → Agrees g self.old → Agrees g self.new }
         ensures err { OnErr result (self.new ≡ self.old) }
+    {
+        self.check_vote(&vote)?;
+        self.stamps.reserve(1)?;
+        self.tally.keep(vote)?;
+        if let Some(stamp) = stamp(&vote, tags) {
+            self.stamps.push_reserved(stamp);
+        }
+        Ok(())
+    }
+
+    /// Keeps a proposal of a known sender. `genuine` says whether the own tags of its transactions are right:
+    /// nobody asks of one with a valid round. The id of its value and whether it may be delivered next are
+    /// found here, once.
+    #[tactic(auto, unfolding(protocol::specs::Values::id))]
+    pub fn take_proposal(&mut self, proposal: Proposal, genuine: bool) -> Result<(), Refusal>
+        requires { IsValue proposal.value }
+        ensures answer { IsAnswer (first_cause (proposal_causes self.old.powers self.old.me self.old.state proposal)) result }
+        ensures ok { OnOk result (self.new ≡ with_proposal self.old proposal genuine) }
+        ensures agrees { (g : Context) → Agrees g self.old → IsTold g proposal genuine → Agrees g self.new }
+        ensures err { OnErr result (self.new ≡ self.old) }
+    {
+        self.check_proposal(&proposal)?;
+        let id = value_id(self.alloc, &proposal.value).map_err(|_| Refusal::OutOfMemory)?;
+        self.keep_proposal(proposal, id, genuine)?;
+        Ok(())
+    }
+
+    /// The first cause against keeping a vote. It takes no memory.
+    fn check_vote(&self, vote: &Vote) -> Result<(), Refusal>
+        ensures answer { IsAnswer (first_cause (vote_causes self.now.me self.now.state vote.now)) result }
+        ensures memory { result ≢ Err Refusal.OutOfMemory }
     {
         if vote.height != self.height {
             return Err(Refusal::OtherHeight);
@@ -128,25 +154,10 @@ impl State {
         if vote.round > MOST_ROUNDS {
             return Err(Refusal::RoundLimit);
         }
-        self.stamps.reserve(1)?;
-        self.tally.add(vote)?;
-        if let Some(stamp) = stamp(&vote, tags) {
-            self.stamps.push_reserved(stamp);
+        match self.tally.fault_of(vote) {
+            Some(fault) => Err(fault.into()),
+            None => Ok(()),
         }
-        Ok(())
-    }
-
-    #[tactic(auto, unfolding(protocol::specs::Values::id))]
-    fn take_proposal(&mut self, proposal: Proposal, genuine: bool) -> Result<(), Refusal>
-        requires { IsValue proposal.value }
-        ensures answer { IsAnswer (first_cause (proposal_causes self.old.powers self.old.me self.old.state proposal)) result }
-        ensures ok { OnOk result (self.new ≡ with_proposal self.old proposal genuine) }
-        ensures err { OnErr result (self.new ≡ self.old) }
-    {
-        self.check_proposal(&proposal)?;
-        let id = value_id(self.alloc, &proposal.value).map_err(|_| Refusal::OutOfMemory)?;
-        self.keep_proposal(proposal, id, genuine)?;
-        Ok(())
     }
 
     /// The causes against a proposal's height, round and sender.
@@ -180,8 +191,11 @@ impl State {
         ensures ok { OnOk result (self.new ≡ with_proposal self.old proposal genuine) }
         ensures err { OnErr result (self.new ≡ self.old) }
     {
+        let (round, place) = (proposal.round, self.kept.len());
         self.kept.reserve(1)?;
+        make_room(self.alloc, &mut self.places, round)?;
         self.tally.keep_proposal(&proposal)?;
+        add_place(&mut self.places, round, place);
         let is_valid = self.frontier.valid(&proposal.value);
         let is_genuine = genuine || proposal.valid_round.is_some();
         self.kept.push_reserved(KeptProposal {

@@ -1,9 +1,8 @@
 ghost use Rattle.std.specs.Prelude.{◌≡◌, IfOk};
 ghost use Rattle.transactions.specs.Grammar.{IsValue};
-ghost use Rattle.round_states.specs.Taking.{IsKept};
 
 use super::*;
-use messages::{Body, Message, Proposal, Step as VoteStep, Vote};
+use messages::{Body, Proposal, Step as VoteStep, Vote};
 use powers::Powers;
 use protocol::Step;
 use std::alloc::Global;
@@ -29,19 +28,15 @@ fn value_of(alloc: Global, number: u8) -> Result<Value, Fail>
     Ok(read_value(alloc, &bytes)?)
 }
 
-fn proposal(alloc: Global, height: u64, round: u32, sender: u16, value: Value) -> Message
-    requires { IsValue value }
-    ensures { IsKept result.body }
+fn proposal(height: u64, round: u32, sender: u16, value: Value) -> Proposal
+    ensures { result.value ≡ value }
 {
-    Message {
-        body: Body::Proposal(Proposal {
-            height,
-            round,
-            sender,
-            valid_round: None,
-            value,
-        }),
-        tags: Seq::new(alloc),
+    Proposal {
+        height,
+        round,
+        sender,
+        valid_round: None,
+        value,
     }
 }
 
@@ -54,15 +49,6 @@ fn vote(step: VoteStep, height: u64, round: u32, sender: u16, content: Option<Id
         round,
         sender,
         content,
-    }
-}
-
-fn message(alloc: Global, vote: Vote) -> Message
-    ensures { IsKept result.body }
-{
-    Message {
-        body: Body::Vote(vote),
-        tags: Seq::new(alloc),
     }
 }
 
@@ -103,14 +89,14 @@ fn propose(
     number: u8,
 ) -> Result<Option<Refusal>, Fail> {
     let value = value_of(state.alloc, number)?;
-    let arrived = proposal(state.alloc, height, round, sender, value);
-    Ok(state.take_in(arrived, true).err())
+    let arrived = proposal(height, round, sender, value);
+    Ok(state.take_proposal(arrived, true).err())
 }
 
 /// Why a vote of validator 1 for nil is refused, if it is.
 fn voted(state: &mut State, step: VoteStep, height: u64, round: u32) -> Option<Refusal> {
-    let arrived = message(state.alloc, vote(step, height, round, 1, None));
-    state.take_in(arrived, true).err()
+    let arrived = vote(step, height, round, 1, None);
+    state.take_vote(arrived, Seq::new(state.alloc)).err()
 }
 
 /// Begins a later round, and gives what it lets go.
@@ -186,6 +172,29 @@ fn proposals_ahead(rt: HostRuntime) -> Result<(), Fail> {
     assert!(rt; begin(&mut state, 1)?.is_none());
     let proposals = [(0, 4, 0, 1, Some(Refusal::RoundAhead)), (0, 3, 3, 1, None)];
     propose_each(&rt, &mut state, &proposals, 1)
+}
+
+/// The places of a round's proposals after one of another round, and none in a copy of the next height.
+fn places_each(rt: &impl Abort, state: &mut State) -> Result<(), Fail> {
+    for (round, sender, number) in [(0, 0, 1), (1, 1, 1), (0, 0, 2)] {
+        assert_eq!(rt; propose(state, 0, round, sender, number)?, None);
+    }
+    assert_eq!(rt; state.places(0), [0, 2].as_slice());
+    assert_eq!(rt; state.copy()?.places(1), [1].as_slice());
+    assert!(rt; state.places(2).is_empty());
+    Ok(())
+}
+
+#[test]
+fn places_by_round(rt: HostRuntime) -> Result<(), Fail> {
+    let mut state = state_of(rt.alloc(), 3)?;
+    places_each(&rt, &mut state)
+}
+
+#[test]
+fn numbers_of_refusals(rt: HostRuntime) {
+    assert_eq!(rt; Refusal::OtherHeight.number(), 7);
+    assert_eq!(rt; Refusal::OutOfMemory.number(), 16);
 }
 
 /// The votes of validator 1 for nil that are refused, and those that are kept.
@@ -367,26 +376,4 @@ fn open_round(rt: &impl Abort, state: &mut State) -> Result<(), Fail> {
 fn the_proposer_proposes(rt: HostRuntime) -> Result<(), Fail> {
     let mut state = state_of(rt.alloc(), 0)?;
     open_round(&rt, &mut state)
-}
-
-#[test]
-fn a_vote_taken_back(rt: HostRuntime) -> Result<(), Fail> {
-    let round = Round::new(3, 5, 2);
-    let (round, unsaved) = round.prevote(None);
-    let round = round.take_back(unsaved);
-    let (round, unsaved) = round.prevote(Some(A));
-    assert_eq!(rt;
-        vote_in(release(unsaved)),
-        Some(vote(VoteStep::Prevote, 5, 2, 3, Some(A)))
-    );
-    let (round, unsaved) = round.precommit(None);
-    let round = round.take_back(unsaved);
-    let (round, unsaved) = round.precommit(None);
-    assert_eq!(rt;
-        vote_in(release(unsaved)),
-        Some(vote(VoteStep::Precommit, 5, 2, 3, None))
-    );
-    let round = round.next(3);
-    assert_eq!(rt; round.number(), 3);
-    Ok(())
 }

@@ -19,7 +19,7 @@ pub(crate) enum Entry {
 }
 
 /// An own message or a decision that is not saved yet. It has to be spent: let go once its save is
-/// done, or taken back. No one but a typed round and the steps of a [`State`](crate::State) makes one.
+/// done. No one but a typed round and the steps of a [`State`](crate::State) makes one.
 pub struct Unsaved {
     sender: u16,
     height: u64,
@@ -90,16 +90,6 @@ impl Unsaved {
             round: bundle.round,
             entry: Entry::Decision(bundle),
         }
-    }
-
-    /// Spends it, and its message is never sent.
-    pub(crate) fn forget(self) {
-        let Unsaved {
-            sender: _,
-            height: _,
-            round: _,
-            entry: _,
-        } = self;
     }
 }
 

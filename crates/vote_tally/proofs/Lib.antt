@@ -2,3 +2,4 @@ pub mod OwnLimits
 pub mod Raising
 pub mod Highest
 pub mod Told
+pub mod Decided

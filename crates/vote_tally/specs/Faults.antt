@@ -21,12 +21,18 @@ proposal_fault k q =
     else if is_full k.me k.proposals k.votes q.sender || has_two k.proposals q then Some VoterFull
     else None
 
--- The answer is that of the first cause, unless memory ran out.
+-- The answer is that of the first cause. Memory runs out only where there is none.
 abbrev pub IsAnswer : Option TallyFault → Result (Unit {0}) TallyFault → Type 0
 IsAnswer fault (Ok done) = fault ≡ None
-IsAnswer fault (Err OutOfMemory) = Unit {0}
+IsAnswer fault (Err OutOfMemory) = fault ≡ None
 IsAnswer fault (Err Repeat) = fault ≡ Some Repeat
 IsAnswer fault (Err VoterFull) = fault ≡ Some VoterFull
+
+-- the numbers that callers see
+abbrev pub number_of : TallyFault → ℕ
+number_of Repeat = 1
+number_of VoterFull = 2
+number_of OutOfMemory = 3
 
 -- ---- one sender's messages alone decide the answer to its next one
 

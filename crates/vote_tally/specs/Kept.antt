@@ -1,9 +1,10 @@
 -- What a tally is: the validators' powers, the own number, and the messages of one height that were kept, in order of arrival.
-use Rattle.std.specs.Prelude.{◌≡◌, ℕ, ◌<◌, ◌≤◌, ◌++◌, ◌∷◌, [], List, length, All, Option, map}
+use Rattle.std.specs.Prelude.{◌≡◌, ℕ, ◌++◌, ◌∷◌, [], true, List, Option, Some, map}
 use Rattle.protocol.specs.Values.{Id}
 use Rattle.protocol.specs.Messages.{Proposal, Vote}
 use Rattle.protocol.specs.declared.types.Step.{Step}
-use Rattle.powers.specs.Power.{is_weak}
+use Rattle.protocol.specs.declared.types.Step.TheVariants.{Precommit}
+use Rattle.powers.specs.Power.{is_weak, is_quorum}
 use Rattle.protocol.specs.Tally as tally
 use Rattle.protocol.specs.Order.{highest}
 
@@ -29,6 +30,10 @@ rounds_of k = map (λ (q : Proposal). q.round) k.proposals ++ map (λ (v : Vote)
 -- the highest round in which a weak quorum sent messages
 abbrev pub highest_weak : Kept → Option ℕ
 highest_weak k = highest (λ r. is_weak k.powers (power_above k r)) (rounds_of k)
+
+-- some id has a quorum of precommits in the round
+abbrev pub IsDecisive : Kept → ℕ → Type 0
+IsDecisive k round = (x : Id) × (is_quorum k.powers (power_for k round Precommit (Some x)) ≡ true)
 
 -- the vote is kept
 abbrev pub with_vote : Kept → Vote → Kept

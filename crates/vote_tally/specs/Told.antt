@@ -1,10 +1,12 @@
 -- What a tally knows of its kept messages beside their lists.
-use Rattle.std.specs.Prelude.{◌≡◌, ℕ, ◌+◌, ◌<◌, ◌≤◌, ◌==◌, min, count_by, Bool, true, cond, List, [], Option, Some, None, IfSome, slice_index_or}
+use Rattle.std.specs.Prelude.{◌≡◌, ℕ, ◌+◌, ◌<◌, ◌≤◌, ◌==◌, ◌↔◌, min, count_by, Bool, true, cond, List, [], Option, Some, None, IfSome, slice_index_or}
 use Rattle.std.specs.List.{list_all}
 use Rattle.std.specs.BTreeMap.{BTreeMap}
-use Rattle.powers.specs.Power.{power, is_weak}
-use Rattle.protocol.specs.Messages.{Proposal, Vote}
-use Rattle.protocol.specs.Tally.{power_above}
+use Rattle.powers.specs.Power.{power, is_weak, is_quorum}
+use Rattle.protocol.specs.Values.{Id}
+use Rattle.protocol.specs.Messages.{◌∈◌, Proposal, Vote}
+use Rattle.protocol.specs.declared.types.Step.TheVariants.{Precommit}
+use Rattle.protocol.specs.Tally.{power_above, power_for}
 use Rattle.vote_tally.specs.declared.heights.Heights.{Heights}
 use Rattle.vote_tally.specs.declared.heights.Heights.TheVariants.{Nothing, One, Several}
 use Rattle.vote_tally.specs.declared.totals.Topic.{Topic}
@@ -43,3 +45,7 @@ pub record IsTold (powers : List ℕ) (qs : List Proposal) (vs : List Vote) (kno
   pub counts : (i : ℕ) → i < 64 → slice_index_or counted i 0 ≡ min (sent qs vs i) 65535
   pub heights : AreHeights those vs
   pub highest : IsHighest (λ r. is_weak powers (power_above powers qs vs r)) best
+
+-- all rounds in which a quorum precommitted one id
+pub record AreDecisive (powers : List ℕ) (vs : List Vote) (rounds : List ℕ) : Type 0 where
+  pub each : (r : ℕ) → (r ∈ rounds) ↔ ((x : Id) × (is_quorum powers (power_for powers vs r Precommit (Some x)) ≡ true))

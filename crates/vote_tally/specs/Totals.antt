@@ -1,13 +1,14 @@
 -- Running totals: who spoke on each topic, and the power of these.
-use Rattle.std.specs.Prelude.{◌≡◌, ℕ, ◌<◌, ◌≤◌, ◌^◌, ◌==◌, nat_lt, nat_le, count_by, Bool, true, false, ◌&&◌, List, length, Option, unwrap_or, IsSome}
+use Rattle.std.specs.Prelude.{◌≡◌, ℕ, ◌<◌, ◌≤◌, ◌^◌, ◌==◌, nat_lt, nat_le, count_by, Bool, true, false, cond, not, ◌&&◌, List, [], ◌∷◌, ◌++◌, length, Option, Some, None, unwrap_or, IsSome}
 use Rattle.std.specs.Int.{bit_at}
+use Rattle.std.specs.List.{list_any}
 use Rattle.std.specs.BTreeMap as tree
 use Rattle.std.specs.BTreeMap.{BTreeMap}
 use Rattle.std.specs.declared.cmp.Ordering.{Ordering}
 use Rattle.messages.specs.Equality.{content_eq}
 use Rattle.messages.specs.declared.body.Step.{Step}
 use Rattle.messages.specs.declared.body.Step.TheVariants as steps
-use Rattle.powers.specs.Power.{power, total}
+use Rattle.powers.specs.Power.{power, total, is_quorum}
 use Rattle.protocol.specs.Messages.{Proposal, Vote}
 use Rattle.protocol.specs.declared.types.Step.TheVariants as round_steps
 use Rattle.protocol.specs.Tally.{is_vote, is_vote_for, senders, proposers, speakers}
@@ -77,6 +78,16 @@ pub record HasRoomForProposal (totals : BTreeMap Topic Total) (r : ℕ) : Type 0
   pub round : HasRoom totals (Round r)
   pub one : HasRoom totals (Proposals r)
   pub two : HasRoom totals (SecondProposals r)
+
+-- the vote is a precommit for an id that has a quorum of precommits in its round
+abbrev pub is_decided : List ℕ → BTreeMap Topic Total → Step → ℕ → Option (List ℕ) → Bool
+is_decided powers totals steps.Precommit round (Some x) = is_quorum powers (total_at totals (PrecommitsFor round (Some x))).power
+is_decided powers totals steps.Precommit round None = false
+is_decided powers totals steps.Prevote round content = false
+
+-- with a round that was decided, once
+abbrev pub rounds_with : Bool → ℕ → List ℕ → List ℕ
+rounds_with decided r rounds = cond (decided && not (list_any (λ other. other == r) rounds)) (rounds ++ r ∷ []) rounds
 
 -- ---- what the topics are
 

@@ -6,16 +6,17 @@
 ghost use Rattle.std.specs.Prelude.{◌≡◌, ◌==◌, ◌<◌, ◌≤◌, ◌↔◌, ◌++◌, ◌∷◌, [], ℕ, false, Option, IfOk, OnOk, OnErr, length, nat_le};
 ghost use Rattle.std.specs.List.{list_any};
 ghost use Rattle.protocol.specs.Values.{Id as Digest};
-ghost use Rattle.protocol.specs.Messages.{Vote as AnyVote, step_of_vote, vote_eq, proposal_eq};
+ghost use Rattle.protocol.specs.Messages.{◌∈◌, step_of_vote, vote_eq, proposal_eq};
 ghost use Rattle.protocol.specs.declared.types.Step.{Step as RoundStep};
 ghost use Rattle.protocol.specs.Tally.{is_vote_for, is_vote, senders, proposers};
-ghost use Rattle.vote_tally.specs.Kept.{power_for, power_any, power_above, highest_weak, with_vote, with_proposal};
+ghost use Rattle.vote_tally.specs.Kept.{power_for, power_any, power_above, highest_weak, IsDecisive, with_vote, with_proposal};
 ghost use Rattle.vote_tally.specs.Totals.{IsSmall};
 ghost use Rattle.vote_tally.specs.Told.{sent};
 ghost use Rattle.protocol.specs.Refusals.{is_full, has_two};
-ghost use Rattle.vote_tally.specs.Faults.{vote_fault, proposal_fault, IsAnswer, OwnLimitsLaw};
+ghost use Rattle.vote_tally.specs.Faults.{vote_fault, proposal_fault, number_of, IsAnswer, OwnLimitsLaw};
 
 mod counts;
+mod decisive;
 mod heights;
 mod scans;
 mod totals;
@@ -51,6 +52,15 @@ pub enum TallyFault {
     OutOfMemory = 3,
 }
 
+impl TallyFault {
+    /// The number of the fault.
+    pub fn number(self) -> u8
+        ensures { result ≡ number_of self }
+    {
+        self as u8
+    }
+}
+
 impl From<AllocError> for TallyFault {
     ghost use Rattle.vote_tally.specs.declared.TallyFault.TheVariants.{OutOfMemory};
 
@@ -83,17 +93,18 @@ pub struct Tally {
     counts: Counts,
     heights: Heights,
     highest: Option<u32>,
+    decisive: Vec<u32>,
 }
 
 impl Model for Tally {
     ghost use Rattle.vote_tally.specs.Kept.{Kept};
-    ghost use Rattle.vote_tally.specs.Told.{IsTold};
+    ghost use Rattle.vote_tally.specs.Told.{IsTold, AreDecisive};
 
     ghost Value = { Kept };
 
     ghost view = { λ a. record { powers = a.powers; me = a.me; proposals = a.proposals.items; votes = a.votes.items } };
 
-    ghost invariant = { λ a. IsTold a.powers a.proposals.items a.votes.items a.totals a.counts a.heights a.highest };
+    ghost invariant = { λ a. IsTold a.powers a.proposals.items a.votes.items a.totals a.counts a.heights a.highest × AreDecisive a.powers a.votes.items a.decisive.items };
 }
 
 impl Tally {
@@ -112,6 +123,7 @@ impl Tally {
             counts: none_counted(),
             heights: Heights::Nothing,
             highest: None,
+            decisive: Vec::new(alloc),
         }
     }
 
@@ -195,9 +207,11 @@ impl Tally {
         ensures err { OnErr result (self.new ≡ self.old) }
     {
         totals::make_room_for_vote(&mut self.totals, &vote)?;
+        self.decisive.reserve(1)?;
         self.votes.push(vote)?;
         totals::raise_vote(&mut self.totals, &self.powers, &vote);
         self.highest = totals::highest_with(self.highest, &self.totals, &self.powers, vote.round);
+        decisive::note(&mut self.decisive, &self.totals, &self.powers, &vote);
         count_one(&mut self.counts, vote.sender);
         self.heights = self.heights.with(vote.height);
         Ok(())
@@ -227,6 +241,7 @@ impl Tally {
         self.counts = none_counted();
         self.heights = Heights::Nothing;
         self.highest = None;
+        self.decisive.clear();
     }
 
     /// Whether a validator voted for this content.
@@ -269,6 +284,14 @@ impl Tally {
         ensures { result ≡ highest_weak self.now }
     {
         self.highest
+    }
+
+    /// The rounds in which a quorum precommitted one id, each once: the only ones that line 49 may decide in.
+    /// As long as liars have less than a third of the power, the others precommitted in each of them.
+    pub fn decisive(&self) -> &[u32]
+        ensures { (r : ℕ) → (r ∈ result.now) ↔ IsDecisive self.now r }
+    {
+        &self.decisive
     }
 
     /// An equal tally.

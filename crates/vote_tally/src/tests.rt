@@ -387,6 +387,28 @@ fn the_highest_weak_round(rt: HostRuntime) -> Result<(), Fail> {
 }
 
 #[test]
+fn the_decisive_rounds(rt: HostRuntime) -> Result<(), Fail> {
+    let mut tally = tally_of(rt.alloc(), 3)?;
+    let votes = [(7, 0, A), (5, 0, A), (5, 1, B), (5, 2, A), (5, 1, A), (5, 3, A)];
+    for (round, sender, content) in votes {
+        tally.keep(Vote {
+            step: Step::Precommit,
+            ..prevote(round, sender, Some(content))
+        })?;
+    }
+    assert_eq!(rt; tally.decisive(), [5].as_slice());
+    tally.clear();
+    assert!(rt; tally.decisive().is_empty());
+    Ok(())
+}
+
+#[test]
+fn numbers_of_faults(rt: HostRuntime) {
+    assert_eq!(rt; TallyFault::Repeat.number(), 1);
+    assert_eq!(rt; TallyFault::OutOfMemory.number(), 3);
+}
+
+#[test]
 fn the_last_validator(rt: HostRuntime) -> Result<(), Fail> {
     let powers = Powers::new(vec![in rt.alloc(); 1; 64]?)?;
     let mut tally = Tally::new(rt.alloc(), powers, 1);

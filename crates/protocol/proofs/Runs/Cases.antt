@@ -16,7 +16,7 @@ use Rattle.protocol.specs.Queues.{pick}
 use Rattle.protocol.specs.Refusals.{bundle_senders}
 use Rattle.protocol.specs.Restart.{restart}
 use Rattle.protocol.specs.Order.{enabled}
-use Rattle.protocol.specs.Examples.{Tallies, Holds, Orders, Waits, Starts, Refuses, Takes, Judges, Ends, Halts}
+use Rattle.protocol.specs.Examples.{Tallies, Holds, Orders, Waits, Starts, Refuses, Takes, Judges, Ends, Halts, Picks, Answers, Sent}
 
 pub tallies : Tallies
 tallies = (refl, refl, refl)
@@ -55,3 +55,15 @@ ends = (refl, refl, refl)
 
 pub halts : Halts
 halts = (refl, refl, refl)
+
+pub picks : Picks
+unfolding restart pick fifo valid value_spelling tx_spelling tx_fields_spelling tags_spelling number_bytes
+picks = (refl, refl)
+
+pub answers : Answers
+unfolding restart
+answers = refl
+
+pub sent : Sent
+unfolding proposer restart pick value_spelling number_bytes
+sent = (refl, refl, refl)

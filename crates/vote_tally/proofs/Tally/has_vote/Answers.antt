@@ -10,7 +10,7 @@ pub returns-then-is_at : goal.returns-then-is_at
 returns-then-is_at c =
     let h = c.in-One.height in
     let v = c.args.vote.now in
-    let all = subst (λ (vs : List Vote). list_all (λ (w : Vote). w.height == h) vs ≡ true) (ap (λ (k : Kept). k.votes) c.self.view_is) (of_one_height c.self.inside.heights h c.self.inside.votes.items c.in-One.is c.self.invariant.heights) in
+    let all = subst (λ (vs : List Vote). list_all (λ (w : Vote). w.height == h) vs ≡ true) (ap (λ (k : Kept). k.votes) c.self.view_is) (of_one_height c.self.inside.heights h c.self.inside.votes.items c.in-One.is c.self.invariant.0.heights) in
     let same : (h == v.height) ≡ true = sym c.is_at.ensures ∙ c.if-is_at.true in
     c.has_voted.ensures ∙ sym (one_height h v c.args.self.now.votes all ∙ rw same refl)
 
@@ -18,6 +18,6 @@ pub returns-else-is_at : goal.returns-else-is_at
 returns-else-is_at c =
     let h = c.in-One.height in
     let v = c.args.vote.now in
-    let all = subst (λ (vs : List Vote). list_all (λ (w : Vote). w.height == h) vs ≡ true) (ap (λ (k : Kept). k.votes) c.self.view_is) (of_one_height c.self.inside.heights h c.self.inside.votes.items c.in-One.is c.self.invariant.heights) in
+    let all = subst (λ (vs : List Vote). list_all (λ (w : Vote). w.height == h) vs ≡ true) (ap (λ (k : Kept). k.votes) c.self.view_is) (of_one_height c.self.inside.heights h c.self.inside.votes.items c.in-One.is c.self.invariant.0.heights) in
     let other : (h == v.height) ≡ false = sym c.is_at.ensures ∙ c.if-is_at.false in
     c.if-is_at.false ∙ sym (one_height h v c.args.self.now.votes all ∙ rw other refl)

@@ -6,4 +6,4 @@ pub returns : goal.returns
 returns c =
     let i = c.self.inside in
     let k : Kept = record { powers = i.powers; me = i.me; proposals = i.proposals.items; votes = i.votes.items } in
-    rw (← c.self.view_is) (highest_is k i.highest c.self.invariant.highest)
+    rw (← c.self.view_is) (highest_is k i.highest c.self.invariant.0.highest)

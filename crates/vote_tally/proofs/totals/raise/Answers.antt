@@ -1,4 +1,4 @@
-use Rattle.std.proofs.Common.{◌≡◌, sym, ap, Option}
+use Rattle.std.proofs.Common.{sym, ap, Option}
 use Rattle.std.specs.Prelude.{unwrap_or}
 use Rattle.vote_tally.specs.declared.totals.Total.{Total}
 use Rattle.vote_tally.specs.Totals.{nothing}

@@ -1,4 +1,3 @@
-use Rattle.vote_tally.specs.Totals.{has, total_at}
 use Rattle.vote_tally.proofs.Raising.{raised_for_vote}
 use Rattle.vote_tally.proofs.totals.raise_vote.Goals as goal
 

@@ -1,4 +1,4 @@
-use Rattle.std.proofs.Common.{◌≡◌, All, List, refl, ap, subst, ◌∙◌}
+use Rattle.std.proofs.Common.{◌≡◌, All, List, refl, sym, ap, subst, ◌∙◌}
 use Rattle.std.proofs.lemmas.List.{map-append}
 use Rattle.protocol.specs.State.{Context}
 use Rattle.protocol.specs.Rules.{fired, saved, scheduled}
@@ -10,7 +10,7 @@ use Rattle.node_core.specs.Core.{Core, context_of}
 use Rattle.node_core.specs.Seen.{seen}
 use Rattle.protocol.specs.Messages.{Bundle}
 use Rattle.protocol.specs.Queues.{pick}
-use Rattle.node_core.specs.Firing.{decided_by, IsNarrow}
+use Rattle.node_core.specs.Firing.{IsHanded, decided_by, IsNarrow}
 use Rattle.node_core.proofs.Spelled.{rule_decided}
 use Rattle.node_core.proofs.Firings.{IsFiredTo, fired_to, fired_once, fired_sound, pending_decided, decided_in}
 use Rattle.node_core.proofs.node.NodeCore.fire.Given as given
@@ -23,7 +23,7 @@ made g c =
     let s = core.machine.state in
     let k = rule_of s c.args.rule in
     let v = picked_value (pick_in c.in_ok-input.input) in
-    let same = rw (← c.self.view_is) at c.in_ok-input.ensures.handed.same in
+    let same = (subst (λ (n : Core). IsHanded n c.args.rule c.in_ok-input.input) (sym c.self.view_is) c.in_ok-input.ensures.handed).same in
     let context = rw (← c.self.view_is) at c.requires.0 in
     let fires = c.in_ok-unsaved.ensures in
     let frames = c.in_ok-frame.ensures in
@@ -48,7 +48,7 @@ invariant_of-self-3 g c =
     let k = rule_of s c.args.rule in
     let v = picked_value (pick_in c.in_ok-input.input) in
     let context = rw (← c.self.view_is) at c.requires.0 in
-    let same = rw (← c.self.view_is) at c.in_ok-input.ensures.handed.same in
+    let same = (subst (λ (n : Core). IsHanded n c.args.rule c.in_ok-input.input) (sym c.self.view_is) c.in_ok-input.ensures.handed).same in
     let unsaved = subst (λ (h : Context). c.in_ok-unsaved.field-0.unsaved ≡ pending_of core.machine.me (saved h v s k)) context c.in_ok-unsaved.ensures.unsaved in
     let decided = ap decided_by unsaved ∙ pending_decided core.machine.me (saved (context_of core) v s k) ∙ ap decided_in same in
     let fit = rw (← c.self.view_is) at c.in_ok-input.ensures.fit in
@@ -56,4 +56,4 @@ invariant_of-self-3 g c =
     fired_sound k core _ (made g c) c.self.invariant a.spelled a.own
 
 pub returns-clause-state : goal.returns-clause-state
-returns-clause-state g c = rw (← c.self.view_is) (made g c).state
+returns-clause-state g c = subst (λ (n : Core). c.fire.new.state.state ≡ fired (context_of n) (pick n.queues) n.machine.state (rule_of n.machine.state c.args.rule)) c.self.view_is (made g c).state

@@ -1,4 +1,5 @@
-use Rattle.std.proofs.Common.{refl}
+use Rattle.std.proofs.Common.{refl, ap}
+use Rattle.round_states.specs.Machine.{Machine}
 use Rattle.node_core.specs.Core.{Core, context_of}
 use Rattle.node_core.specs.Seen.{seen}
 use Rattle.node_core.proofs.Sound.{sound_kept, same_agreed}
@@ -7,15 +8,15 @@ use Rattle.node_core.proofs.node.NodeCore.take_proposal.Goals as goal
 pub invariant_of-self-2 : goal.invariant_of-self-2
 invariant_of-self-2 c =
     let core : Core = seen c.self.inside in
-    let state = c.in_ok-take_in.ensures.ok in
+    let state = ap (λ (m : Machine). m.state) c.in_ok-take_proposal.ensures.ok in
     let told = rw (← c.self.view_is) at c.in_ok-genuine.ensures in
-    let agrees = c.in_ok-take_in.ensures.agrees (context_of core) c.self.invariant.agrees told in
-    sound_kept core c.take_in.new.self c.self.invariant agrees (rw state c.self.invariant.stamps) (rw state refl) (rw state refl)
+    let agrees = c.in_ok-take_proposal.ensures.agrees (context_of core) c.self.invariant.agrees told in
+    sound_kept core c.take_proposal.new.self c.self.invariant agrees (rw state c.self.invariant.stamps) (rw state refl) (rw state refl)
 
 pub returns-clause-beside : goal.returns-clause-beside
 returns-clause-beside c =
     let core : Core = seen c.self.inside in
     let told = rw (← c.self.view_is) at c.in_ok-genuine.ensures in
-    let agrees = c.in_ok-take_in.ensures.agrees (context_of core) c.self.invariant.agrees told in
-    let same = same_agreed core c.take_in.new.self agrees in
+    let agrees = c.in_ok-take_proposal.ensures.agrees (context_of core) c.self.invariant.agrees told in
+    let same = same_agreed core c.take_proposal.new.self agrees in
     rw (← c.self.view_is) (record { same = record { powers = same.powers; me = same.me; ring = refl }; queues = refl; decisions = refl; outgoing = refl; scheduled = refl; fired = refl })

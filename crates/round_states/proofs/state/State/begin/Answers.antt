@@ -12,6 +12,7 @@ invariant_of-self c =
     let is : (r.validator ≡ a.tally.me) × (r.height ≡ a.height) × (r.number ≡ c.args.number) = elim c.match-replace.branch [ in-Before w ↦ search rules | in-Propose w ↦ search rules | in-Prevote w ↦ search rules | in-Precommit w ↦ search rules ] in
     record {
       proposals = c.self.invariant.proposals;
+      places = c.self.invariant.places;
       found = c.self.invariant.found;
       frontier = c.self.invariant.frontier;
       stage = (is.0, is.1);

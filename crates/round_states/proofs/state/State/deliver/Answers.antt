@@ -5,6 +5,7 @@ use Rattle.round_states.specs.declared.state.KeptProposal.{KeptProposal}
 use Rattle.round_states.specs.Found.{proposal_in}
 use Rattle.round_states.specs.Seen.{delivered_by}
 use Rattle.round_states.proofs.Deciding.{valid_after, delivered_more, none_found}
+use Rattle.round_states.proofs.ByRound.{no_places}
 use Rattle.round_states.proofs.state.State.deliver.Goals as goal
 
 pub extend-requires-clause-valid : goal.extend-requires-clause-valid
@@ -17,6 +18,7 @@ invariant_of-self-2 c =
     let room : c.self.inside.height < 2 ^ 48 = rw (← c.self.view_is) at c.requires.room in
     record {
       proposals = ap (λ (k : Kept). k.proposals) c.clear.ensures ∙ sym (ap (λ (ks : List KeptProposal). map proposal_in ks) c.clear-2.ensures.items);
+      places = λ r. rw (c.clear-3.ensures.empty, c.clear-2.ensures.items) (sym (no_places r));
       found = none_found _ _ c.clear-2.ensures.items;
       frontier = rw (c.push_reserved.ensures.items, delivered_more, c.reserve.ensures.items) (c.in_ok-extend.ensures.ok (delivered_by c.self.inside.decided.items) c.self.invariant.frontier);
       stage = tt;

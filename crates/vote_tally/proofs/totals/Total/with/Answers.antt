@@ -1,4 +1,4 @@
-use Rattle.std.proofs.Common.{◌≡◌, ◌∙◌, sym, arith}
+use Rattle.std.proofs.Common.{◌∙◌, sym, arith}
 use Rattle.vote_tally.specs.Totals.{has}
 use Rattle.vote_tally.proofs.Raising.{total_with, within}
 use Rattle.vote_tally.proofs.totals.Total.with.Goals as goal

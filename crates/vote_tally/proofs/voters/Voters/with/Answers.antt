@@ -1,4 +1,4 @@
-use Rattle.std.proofs.Common.{◌<◌, arith}
+use Rattle.std.proofs.Common.{arith}
 use Rattle.vote_tally.proofs.Raising.{with_has}
 use Rattle.vote_tally.proofs.voters.Voters.with.Goals as goal
 
