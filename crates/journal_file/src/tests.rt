@@ -1,0 +1,4 @@
+//! Journals in memory and in files.
+
+mod files;
+mod journals;

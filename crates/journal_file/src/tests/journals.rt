@@ -1,0 +1,456 @@
+//! The worked values of the format, and what opening and saving leave.
+
+use messages::{Bundle, Precommit};
+use powers::Powers;
+use std::alloc::{AllocError, Global};
+use std::test::Fail;
+use transactions::{Named, Op, Seq, Shared, Tx, Value, value_id};
+use vote_journal::{
+    Act, Journal, MemoryStore, NotOpened, Opened, OwnMessage, Record, read_record, spell_record,
+};
+
+const HEADER: [u8; 4] = *b"TMJ1";
+
+/// The record of a prevote for nil by validator 2 at height 0 and round 0.
+const PREVOTE: [u8; 21] = [
+    0, 0, 0, 0x11, 1, 0x11, 0, 0, 0, 0, 0, 0, 0, 0, 0, 0, 0, 0, 0, 2, 0,
+];
+
+/// Tags of nines for four validators.
+fn tags(alloc: Global) -> Result<Seq<[u8; 32]>, AllocError> {
+    let mut tags = Seq::new(alloc);
+    for _ in 0..4 {
+        tags.push([9u8; 32])?;
+    }
+    Ok(tags)
+}
+
+/// Client 7's transaction of this number, which asks for the byte `a`.
+fn one_byte(alloc: Global, number: u64) -> Result<Tx, AllocError> {
+    let mut contents = Seq::new(alloc);
+    contents.push(b'a')?;
+    Ok(Tx {
+        client: 7,
+        number,
+        op: Op::Bytes(contents),
+        tags: tags(alloc)?,
+    })
+}
+
+/// The value of that transaction alone.
+fn value(alloc: Global, number: u64) -> Result<Value, AllocError> {
+    let mut txs = Vec::new(alloc);
+    txs.push(one_byte(alloc, number)?)?;
+    Ok(Value {
+        txs: Shared::from_vec(alloc, txs)?,
+    })
+}
+
+fn own(act: Act) -> Record {
+    Record::Own(OwnMessage {
+        height: 0,
+        round: 0,
+        act,
+    })
+}
+
+/// Bytes of the record of a prevote for the value.
+fn prevote(alloc: Global) -> Result<Vec<u8>, Fail> {
+    let id = value_id(alloc, &value(alloc, 1)?)?;
+    Ok(spell_record(alloc, 3, &own(Act::Prevoting(Some(id))))?)
+}
+
+/// Bytes of the record of a precommit for the value.
+fn precommit(alloc: Global) -> Result<Vec<u8>, Fail> {
+    let value = value(alloc, 1)?;
+    let id = value_id(alloc, &value)?;
+    let named = Named::new(value, id);
+    Ok(spell_record(alloc, 3, &own(Act::Precommitting(Some(named))))?)
+}
+
+/// Precommits of validators 0, 1 and 3.
+fn certificate(alloc: Global) -> Result<Seq<Precommit>, AllocError> {
+    let mut precommits = Seq::new(alloc);
+    for sender in [0, 1, 3] {
+        precommits.push(Precommit {
+            sender,
+            tags: tags(alloc)?,
+        })?;
+    }
+    Ok(precommits)
+}
+
+/// Bytes of the record of a decision of the transaction of this number.
+fn decision(alloc: Global, number: u64) -> Result<Vec<u8>, Fail> {
+    let value = value(alloc, number)?;
+    let id = value_id(alloc, &value)?;
+    let bundle = Bundle {
+        height: 0,
+        sender: 3,
+        round: 0,
+        id,
+        value,
+        precommits: certificate(alloc)?,
+    };
+    Ok(spell_record(alloc, 3, &Record::Decided(bundle))?)
+}
+
+/// The journal of validator 3 that prevoted and precommitted the value and decided at height 0.
+fn decided(alloc: Global) -> Result<Vec<u8>, Fail> {
+    let mut bytes = HEADER.to_vec(alloc)?;
+    bytes.extend_from_slice(&prevote(alloc)?)?;
+    bytes.extend_from_slice(&precommit(alloc)?)?;
+    bytes.extend_from_slice(&decision(alloc, 1)?)?;
+    Ok(bytes)
+}
+
+/// What a call left: the number of its fault or 0, how many records there are, and the bytes.
+#[derive(Drop)]
+struct Outcome {
+    fault: u8,
+    records: usize,
+    bytes: Vec<u8>,
+}
+
+/// A store of these bytes, of which the call of this number fails and keeps one byte.
+fn store(alloc: Global, bytes: &[u8], failing: u64) -> Result<MemoryStore, AllocError> {
+    Ok(MemoryStore::new(bytes.to_vec(alloc)?, failing, 1))
+}
+
+fn outcome_of(
+    alloc: Global,
+    opened: Result<Opened<MemoryStore>, NotOpened<MemoryStore>>,
+) -> Result<Outcome, AllocError> {
+    match opened {
+        Ok(Opened { journal, records }) => Ok(Outcome {
+            fault: 0,
+            records: records.len(),
+            bytes: journal.close().bytes().to_vec(alloc)?,
+        }),
+        Err(NotOpened { fault, store }) => Ok(Outcome {
+            fault: fault as u8,
+            records: 0,
+            bytes: store.bytes().to_vec(alloc)?,
+        }),
+    }
+}
+
+/// Opens the journal of validator `me` of four.
+fn open_at(alloc: Global, bytes: &[u8], me: u16, failing: u64) -> Result<Outcome, Fail> {
+    let powers = Powers::new(vec![in alloc; 1, 1, 1, 1]?)?;
+    let store = store(alloc, bytes, failing)?;
+    Ok(outcome_of(alloc, Journal::open(alloc, store, me, &powers))?)
+}
+
+fn opened(alloc: Global, bytes: &[u8], me: u16) -> Result<Outcome, Fail> {
+    open_at(alloc, bytes, me, 0)
+}
+
+/// Opens the journal of validator 2 and saves the prevote for nil: the fault of the save, and 1 where the journal has
+/// failed.
+fn save_at(alloc: Global, bytes: &[u8], failing: u64) -> Result<Outcome, Fail> {
+    let powers = Powers::new(vec![in alloc; 1, 1, 1, 1]?)?;
+    let store = store(alloc, bytes, failing)?;
+    match Journal::open(alloc, store, 2, &powers) {
+        Ok(
+            Opened {
+                mut journal,
+                records: _,
+            },
+        ) => {
+            let fault = saved(&mut journal);
+            Ok(Outcome {
+                fault,
+                records: usize::from(journal.has_failed()),
+                bytes: journal.close().bytes().to_vec(alloc)?,
+            })
+        }
+        Err(_) => Err("not opened".into()),
+    }
+}
+
+fn saved(journal: &mut Journal<MemoryStore>) -> u8 {
+    if journal.has_failed() {
+        return 9;
+    }
+    match journal.save(&own(Act::Prevoting(None))) {
+        Ok(()) => 0,
+        Err(fault) => fault as u8,
+    }
+}
+
+/// The bytes with another one at this place.
+fn changed(alloc: Global, bytes: &[u8], at: usize, byte: u8) -> Result<Vec<u8>, AllocError> {
+    let mut all = Vec::new(alloc);
+    for (i, old) in bytes.iter().enumerate() {
+        all.push(if i == at { byte } else { *old })?;
+    }
+    Ok(all)
+}
+
+/// A header and these bytes.
+fn behind_header(alloc: Global, bytes: &[u8]) -> Result<Vec<u8>, AllocError> {
+    let mut all = HEADER.to_vec(alloc)?;
+    all.extend_from_slice(bytes)?;
+    Ok(all)
+}
+
+/// The fault of opening the journal of validator 2 with these bytes behind the header.
+fn fault_of(alloc: Global, bytes: &[u8]) -> Result<u8, Fail> {
+    let all = behind_header(alloc, bytes)?;
+    Ok(opened(alloc, &all, 2)?.fault)
+}
+
+/// Whether the journal of validator 3 that decided is refused with each of these bytes at its place.
+fn refuses_each(alloc: Global, changes: &[(usize, u8)]) -> Result<bool, Fail> {
+    let bytes = decided(alloc)?;
+    for (at, byte) in changes {
+        if opened(alloc, &changed(alloc, &bytes, *at, *byte)?, 3)?.fault != 3 {
+            return Ok(false);
+        }
+    }
+    Ok(true)
+}
+
+/// Whether the record of the prevote for nil is refused with each of these bytes at its place.
+fn refuses_prevotes(alloc: Global, changes: &[(usize, u8)]) -> Result<bool, Fail> {
+    for (at, byte) in changes {
+        if fault_of(alloc, &changed(alloc, &PREVOTE, *at, *byte)?)? != 3 {
+            return Ok(false);
+        }
+    }
+    Ok(true)
+}
+
+fn prevote_is_worked(alloc: Global) -> Result<bool, Fail> {
+    let bytes = spell_record(alloc, 2, &own(Act::Prevoting(None)))?;
+    Ok(bytes.as_slice() == PREVOTE.as_slice() && read_record(alloc, 2, &PREVOTE[4..]).is_ok())
+}
+
+fn sizes_are(alloc: Global, sizes: &[usize; 4]) -> Result<bool, Fail> {
+    Ok(
+        prevote(alloc)?.len() == sizes[0]
+            && precommit(alloc)?.len() == sizes[1]
+            && decision(alloc, 1)?.len() == sizes[2]
+            && decided(alloc)?.len() == sizes[3],
+    )
+}
+
+fn is_outcome(found: &Outcome, fault: u8, records: usize, bytes: &[u8]) -> bool {
+    found.fault == fault && found.records == records && found.bytes.as_slice() == bytes
+}
+
+/// Whether the first bytes of the journal that decided open, with so many records, and so many bytes are kept.
+fn opens_cut(alloc: Global, len: usize, records: usize, kept: usize) -> Result<bool, Fail> {
+    let bytes = decided(alloc)?;
+    let found = opened(alloc, &bytes.as_slice()[..len.min(bytes.len())], 3)?;
+    Ok(is_outcome(
+        &found,
+        0,
+        records,
+        &bytes.as_slice()[..kept.min(bytes.len())],
+    ))
+}
+
+/// Whether a prevote that was cut short is cut away, and a save then adds it.
+fn saves_behind_a_cut(alloc: Global) -> Result<bool, Fail> {
+    let whole = behind_header(alloc, &PREVOTE)?;
+    let torn = &whole.as_slice()[..whole.len().min(9)];
+    Ok(
+        is_outcome(&opened(alloc, torn, 2)?, 0, 0, &HEADER)
+            && is_outcome(&save_at(alloc, torn, 0)?, 0, 0, &whole),
+    )
+}
+
+fn opens_headers(alloc: Global) -> Result<bool, Fail> {
+    for len in 0..5 {
+        if !is_outcome(&opened(alloc, &HEADER[..len], 2)?, 0, 0, &HEADER) {
+            return Ok(false);
+        }
+    }
+    Ok(true)
+}
+
+/// Whether the prevote for nil twice is refused.
+fn refuses_repeats(alloc: Global) -> Result<bool, Fail> {
+    let mut twice = PREVOTE.to_vec(alloc)?;
+    twice.extend_from_slice(&PREVOTE)?;
+    Ok(fault_of(alloc, &twice)? == 3)
+}
+
+/// The fault of opening a journal that has only the decision of the transaction of this number.
+fn fault_of_decision(alloc: Global, number: u64) -> Result<u8, Fail> {
+    let bytes = behind_header(alloc, &decision(alloc, number)?)?;
+    Ok(opened(alloc, &bytes, 3)?.fault)
+}
+
+/// A precommit for nil as one for a value.
+fn refuses_a_lock_of_nil(alloc: Global) -> Result<bool, Fail> {
+    let mut nil = PREVOTE;
+    nil[4] = 2;
+    nil[5] = 0x12;
+    Ok(fault_of(alloc, &nil)? == 3)
+}
+
+/// Whether what opening leaves is this, where the call of this number fails.
+fn fails_opening(alloc: Global, bytes: &[u8], failing: u64, left: &[u8]) -> Result<bool, Fail> {
+    Ok(is_outcome(&open_at(alloc, bytes, 2, failing)?, 1, 0, left))
+}
+
+/// Whether a save fails where the call of this number does, and what is left then opens with so many records.
+fn fails_saving(alloc: Global, failing: u64, len: usize, records: usize) -> Result<bool, Fail> {
+    let failed = save_at(alloc, &HEADER, failing)?;
+    let again = opened(alloc, &failed.bytes, 2)?;
+    Ok(
+        failed.fault == 1
+            && failed.records == 1
+            && failed.bytes.len() == len
+            && again.records == records,
+    )
+}
+
+/// Whether opening ends with this fault, where the call of this number fails.
+fn opens_as(alloc: Global, bytes: &[u8], failing: u64, fault: u8) -> Result<bool, Fail> {
+    Ok(open_at(alloc, bytes, 2, failing)?.fault == fault)
+}
+
+fn headers_are_judged(alloc: Global) -> Result<bool, Fail> {
+    Ok(opens_headers(alloc)? && opens_as(alloc, b"TN", 0, 3)? && opens_as(alloc, b"TMJ2", 0, 3)?)
+}
+
+fn lengths_are_judged(alloc: Global) -> Result<bool, Fail> {
+    // At the limit, with less behind it, a record was cut short.
+    Ok(
+        fault_of(alloc, &[0, 0, 0, 0])? == 3
+            && fault_of(alloc, &[0, 0x10, 0xc8, 0xe1])? == 3
+            && fault_of(alloc, &[0, 0x10, 0xc8, 0xe0, 7, 7])? == 0,
+    )
+}
+
+fn kinds_are_judged(alloc: Global) -> Result<bool, Fail> {
+    // A kind that no record has; then a precommit for a value as one for nil, a bundle as an own message, and a prevote as
+    // a decision.
+    Ok(
+        fault_of(alloc, &[0, 0, 0, 5, 4, 0, 0, 0, 2])? == 3
+            && refuses_a_lock_of_nil(alloc)?
+            && refuses_each(alloc, &[(61, 1), (260, 1), (8, 3)])?,
+    )
+}
+
+fn messages_are_judged(alloc: Global) -> Result<bool, Fail> {
+    // A prevote of another sender, of height 1, with flag 2, and the same one twice; then a locked value whose digest isn't
+    // the precommit's id.
+    Ok(
+        fault_of(alloc, &PREVOTE)? == 0
+            && refuses_prevotes(alloc, &[(19, 1), (13, 1), (20, 2)])?
+            && refuses_repeats(alloc)?
+            && refuses_each(alloc, &[(255, 8)])?,
+    )
+}
+
+fn decisions_are_judged(alloc: Global) -> Result<bool, Fail> {
+    // Another height, another sender, another id; then senders 0, 0, 3, senders 0, 4, 3, and senders 0, 1, 4, of which
+    // the last has no power; then a value that may not be delivered next.
+    let changes = [(269, 1), (271, 2), (276, 0), (587, 0), (587, 4), (718, 4)];
+    Ok(
+        refuses_each(alloc, &changes)?
+            && fault_of_decision(alloc, 2)? == 3
+            && fault_of_decision(alloc, 1)? == 0,
+    )
+}
+
+fn openings_fail(alloc: Global) -> Result<bool, Fail> {
+    // What is cut short is cut, and then all is synced. A whole journal is synced all the same, and nothing else is done.
+    let torn = b"TMJ1\0\0\0";
+    Ok(
+        fails_opening(alloc, &[], 1, b"T")?
+            && fails_opening(alloc, &[], 2, &HEADER)?
+            && opens_as(alloc, &[], 3, 0)?
+            && fails_opening(alloc, &HEADER, 1, &HEADER)?
+            && opens_as(alloc, &HEADER, 2, 0)?
+            && fails_opening(alloc, torn, 1, torn)?
+            && fails_opening(alloc, torn, 2, &HEADER)?
+            && opens_as(alloc, torn, 3, 0)?,
+    )
+}
+
+fn saves_fail(alloc: Global) -> Result<bool, Fail> {
+    // The sync of opening is the first call; a save appends and syncs.
+    Ok(
+        fails_saving(alloc, 2, 5, 0)?
+            && fails_saving(alloc, 3, 25, 1)?
+            && save_at(alloc, &HEADER, 4)?.fault == 0,
+    )
+}
+
+#[test]
+fn worked_prevote(rt: HostRuntime) -> Result<(), Fail> {
+    assert!(rt; prevote_is_worked(rt.alloc())?);
+    Ok(())
+}
+
+#[test]
+fn worked_sizes(rt: HostRuntime) -> Result<(), Fail> {
+    assert!(rt; sizes_are(rt.alloc(), &[53, 199, 592, 848])?);
+    Ok(())
+}
+
+#[test]
+fn whole_journal(rt: HostRuntime) -> Result<(), Fail> {
+    assert!(rt; opens_cut(rt.alloc(), 848, 3, 848)?);
+    Ok(())
+}
+
+#[test]
+fn decision_cut_short(rt: HostRuntime) -> Result<(), Fail> {
+    assert!(rt; opens_cut(rt.alloc(), 847, 2, 256)?);
+    Ok(())
+}
+
+#[test]
+fn prevote_cut_short(rt: HostRuntime) -> Result<(), Fail> {
+    assert!(rt; saves_behind_a_cut(rt.alloc())?);
+    Ok(())
+}
+
+#[test]
+fn header_cut_short(rt: HostRuntime) -> Result<(), Fail> {
+    assert!(rt; headers_are_judged(rt.alloc())?);
+    Ok(())
+}
+
+#[test]
+fn bad_lengths(rt: HostRuntime) -> Result<(), Fail> {
+    assert!(rt; lengths_are_judged(rt.alloc())?);
+    Ok(())
+}
+
+#[test]
+fn bad_kinds(rt: HostRuntime) -> Result<(), Fail> {
+    assert!(rt; kinds_are_judged(rt.alloc())?);
+    Ok(())
+}
+
+#[test]
+fn bad_messages(rt: HostRuntime) -> Result<(), Fail> {
+    assert!(rt; messages_are_judged(rt.alloc())?);
+    Ok(())
+}
+
+#[test]
+fn bad_decisions(rt: HostRuntime) -> Result<(), Fail> {
+    assert!(rt; decisions_are_judged(rt.alloc())?);
+    Ok(())
+}
+
+#[test]
+fn store_fails_in_opening(rt: HostRuntime) -> Result<(), Fail> {
+    assert!(rt; openings_fail(rt.alloc())?);
+    Ok(())
+}
+
+#[test]
+fn store_fails_in_saving(rt: HostRuntime) -> Result<(), Fail> {
+    assert!(rt; saves_fail(rt.alloc())?);
+    Ok(())
+}

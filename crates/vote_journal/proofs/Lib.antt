@@ -1,0 +1,5 @@
+pub mod RecordFormats
+pub mod Layouts
+pub mod Taking
+pub mod Stops
+mod History

@@ -1,0 +1,274 @@
+-- What a stop leaves of a journal is a journal of the same records, or has the one more that was being saved.
+use Rattle.std.proofs.Common.{◌≡◌, ◌⊎◌, inl, inr, ℕ, zero, suc, ◌+◌, ◌-◌, ◌<◌, ◌≤◌, Bool, true, false, List, [], ◌∷◌, ◌++◌, length, take, drop, reverse, refl, sym, ap, subst, ◌∙◌, arith, append_assoc, length-append}
+use Rattle.std.proofs.lemmas.List.{append-nil, append_cancel_left, take_at, drop_at, take-append-drop, length-take-le, take_all, take-take}
+use Rattle.std.proofs.lemmas.Bool.{false≢true}
+use Rattle.std.proofs.Math.Seq.{take-append-add}
+use native.Mathlib.Decide.{dec_le}
+use Rattle.byteorder.specs.Endian.{big_number}
+use Rattle.transactions.specs.Fields.{number_bytes}
+use Rattle.transactions.proofs.Formats.{length-number_bytes}
+use Rattle.protocol.specs.Messages.{Record}
+use Rattle.vote_journal.specs.Grammar.{header, content_spelling, framed, record_spelling, records_spelling, IsRecord}
+use Rattle.vote_journal.specs.Order.{may_follow, AreLawful}
+use Rattle.vote_journal.specs.Layout.{IsContent, IsTorn, IsBegunHeader, Splits, IsJournal, IsWhole}
+use Rattle.vote_journal.specs.Store.{Begun, Shortened, Only, NoMore}
+use Rattle.vote_journal.specs.declared.opening.Plan.{Plan}
+use Rattle.std.proofs.Common.{Ok, Err}
+use Rattle.std.specs.Global.{Vec}
+use Rattle.vote_journal.specs.declared.record.Record.{Record as Held}
+use Rattle.vote_journal.specs.declared.fault.JournalFault.{JournalFault}
+use Rattle.vote_journal.specs.declared.fault.JournalFault.TheVariants.{Failed, OutOfMemory, BadRecord}
+use Rattle.vote_journal.specs.Layout.{IsScan, records_of}
+use Rattle.vote_journal.specs.Saving.{KeepsRecords, BegunOpening, PlanFor, IsPlan, added}
+use Rattle.vote_journal.specs.Laws.{StopLaw}
+use Rattle.vote_journal.proofs.Layouts.{number_back, fits, is_framed, same_records, lawful_push, spelling_push}
+
+-- ---- torn rests
+
+short_take : (t : List ℕ) (k : ℕ) → length (take k t) ≤ length t
+short_take [] zero = omega arith
+short_take [] (suc k) = omega arith
+short_take (x ∷ t) zero = omega arith
+short_take (x ∷ t) (suc k) = omega (arith, short_take t k)
+
+-- a beginning of a torn rest is torn
+pub torn_less : (t : List ℕ) (k : ℕ) → IsTorn t → IsTorn (take k t)
+torn_less t k (inl short) = inl (omega (arith, short_take t k))
+torn_less [] k (inr h) = inl (omega (arith, short_take [] k))
+torn_less (a ∷ []) k (inr h) = inl (omega (arith, short_take (a ∷ []) k))
+torn_less (a ∷ b ∷ []) k (inr h) = inl (omega (arith, short_take (a ∷ b ∷ []) k))
+torn_less (a ∷ b ∷ c ∷ []) k (inr h) = inl (omega (arith, short_take (a ∷ b ∷ c ∷ []) k))
+torn_less (a ∷ b ∷ c ∷ d ∷ t) zero (inr h) = inl (omega arith)
+torn_less (a ∷ b ∷ c ∷ d ∷ t) (suc zero) (inr h) = inl (omega arith)
+torn_less (a ∷ b ∷ c ∷ d ∷ t) (suc (suc zero)) (inr h) = inl (omega arith)
+torn_less (a ∷ b ∷ c ∷ d ∷ t) (suc (suc (suc zero))) (inr h) = inl (omega arith)
+torn_less (a ∷ b ∷ c ∷ d ∷ t) (suc (suc (suc (suc k)))) (inr h) = inr (h.0, h.1, omega (arith, h.2, short_take t k))
+
+-- less than all of a framed content is torn
+torn_by : (n content : List ℕ) (k : ℕ) → length n ≡ 4 → ((m : ℕ) → big_number 4 (n ++ take m content) ≡ length content) → IsContent content → k < 4 + length content → Dec (4 ≤ k) → IsTorn (take k (n ++ content))
+torn_by n content k four number h less (no d) = inl (omega (arith, short_length k (n ++ content)))
+  where
+    short_length : (k : ℕ) (t : List ℕ) → length (take k t) ≤ k
+    short_length zero [] = omega arith
+    short_length zero (x ∷ t) = omega arith
+    short_length (suc k) [] = omega arith
+    short_length (suc k) (x ∷ t) = omega (arith, short_length k t)
+torn_by n content k four number h less (yes d) =
+    let m = k - 4 in
+    let size : k ≡ length n + m = omega (arith, four, d) in
+    let is : take k (n ++ content) ≡ n ++ take m content = ap (λ (j : ℕ). take j (n ++ content)) size ∙ take-append-add n content m in
+    subst IsTorn (sym is) (inr (omega (arith, number m, h.0), omega (arith, number m, h.1), omega (arith, number m, ap length (behind m), length-take-le m content (omega arith))))
+  where
+    behind : (m : ℕ) → drop 4 (n ++ take m content) ≡ take m content
+    behind m = drop_at n (take m content) 4 four
+
+pub torn_part : (content : List ℕ) (k : ℕ) → IsContent content → k < length (framed content) → IsTorn (take k (framed content))
+unfolding framed
+torn_part content k h less =
+    let n = number_bytes 4 (length content) in
+    let four : length n ≡ 4 = length-number_bytes 4 (length content) in
+    torn_by n content k four (λ m. number_back (length content) (take m content) h.1) h (omega (arith, less, length-append n content, four)) (dec_le 4 k)
+
+-- ---- journals
+
+none_torn : IsTorn []
+none_torn = inl (omega arith)
+
+pub whole_is_journal : (powers : List ℕ) (me : ℕ) (bytes : List ℕ) (rs : List Record) → IsWhole powers me bytes rs → IsJournal powers me bytes rs
+whole_is_journal powers me bytes rs w =
+    inr (records_spelling me rs, w.same, record { rest = []; whole = sym (append-nil (records_spelling me rs)); lawful = w.lawful; torn = none_torn })
+
+short_header : (bytes : List ℕ) → IsBegunHeader bytes → length bytes < 4
+short_header bytes h = omega (arith, h.1, ap length h.2, length-take-le h.0 header (omega (arith, h.1)))
+
+long_header : (bytes behind : List ℕ) → bytes ≡ header ++ behind → 4 ≤ length bytes
+long_header bytes behind e = omega (arith, ap length e)
+
+-- bytes are the journal of one list of records
+pub one_journal : (powers : List ℕ) (me : ℕ) (bytes : List ℕ) (rs rs' : List Record) → IsJournal powers me bytes rs → IsJournal powers me bytes rs' → rs ≡ rs'
+one_journal powers me bytes rs rs' (inl h) (inl k) = h.1 ∙ sym k.1
+one_journal powers me bytes rs rs' (inl h) (inr k) = absurd (omega (arith, short_header bytes h.0, long_header bytes k.0 k.1))
+one_journal powers me bytes rs rs' (inr h) (inl k) = absurd (omega (arith, short_header bytes k.0, long_header bytes h.0 h.1))
+one_journal powers me bytes rs rs' (inr h) (inr k) =
+    let behind : h.0 ≡ k.0 = append_cancel_left header h.0 k.0 (sym h.1 ∙ k.1) in
+    same_records powers me [] rs rs' h.2.rest k.2.rest h.2.lawful k.2.lawful h.2.torn k.2.torn (sym h.2.whole ∙ behind ∙ k.2.whole)
+
+-- a beginning of the header holds no record, and so does the header
+pub header_part : (powers : List ℕ) (me k : ℕ) → IsJournal powers me (take k header) []
+header_part powers me zero = inl ((0, omega arith, refl), refl)
+header_part powers me (suc zero) = inl ((1, omega arith, refl), refl)
+header_part powers me (suc (suc zero)) = inl ((2, omega arith, refl), refl)
+header_part powers me (suc (suc (suc zero))) = inl ((3, omega arith, refl), refl)
+header_part powers me (suc (suc (suc (suc k)))) = inr ([], ap (λ (x : List ℕ). header ++ x) (take_all k [] (omega arith)), record { rest = []; whole = refl; lawful = tt; torn = none_torn })
+
+-- ---- one more record
+
+by_length : (powers : List ℕ) (me : ℕ) (rs : List Record) (r : Record) (k : ℕ) (c : List ℕ) → AreLawful powers me [] rs → IsRecord me r → may_follow powers (reverse rs) r ≡ true
+    → c ≡ header ++ (records_spelling me rs ++ take k (record_spelling me r)) → Dec (length (record_spelling me r) ≤ k) → IsJournal powers me c rs ⊎ IsJournal powers me c (rs ++ r ∷ [])
+by_length powers me rs r k c l h f e (yes d) =
+    let all : c ≡ header ++ records_spelling me (rs ++ r ∷ []) = e ∙ ap (λ (x : List ℕ). header ++ (records_spelling me rs ++ x)) (take_all k (record_spelling me r) d) ∙ ap (λ (x : List ℕ). header ++ x) (sym (spelling_push me rs r)) in
+    let lawful : AreLawful powers me [] (rs ++ r ∷ []) = lawful_push powers me [] rs r l h (ap (λ (x : List Record). may_follow powers x r) (append-nil (reverse rs)) ∙ f) in
+    inr (whole_is_journal powers me c (rs ++ r ∷ []) (record { same = all; lawful = lawful }))
+by_length powers me rs r k c l h f e (no d) =
+    let rest = take k (record_spelling me r) in
+    let framing = is_framed me r in
+    let less : k < length (framed (content_spelling me r)) = omega (arith, ap length framing) in
+    let torn : IsTorn rest = subst (λ (x : List ℕ). IsTorn (take k x)) (sym framing) (torn_part (content_spelling me r) k (fits me r h) less) in
+    inl (inr (records_spelling me rs ++ rest, e, record { rest = rest; whole = refl; lawful = l; torn = torn }))
+
+-- what a save leaves at any stop
+pub saving_leaves : (powers : List ℕ) (me : ℕ) (stood : List ℕ) (rs : List Record) (r : Record) (c : List ℕ) → IsWhole powers me stood rs → IsRecord me r → may_follow powers (reverse rs) r ≡ true
+    → Begun stood (record_spelling me r) c → IsJournal powers me c rs ⊎ IsJournal powers me c (rs ++ r ∷ [])
+saving_leaves powers me stood rs r c w h f b =
+    let e : c ≡ header ++ (records_spelling me rs ++ take b.0 (record_spelling me r)) = b.1 ∙ ap (λ (x : List ℕ). x ++ take b.0 (record_spelling me r)) w.same ∙ append_assoc header (records_spelling me rs) (take b.0 (record_spelling me r)) in
+    by_length powers me rs r b.0 c w.lawful h f e (dec_le (length (record_spelling me r)) b.0)
+
+-- ---- opening
+
+-- a cut at the end of the last whole record, or behind it, takes no record
+pub cut_leaves : (powers : List ℕ) (me keep k : ℕ) (bytes behind : List ℕ) (rs : List Record) → bytes ≡ header ++ behind → (s : Splits powers me behind rs) → keep + length s.rest ≡ length bytes → keep ≤ k → IsJournal powers me (take k bytes) rs
+cut_leaves powers me keep k bytes behind rs e s room le =
+    let front = header ++ records_spelling me rs in
+    let all : bytes ≡ front ++ s.rest = e ∙ ap (λ (x : List ℕ). header ++ x) s.whole ∙ sym (append_assoc header (records_spelling me rs) s.rest) in
+    let len : length front ≡ keep = omega (arith, room, ap length all, length-append front s.rest) in
+    let m = k - length front in
+    let size : k ≡ length front + m = omega (arith, len, le) in
+    let cut : take k bytes ≡ header ++ (records_spelling me rs ++ take m s.rest) = ap (take k) all ∙ ap (λ (j : ℕ). take j (front ++ s.rest)) size ∙ take-append-add front s.rest m ∙ append_assoc header (records_spelling me rs) (take m s.rest) in
+    inr (records_spelling me rs ++ take m s.rest, cut, record { rest = take m s.rest; whole = refl; lawful = s.lawful; torn = torn_less s.rest m s.torn })
+
+-- and what is kept is the whole records
+pub cut_whole : (powers : List ℕ) (me keep : ℕ) (bytes behind : List ℕ) (rs : List Record) → bytes ≡ header ++ behind → (s : Splits powers me behind rs) → keep + length s.rest ≡ length bytes → IsWhole powers me (take keep bytes) rs
+cut_whole powers me keep bytes behind rs e s room =
+    let front = header ++ records_spelling me rs in
+    let all : bytes ≡ front ++ s.rest = e ∙ ap (λ (x : List ℕ). header ++ x) s.whole ∙ sym (append_assoc header (records_spelling me rs) s.rest) in
+    let len : length front ≡ keep = omega (arith, room, ap length all, length-append front s.rest) in
+    record { same = ap (take keep) all ∙ take_at front s.rest keep len; lawful = s.lawful }
+
+-- ---- the laws
+
+pub stop_holds : StopLaw
+stop_holds = λ powers me stood rs r c w h f b. one_of powers me rs r c (saving_leaves powers me stood rs r c w h f b)
+  where
+    one_of : (powers : List ℕ) (me : ℕ) (rs : List Record) (r : Record) (c : List ℕ) → IsJournal powers me c rs ⊎ IsJournal powers me c (rs ++ r ∷ []) → (found : List Record) × IsJournal powers me c found × ((found ≡ rs) ⊎ (found ≡ rs ++ r ∷ []))
+    one_of powers me rs r c (inl j) = (rs, j, inl refl)
+    one_of powers me rs r c (inr j) = (rs ++ r ∷ [], j, inr refl)
+
+-- ---- what stands after a save
+
+pub whole_push : (powers : List ℕ) (me : ℕ) (stood now : List ℕ) (rs : List Record) (r : Record) → IsWhole powers me stood rs → IsRecord me r → may_follow powers (reverse rs) r ≡ true → now ≡ stood ++ record_spelling me r → IsWhole powers me now (rs ++ r ∷ [])
+whole_push powers me stood now rs r w h f e = record {
+  same = e ∙ ap (λ (x : List ℕ). x ++ record_spelling me r) w.same ∙ append_assoc header (records_spelling me rs) (record_spelling me r) ∙ ap (λ (x : List ℕ). header ++ x) (sym (spelling_push me rs r));
+  lawful = lawful_push powers me [] rs r w.lawful h (ap (λ (x : List Record). may_follow powers x r) (append-nil (reverse rs)) ∙ f);
+}
+
+nil_take : (l : List ℕ) → take 0 l ≡ []
+nil_take [] = refl
+nil_take (x ∷ l) = refl
+
+pub begun_none : (stood bytes c : List ℕ) → c ≡ stood → Begun stood bytes c
+begun_none stood bytes c e = (0, e ∙ sym (append-nil stood) ∙ ap (λ (x : List ℕ). stood ++ x) (sym (nil_take bytes)))
+
+-- a stop in a call that appends to what was synced leaves that with a beginning of the bytes
+pub begun_by : (stood bytes c : List ℕ) (old : List ℕ → Type 0) → Only stood old → old c ⊎ Begun stood bytes c → Begun stood bytes c
+begun_by stood bytes c old only (inl h) = begun_none stood bytes c (only c h)
+begun_by stood bytes c old only (inr h) = h
+
+-- a stop in a save over what was synced
+pub save_leaves : (powers : List ℕ) (me : ℕ) (stood bytes : List ℕ) (rs : List Record) (r : Record) (c : List ℕ) (old : List ℕ → Type 0) → Only stood old → bytes ≡ record_spelling me r → old c ⊎ Begun stood bytes c
+    → IsWhole powers me stood rs → IsRecord me r → may_follow powers (reverse rs) r ≡ true → IsJournal powers me c rs ⊎ IsJournal powers me c (rs ++ r ∷ [])
+save_leaves powers me stood bytes rs r c old only e b w h f =
+    saving_leaves powers me stood rs r c w h f (subst (λ (x : List ℕ). Begun stood x c) e (begun_by stood bytes c old only b))
+
+-- ---- what opening leaves
+
+fresh_cut : (powers : List ℕ) (me k : ℕ) (bytes : List ℕ) → IsBegunHeader bytes → IsJournal powers me (take k bytes) []
+fresh_cut powers me k bytes h = fresh_by (dec_le k h.0)
+  where
+    fresh_by : Dec (k ≤ h.0) → IsJournal powers me (take k bytes) []
+    fresh_by (yes d) = subst (λ (x : List ℕ). IsJournal powers me x []) (sym (ap (take k) h.2 ∙ take-take k h.0 header d)) (header_part powers me k)
+    fresh_by (no d) =
+        let len : length (take h.0 header) ≡ h.0 = length-take-le h.0 header (omega (arith, h.1)) in
+        subst (λ (x : List ℕ). IsJournal powers me x []) (sym (ap (take k) h.2 ∙ take_all k (take h.0 header) (omega (arith, len, d)))) (header_part powers me h.0)
+
+-- opening over a header that was cut short leaves a beginning of the header
+pub fresh_leaves : (powers : List ℕ) (me : ℕ) (bytes c : List ℕ) → IsBegunHeader bytes → BegunOpening 0 true bytes c → IsJournal powers me c []
+fresh_leaves powers me bytes c h (inl s) = subst (λ (x : List ℕ). IsJournal powers me x []) (sym s.2) (fresh_cut powers me s.0 bytes h)
+fresh_leaves powers me bytes c h (inr b) =
+    let e : c ≡ take b.1.0 header = b.1.1 ∙ ap (λ (x : List ℕ). x ++ take b.1.0 header) (nil_take bytes) in
+    subst (λ (x : List ℕ). IsJournal powers me x []) (sym e) (header_part powers me b.1.0)
+
+no_header : (keep : ℕ) (stood c : List ℕ) → BegunOpening keep false stood c → Shortened keep stood c
+no_header keep stood c (inl s) = s
+no_header keep stood c (inr b) = absurd (false≢true b.0)
+
+-- Opening keeps the records of what it read.
+pub opening_keeps : (powers : List ℕ) (me : ℕ) (bytes c : List ℕ) (p : Plan) (fresh : Bool) → PlanFor fresh powers me bytes p → BegunOpening p.keep fresh bytes c → KeepsRecords powers me bytes c
+opening_keeps powers me bytes c p true plan b = λ rs j.
+    let none : [] ≡ rs = one_journal powers me bytes [] rs (inl (plan.0, refl)) j in
+    let here : BegunOpening 0 true bytes c = subst (λ (k : ℕ). BegunOpening k true bytes c) plan.2 b in
+    subst (IsJournal powers me c) none (fresh_leaves powers me bytes c plan.0 here)
+opening_keeps powers me bytes c p false plan b = λ rs j.
+    let s = no_header p.keep bytes c b in
+    let one : records_of p.records.items ≡ rs = one_journal powers me bytes (records_of p.records.items) rs (inr (plan.0, plan.1, plan.2)) j in
+    let kept : IsJournal powers me (take s.0 bytes) (records_of p.records.items) = cut_leaves powers me p.keep s.0 bytes plan.0 (records_of p.records.items) plan.1 plan.2 plan.3 s.1 in
+    subst (IsJournal powers me c) one (subst (λ (x : List ℕ). IsJournal powers me x (records_of p.records.items)) (sym s.2) kept)
+
+-- what opening read is a journal of the records that it answers
+pub plan_holds : (powers : List ℕ) (me : ℕ) (bytes : List ℕ) (p : Plan) (fresh : Bool) → PlanFor fresh powers me bytes p → IsJournal powers me bytes (records_of p.records.items)
+plan_holds powers me bytes p true plan = inl (plan.0, ap records_of plan.1)
+plan_holds powers me bytes p false plan = inr (plan.0, plan.1, plan.2)
+
+-- and what then stands is whole
+pub plan_whole : (powers : List ℕ) (me : ℕ) (bytes now : List ℕ) (p : Plan) (fresh : Bool) → PlanFor fresh powers me bytes p → now ≡ take p.keep bytes ++ added fresh → IsWhole powers me now (records_of p.records.items)
+plan_whole powers me bytes now p true plan e =
+    let none : records_of p.records.items ≡ [] = ap records_of plan.1 in
+    let all : now ≡ header = e ∙ ap (λ (k : ℕ). take k bytes ++ header) plan.2 ∙ ap (λ (x : List ℕ). x ++ header) (nil_take bytes) in
+    subst (IsWhole powers me now) (sym none) (record { same = all; lawful = tt })
+plan_whole powers me bytes now p false plan e =
+    subst (λ (x : List ℕ). IsWhole powers me x (records_of p.records.items)) (sym (e ∙ append-nil (take p.keep bytes))) (cut_whole powers me p.keep bytes plan.0 (records_of p.records.items) plan.1 plan.2 plan.3)
+
+pub plan_keep : (powers : List ℕ) (me : ℕ) (bytes : List ℕ) (p : Plan) (fresh : Bool) → PlanFor fresh powers me bytes p → p.keep ≤ length bytes
+plan_keep powers me bytes p true plan = omega (arith, plan.2)
+plan_keep powers me bytes p false plan = omega (arith, plan.3)
+
+-- whatever stands or is left has the records of what was read, or is something that stood
+pub opening_leaves : (powers : List ℕ) (me : ℕ) (bytes seen x : List ℕ) (p : Plan) (old mid : List ℕ → Type 0) → seen ≡ bytes → PlanFor p.fresh powers me bytes p → old bytes → NoMore old mid
+    → mid x ⊎ BegunOpening p.keep p.fresh seen x → (d : List ℕ) × old d × KeepsRecords powers me d x
+opening_leaves powers me bytes seen x p old mid is plan here fewer (inl h) = (x, fewer x h, λ rs j. j)
+opening_leaves powers me bytes seen x p old mid is plan here fewer (inr b) = (bytes, here, opening_keeps powers me bytes x p p.fresh plan (subst (λ (s : List ℕ). BegunOpening p.keep p.fresh s x) is b))
+
+-- ---- which bytes have no header
+
+pub begun_header : (bytes : List ℕ) → length bytes < 4 → bytes ≡ take (length bytes) header → IsBegunHeader bytes
+begun_header bytes short e = (length bytes, short, e)
+
+pub no_begun_header : (powers : List ℕ) (me : ℕ) (bytes : List ℕ) → length bytes < 4 → (bytes ≡ take (length bytes) header → ⊥) → (rs : List Record) → IsJournal powers me bytes rs → ⊥
+no_begun_header powers me bytes short differs rs (inl h) =
+    let len : length bytes ≡ h.0.0 = ap length h.0.2 ∙ length-take-le h.0.0 header (omega (arith, h.0.1)) in
+    differs (h.0.2 ∙ ap (λ (k : ℕ). take k header) (sym len))
+no_begun_header powers me bytes short differs rs (inr h) = omega (arith, short, long_header bytes h.0 h.1)
+
+pub other_header : (powers : List ℕ) (me : ℕ) (bytes : List ℕ) → 4 ≤ length bytes → (take 4 bytes ≡ header → ⊥) → (rs : List Record) → IsJournal powers me bytes rs → ⊥
+other_header powers me bytes long differs rs (inl h) = omega (arith, long, short_header bytes h.0)
+other_header powers me bytes long differs rs (inr h) = differs (ap (take 4) h.1 ∙ take_at header h.0 4 refl)
+
+-- behind a header stands what is told of what follows it
+pub behind_is : (powers : List ℕ) (me : ℕ) (bytes : List ℕ) → take 4 bytes ≡ header → (rs : List Record) → IsJournal powers me bytes rs → Splits powers me (drop 4 bytes) rs
+behind_is powers me bytes e rs (inl h) = absurd (omega (arith, short_header bytes h.0, ap length e, short_take bytes 4))
+behind_is powers me bytes e rs (inr h) = subst (λ (x : List ℕ). Splits powers me x rs) (sym (ap (drop 4) h.1 ∙ drop_at header h.0 4 refl)) h.2
+
+pub plan_of_scan : (powers : List ℕ) (me : ℕ) (bytes : List ℕ) (found : Vec Held) (torn : ℕ) → take 4 bytes ≡ header → (s : Splits powers me (drop 4 bytes) (records_of found.items)) → length s.rest ≡ torn
+    → PlanFor false powers me bytes (record { records = found; keep = length bytes - torn; fresh = false })
+plan_of_scan powers me bytes found torn e s len =
+    let whole : bytes ≡ header ++ drop 4 bytes = sym (take-append-drop 4 bytes) ∙ ap (λ (x : List ℕ). x ++ drop 4 bytes) e in
+    let room : torn ≤ length bytes = omega (arith, len, ap length whole, length-append header (drop 4 bytes), ap length s.whole, length-append (records_spelling me (records_of found.items)) s.rest) in
+    (drop 4 bytes, whole, s, omega (arith, len, room))
+
+pub scan_err : (powers : List ℕ) (me : ℕ) (bytes : List ℕ) (e : JournalFault) → take 4 bytes ≡ header → IsScan powers me (drop 4 bytes) (Err e) → IsPlan powers me bytes (Err e)
+scan_err powers me bytes Failed h s = s
+scan_err powers me bytes OutOfMemory h s = tt
+scan_err powers me bytes BadRecord h s = λ rs j. s rs (behind_is powers me bytes h rs j)
+
+pub scan_room : (powers : List ℕ) (me : ℕ) (bytes : List ℕ) (found : Vec Held) (torn : ℕ) → IsScan powers me (drop 4 bytes) (Ok (found, torn)) → torn ≤ length bytes
+scan_room powers me bytes found torn s =
+    omega (arith, s.1, ap length s.0.whole, length-append (records_spelling me (records_of found.items)) s.0.rest, ap length (sym (take-append-drop 4 bytes)), length-append (take 4 bytes) (drop 4 bytes))

@@ -1,0 +1,19 @@
+use Rattle.std.proofs.Common.{◌++◌, List, ℕ, ap, ◌∙◌}
+use Rattle.vote_journal.specs.Records.{record_of}
+use Rattle.vote_journal.proofs.Stops.{save_leaves, whole_push}
+use Rattle.vote_journal.proofs.journal.Journal.save.Goals as goal
+
+pub returns-in-Ok-append_synced-clause-whole : goal.returns-in-Ok-append_synced-clause-whole
+returns-in-Ok-append_synced-clause-whole g c = λ powers rs w h f x left.
+    save_leaves powers c.args.self.now.me (g.S.Store.seen c.args.self.now.store) c.deref.result.now rs (record_of c.args.entry.now) x (g.S.Store.may_leave c.args.self.now.store)
+    (c.args.self.now.settled c.requires) (c.deref.ensures.value ∙ c.in-Ok.ensures h) (c.append_synced.ensures.stop x left) w h f
+
+pub returns-in-Ok-append_synced-clause-grown : goal.returns-in-Ok-append_synced-clause-grown
+returns-in-Ok-append_synced-clause-grown g c = λ powers rs w h f.
+    whole_push powers c.args.self.now.me (g.S.Store.seen c.args.self.now.store) (g.S.Store.seen c.append_synced.new.store) rs (record_of c.args.entry.now) w h f
+    (c.in-Ok-append_synced.ensures.done.0 ∙ ap (λ (x : List ℕ). g.S.Store.seen c.args.self.now.store ++ x) (c.deref.ensures.value ∙ c.in-Ok.ensures h))
+
+pub returns-in-Err-Device-clause-whole : goal.returns-in-Err-Device-clause-whole
+returns-in-Err-Device-clause-whole g c = λ powers rs w h f x left.
+    save_leaves powers c.args.self.now.me (g.S.Store.seen c.args.self.now.store) c.deref.result.now rs (record_of c.args.entry.now) x (g.S.Store.may_leave c.args.self.now.store)
+    (c.args.self.now.settled c.requires) (c.deref.ensures.value ∙ c.in-Ok.ensures h) (c.append_synced.ensures.stop x left) w h f

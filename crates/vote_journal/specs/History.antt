@@ -1,0 +1,77 @@
+-- What happens to a journal on a store from its first opening on, stops among it.
+use Rattle.std.specs.Prelude.{◌≡◌, ◌⊎◌, ℕ, Bool, true, false, Option, Some, None, List, [], ◌∷◌, ◌++◌, map, reverse}
+use Rattle.protocol.specs.Messages.{Record}
+use Rattle.vote_journal.specs.declared.fault.JournalFault.{JournalFault}
+use Rattle.vote_journal.specs.declared.fault.JournalFault.TheVariants.{BadRecord}
+use Rattle.vote_journal.specs.Grammar.{IsRecord}
+use Rattle.vote_journal.specs.Order.{may_follow}
+use Rattle.vote_journal.specs.Layout.{IsWhole}
+use Rattle.vote_journal.specs.Store.{Only, NoMore}
+use Rattle.vote_journal.specs.Saving.{LeavesBeforeOrAfter, IsFoundIn, HasNoJournal, KeepsEach, WhereSaved}
+
+-- A call and how it ended. A stop within a call is that call failing half done, whatever it would have answered.
+pub data Call : Type 0 where
+  Opened : List Record → Call  -- an opening that found these records
+  NotOpened : JournalFault → Call  -- one that was refused, or a stop within one
+  Saved : Record → Call
+  NotSaved : Record → Call  -- a save that found no memory
+  Broken : Record → Call  -- one whose device failed, or a stop within one
+  Left : Call  -- a stop between two calls, or a close
+
+-- ---- what the calls come to, the newest first, behind an opening that found the first records
+
+abbrev pub is_open : List Call → Bool
+is_open [] = true
+is_open (Opened rs ∷ calls) = true
+is_open (Saved r ∷ calls) = is_open calls
+is_open (NotSaved r ∷ calls) = is_open calls
+is_open (call ∷ calls) = false
+
+-- the records of the last opening, and those saved since
+abbrev pub known : List Record → List Call → List Record
+known first [] = first
+known first (Opened rs ∷ calls) = rs
+known first (Saved r ∷ calls) = known first calls ++ r ∷ []
+known first (call ∷ calls) = known first calls
+
+-- the record that was being saved as the store failed or a stop came, since the last opening
+abbrev pub doubtful : List Call → Option Record
+doubtful [] = None
+doubtful (Opened rs ∷ calls) = None
+doubtful (Broken r ∷ calls) = Some r
+doubtful (call ∷ calls) = doubtful calls
+
+-- those, and at most the one more
+abbrev pub IsKnown : List Record → List Call → List Record → Type 0
+IsKnown first calls rs = (rs ≡ known first calls) ⊎ ((r : Record) × (doubtful calls ≡ Some r) × (rs ≡ known first calls ++ r ∷ []))
+
+-- ---- a store after each call, the newest first
+
+abbrev pub last_store : {S : Type 0} → S → List (Call × S) → S
+last_store start [] = start
+last_store start (entry ∷ history) = entry.1
+
+abbrev pub calls_of : {S : Type 0} → List (Call × S) → List Call
+calls_of history = map (λ entry. entry.0) history
+
+-- ---- what each call says of the store before it and after it
+
+module _ {S : Type 0} (seen : S → List ℕ) (may_leave : S → List ℕ → Type 0) (powers : List ℕ) (me : ℕ) where
+  abbrev pub HasOpened : S → S → List Record → Type 0
+  HasOpened old new rs = IsFoundIn powers me (may_leave old) rs × IsWhole powers me (seen new) rs × Only (seen new) (may_leave new)
+
+  -- an open journal saves a record that it may
+  abbrev pub MaySave : List Record → List Call → Record → Type 0
+  MaySave first calls r = (is_open calls ≡ true) × IsRecord me r × (may_follow powers (reverse (known first calls)) r ≡ true)
+
+  abbrev pub IsStep : List Record → List Call → Call → S → S → Type 0
+  IsStep first calls (Opened rs) old new = HasOpened old new rs
+  IsStep first calls (NotOpened fault) old new = KeepsEach powers me (may_leave old) (may_leave new) × (fault ≡ BadRecord → HasNoJournal powers me (may_leave old))
+  IsStep first calls (Saved r) old new = MaySave first calls r × WhereSaved me (seen old) r (λ powers rs. IsWhole powers me (seen new) (rs ++ r ∷ [])) × Only (seen new) (may_leave new)
+  IsStep first calls (NotSaved r) old new = (seen new ≡ seen old) × NoMore (may_leave old) (may_leave new)
+  IsStep first calls (Broken r) old new = MaySave first calls r × WhereSaved me (seen old) r (λ powers rs. LeavesBeforeOrAfter powers me (may_leave new) rs r)
+  IsStep first calls Left old new = NoMore (may_leave old) (may_leave new)
+
+  abbrev pub Happened : List Record → S → List (Call × S) → Type 0
+  Happened first start [] = Unit {0}
+  Happened first start (entry ∷ history) = Happened first start history × IsStep first (calls_of history) entry.0 (last_store start history) entry.1

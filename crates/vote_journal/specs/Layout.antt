@@ -1,0 +1,59 @@
+-- Which bytes are a journal of which records.
+use Rattle.std.specs.Prelude.{◌≡◌, ◌⊎◌, ℕ, ◌<◌, ◌≤◌, List, [], ◌++◌, length, take, drop, map, Result, Ok, Err}
+use Rattle.std.specs.Global.{Vec}
+use Rattle.byteorder.specs.Endian.{big_number}
+use Rattle.protocol.specs.Messages.{Record}
+use Rattle.vote_journal.specs.declared.fault.JournalFault.{JournalFault}
+use Rattle.vote_journal.specs.declared.fault.JournalFault.TheVariants.{Failed, OutOfMemory, BadRecord}
+use Rattle.vote_journal.specs.declared.record.Record.{Record as Held}
+use Rattle.vote_journal.specs.declared.scanning.Front.{Front}
+use Rattle.vote_journal.specs.declared.scanning.Front.TheVariants as fronts
+use Rattle.vote_journal.specs.Records.{record_of}
+use Rattle.vote_journal.specs.Grammar.{header, framed, records_spelling}
+use Rattle.vote_journal.specs.Order.{AreLawful}
+
+-- as much as a record may have behind its length
+abbrev pub IsContent : List ℕ → Type 0
+IsContent content = (1 ≤ length content) × (length content ≤ 1100000)
+
+-- less than a whole record: fewer bytes than a length has, or than a length within the limit says
+abbrev pub IsTorn : List ℕ → Type 0
+IsTorn rest = (length rest < 4) ⊎ ((1 ≤ big_number 4 rest) × (big_number 4 rest ≤ 1100000) × (length (drop 4 rest) < big_number 4 rest))
+
+-- less than the header, which begins it
+abbrev pub IsBegunHeader : List ℕ → Type 0
+IsBegunHeader bytes = (k : ℕ) × (k < 4) × (bytes ≡ take k header)
+
+-- behind a header: these records, the oldest first, and less than a whole one
+pub record Splits (powers : List ℕ) (me : ℕ) (bytes : List ℕ) (rs : List Record) : Type 0 where
+  pub rest : List ℕ
+  pub whole : bytes ≡ records_spelling me rs ++ rest
+  pub lawful : AreLawful powers me [] rs
+  pub torn : IsTorn rest
+
+-- The bytes are the journal of these records of validator me, or one that a stop cut short.
+abbrev pub IsJournal : List ℕ → ℕ → List ℕ → List Record → Type 0
+IsJournal powers me bytes rs = (IsBegunHeader bytes × (rs ≡ [])) ⊎ ((behind : List ℕ) × (bytes ≡ header ++ behind) × Splits powers me behind rs)
+
+-- and none of it is cut short
+pub record IsWhole (powers : List ℕ) (me : ℕ) (bytes : List ℕ) (rs : List Record) : Type 0 where
+  pub same : bytes ≡ header ++ records_spelling me rs
+  pub lawful : AreLawful powers me [] rs
+
+abbrev pub records_of : List Held → List Record
+records_of rs = map record_of rs
+
+-- ---- what the reader finds
+
+-- the record at the front, or that there is less than one, or that there can't be one
+abbrev pub IsFront : List ℕ → Front → Type 0
+IsFront bytes fronts.Torn = IsTorn bytes
+IsFront bytes fronts.Bad = (IsTorn bytes → ⊥) × ((content after : List ℕ) → IsContent content → bytes ≡ framed content ++ after → ⊥)
+IsFront bytes (fronts.Whole content after) = IsContent content.now × (bytes ≡ framed content.now ++ after.now)
+
+-- all records behind a header, and the length of the rest; or nothing that is told by these bytes
+abbrev pub IsScan : List ℕ → ℕ → List ℕ → Result (Vec Held × ℕ) JournalFault → Type 0
+IsScan powers me bytes (Ok found) = (s : Splits powers me bytes (records_of found.0.items)) × (length s.rest ≡ found.1)
+IsScan powers me bytes (Err BadRecord) = (rs : List Record) → Splits powers me bytes rs → ⊥
+IsScan powers me bytes (Err OutOfMemory) = Unit {0}
+IsScan powers me bytes (Err Failed) = ⊥

@@ -1,0 +1,61 @@
+-- What saving and opening leave.
+use Rattle.std.specs.Prelude.{◌≡◌, ◌⊎◌, ℕ, ◌+◌, Bool, true, false, List, [], ◌∷◌, ◌++◌, length, take, reverse, Result, Ok, Err}
+use Rattle.protocol.specs.Messages.{Record}
+use Rattle.vote_journal.specs.declared.fault.JournalFault.{JournalFault}
+use Rattle.vote_journal.specs.declared.fault.JournalFault.TheVariants.{Failed, OutOfMemory, BadRecord}
+use Rattle.vote_journal.specs.declared.opening.Plan.{Plan}
+use Rattle.vote_journal.specs.Grammar.{header, IsRecord}
+use Rattle.vote_journal.specs.Order.{may_follow}
+use Rattle.vote_journal.specs.Layout.{IsBegunHeader, Splits, IsJournal, IsWhole, records_of}
+use Rattle.vote_journal.specs.Store.{Shortened, Begun}
+
+-- why a record is not saved: the device failed, and this holds; or memory was short, and that does
+abbrev pub IsSaveFault : {T : Type 0} → Result T JournalFault → Type 0 → Type 0 → Type 0
+IsSaveFault (Ok x) failed nothing = Unit {0}
+IsSaveFault (Err Failed) failed nothing = failed
+IsSaveFault (Err OutOfMemory) failed nothing = nothing
+IsSaveFault (Err BadRecord) failed nothing = ⊥
+
+-- whatever a stop leaves is a journal of these records, or of them and this one
+abbrev pub LeavesBeforeOrAfter : List ℕ → ℕ → (List ℕ → Type 0) → List Record → Record → Type 0
+LeavesBeforeOrAfter powers me outcomes rs r = (c : List ℕ) → outcomes c → IsJournal powers me c rs ⊎ IsJournal powers me c (rs ++ r ∷ [])
+
+-- every journal that the one is, the other is too
+abbrev pub KeepsRecords : List ℕ → ℕ → List ℕ → List ℕ → Type 0
+KeepsRecords powers me old new = (rs : List Record) → IsJournal powers me old rs → IsJournal powers me new rs
+
+-- one of what a stop might have left is a journal of these records
+abbrev pub IsFoundIn : List ℕ → ℕ → (List ℕ → Type 0) → List Record → Type 0
+IsFoundIn powers me outcomes rs = (d : List ℕ) × outcomes d × IsJournal powers me d rs
+
+-- one of what a stop might have left is no journal
+abbrev pub HasNoJournal : List ℕ → ℕ → (List ℕ → Type 0) → Type 0
+HasNoJournal powers me outcomes = (d : List ℕ) × outcomes d × ((rs : List Record) → IsJournal powers me d rs → ⊥)
+
+-- whatever a stop leaves has the records of something that it might have left before
+abbrev pub KeepsEach : List ℕ → ℕ → (List ℕ → Type 0) → (List ℕ → Type 0) → Type 0
+KeepsEach powers me old new = (c : List ℕ) → new c → (d : List ℕ) × old d × KeepsRecords powers me d c
+
+-- The record may be saved behind any records that stand, whole, and then this holds of the powers and of those.
+abbrev pub WhereSaved : ℕ → List ℕ → Record → (List ℕ → List Record → Type 0) → Type 0
+WhereSaved me stood r P = (powers : List ℕ) (rs : List Record) → IsWhole powers me stood rs → IsRecord me r → may_follow powers (reverse rs) r ≡ true → P powers rs
+
+-- what is appended behind what is kept
+abbrev pub added : Bool → List ℕ
+added true = header
+added false = []
+
+-- what opening may leave beside what stood: a shorter torn rest, or a beginning of the header
+abbrev pub BegunOpening : ℕ → Bool → List ℕ → List ℕ → Type 0
+BegunOpening keep fresh stood c = Shortened keep stood c ⊎ ((fresh ≡ true) × Begun (take keep stood) header c)
+
+-- what is kept of the bytes, and that the header is missing
+abbrev pub PlanFor : Bool → List ℕ → ℕ → List ℕ → Plan → Type 0
+PlanFor true powers me bytes p = IsBegunHeader bytes × (p.records.items ≡ []) × (p.keep ≡ 0)
+PlanFor false powers me bytes p = (behind : List ℕ) × (bytes ≡ header ++ behind) × (s : Splits powers me behind (records_of p.records.items)) × (p.keep + length s.rest ≡ length bytes)
+
+abbrev pub IsPlan : List ℕ → ℕ → List ℕ → Result Plan JournalFault → Type 0
+IsPlan powers me bytes (Ok p) = PlanFor p.fresh powers me bytes p
+IsPlan powers me bytes (Err BadRecord) = (rs : List Record) → IsJournal powers me bytes rs → ⊥
+IsPlan powers me bytes (Err OutOfMemory) = Unit {0}
+IsPlan powers me bytes (Err Failed) = ⊥

@@ -1,0 +1,92 @@
+//! A journal on a store: what is saved, and when.
+
+ghost use Rattle.std.specs.Prelude.{◌≡◌, ◌++◌, ◌∷◌, [], ℕ, List, OnOk, true, false};
+ghost use Rattle.vote_journal.specs.Records.{record_of};
+ghost use Rattle.vote_journal.specs.Grammar.{record_spelling, IsRecord};
+ghost use Rattle.vote_journal.specs.Layout.{IsWhole};
+ghost use Rattle.vote_journal.specs.Store.{Only, NoMore, Adds, Begun, Grew, FailsBy};
+ghost use Rattle.vote_journal.specs.Saving.{IsSaveFault, LeavesBeforeOrAfter, WhereSaved};
+
+use crate::fault::JournalFault;
+use crate::record::Record;
+use crate::spelling::spell_record;
+use crate::store::{Store, StoreFault};
+use std::alloc::Global;
+
+/// The journal of a validator on a store. While it has not failed, all of it is synced.
+///
+/// It keeps no record in memory.
+#[derive(Drop)]
+pub struct Journal<S: Store + Drop> {
+    pub(crate) alloc: Global,
+    pub(crate) store: S,
+    pub(crate) me: u16,
+    pub(crate) failed: bool,
+    ghost settled: { failed ≡ false → Only (S.seen store) (S.may_leave store) },
+}
+
+/// Appends and syncs.
+fn append_synced<S: Store>(store: &mut S, bytes: &[u8]) -> Result<(), StoreFault>
+    ensures done { OnOk result ((S.seen store.new ≡ S.seen store.old ++ bytes.now) × Only (S.seen store.new) (S.may_leave store.new)) }
+    ensures stop { Adds (Begun (S.seen store.old) bytes.now) (S.may_leave store.old) (S.may_leave store.new) }
+    ensures fault { FailsBy result (Grew (S.failures store.old) (S.failures store.new)) ((S.seen store.new ≡ S.seen store.old) × NoMore (S.may_leave store.old) (S.may_leave store.new)) }
+{
+    store.append(bytes)?;
+    match store.sync() {
+        Ok(()) => Ok(()),
+        Err(_) => Err(StoreFault::Device),
+    }
+}
+
+impl<S: Store + Drop> Journal<S> {
+    /// Adds a record. At `Ok` it is appended and synced: each later stop leaves it.
+    ///
+    /// Faults: `Failed` (1) where the store's device failed, and then the journal has failed; `OutOfMemory` (2), and
+    /// then nothing was appended. A record that has a spelling and may follow those of the journal keeps it one that can
+    /// be opened again.
+    pub fn save(&mut self, entry: &Record) -> Result<(), JournalFault>
+        requires { self.old.failed ≡ false }
+        ensures saved { IsRecord self.old.me (record_of entry.now) → OnOk result (S.seen self.new.store ≡ S.seen self.old.store ++ record_spelling self.old.me (record_of entry.now)) }
+        ensures synced { OnOk result (Only (S.seen self.new.store) (S.may_leave self.new.store) × (self.new.failed ≡ false)) }
+        ensures stop { IsRecord self.old.me (record_of entry.now) → (c : List ℕ) → S.may_leave self.new.store c → Begun (S.seen self.old.store) (record_spelling self.old.me (record_of entry.now)) c }
+        // What a stop leaves has the records before, or this one too, and no others.
+        ensures whole { WhereSaved self.old.me (S.seen self.old.store) (record_of entry.now) (λ powers rs. LeavesBeforeOrAfter powers self.old.me (S.may_leave self.new.store) rs (record_of entry.now)) }
+        ensures grown { OnOk result (WhereSaved self.old.me (S.seen self.old.store) (record_of entry.now) (λ powers rs. IsWhole powers self.old.me (S.seen self.new.store) (rs ++ record_of entry.now ∷ []))) }
+        ensures fault { IsSaveFault result (Grew (S.failures self.old.store) (S.failures self.new.store) × (self.new.failed ≡ true))
+            ((S.seen self.new.store ≡ S.seen self.old.store) × NoMore (S.may_leave self.old.store) (S.may_leave self.new.store) × (self.new.failed ≡ false)) }
+        ensures me { self.new.me ≡ self.old.me }
+    {
+        let Ok(bytes) = spell_record(self.alloc, self.me, entry) else {
+            return Err(JournalFault::OutOfMemory);
+        };
+        match append_synced(&mut self.store, &bytes) {
+            Ok(()) => Ok(()),
+            Err(StoreFault::Device) => {
+                self.failed = true;
+                Err(JournalFault::Failed)
+            }
+            Err(StoreFault::OutOfMemory) => Err(JournalFault::OutOfMemory),
+        }
+    }
+
+    /// Whether a save failed for the device. Such a journal saves nothing more: its store has to be opened again.
+    pub fn has_failed(&self) -> bool
+        ensures { result ≡ self.now.failed }
+    {
+        let Journal { failed, .. } = self;
+        *failed
+    }
+
+    /// The store, which can be opened again.
+    pub fn close(self) -> S
+        ensures { result ≡ self.store }
+    {
+        let Journal {
+            alloc: _,
+            store,
+            me: _,
+            failed: _,
+        } = self;
+        store
+    }
+}

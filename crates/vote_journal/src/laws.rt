@@ -1,0 +1,28 @@
+//! What holds of every journal.
+
+ghost use Rattle.vote_journal.specs.Laws.{JournalLaw, OneJournalLaw, StopLaw, TornLaw};
+
+use crate::store::Store;
+
+/// Bytes are the journal of one list of records at most: what is read is all that could be.
+pub fn one_journal_law()
+    ensures { OneJournalLaw }
+{}
+
+/// Over any calls of `open`, `save` and `close` and any stops between and within them, by what those contracts say of a
+/// store: opening again finds the records of the last opening, those whose saves answered Ok since, in order, and at most
+/// the one that was being saved; and it never answers `BadRecord`.
+pub fn journal_law<S: Store>()
+    ensures { JournalLaw S.seen S.may_leave }
+{}
+
+/// Where some records stood and one that may follow them was being saved, a stop leaves a journal of those records, or of
+/// those and this one.
+pub fn stop_law()
+    ensures { StopLaw }
+{}
+
+/// What a second stop leaves of a record that was cut short is no whole record either.
+pub fn torn_law()
+    ensures { TornLaw }
+{}

@@ -1,0 +1,37 @@
+//! The journal of a validator: its own messages and decisions, saved before they are sent.
+//!
+//! A journal is the four bytes `TMJ1` and then records. A record is a length, four bytes, from 1 to 1,100,000, and that
+//! many bytes: its kind, one byte, and what it holds.
+//!
+//! - 01: the body of an own proposal, an own prevote, or an own precommit for nil.
+//! - 02: the body of an own precommit for a value, and then the value.
+//! - 03: the bundle body of a decision under the own number, with the precommits that decided, in order of sender, each
+//!   once.
+//!
+//! Bodies and values are spelled as `messages` and `transactions` spell them. A stop may cut the last record short: what is
+//! left of it is less than a whole record, and is cut away when the journal is opened again.
+//!
+//! The tests stand in `journal_file`, so that this crate is proved once.
+#![tactic(auto)]
+
+mod fault;
+mod journal;
+mod laws;
+mod memory;
+mod opening;
+mod reading;
+mod record;
+mod scanning;
+mod spelling;
+mod standing;
+mod store;
+
+pub use fault::JournalFault;
+pub use journal::Journal;
+pub use laws::{journal_law, one_journal_law, stop_law, torn_law};
+pub use memory::MemoryStore;
+pub use opening::{NotOpened, Opened};
+pub use reading::read_record;
+pub use record::{Act, OwnMessage, Record};
+pub use spelling::spell_record;
+pub use store::{DeviceFailed, Store, StoreFault};

@@ -1,0 +1,191 @@
+//! Opening a journal that a stop may have cut short.
+
+ghost use Rattle.std.specs.Prelude.{◌≡◌, ◌<◌, ◌≤◌, ◌++◌, ℕ, List, length, take, OnOk, IfOk, IfErr, IsErrOf, false};
+ghost use Rattle.std.specs.Str.{bytes_eq};
+ghost use Rattle.vote_journal.specs.Layout.{IsWhole, records_of};
+ghost use Rattle.vote_journal.specs.Store.{Only, Adds, Shortened, Grew, Counts, FailsBy};
+ghost use Rattle.vote_journal.specs.Saving.{added, BegunOpening, IsPlan, IsFoundIn, HasNoJournal, KeepsEach};
+
+use crate::fault::JournalFault;
+use crate::journal::Journal;
+use crate::record::Record;
+use crate::scanning::read_records;
+use crate::store::{Store, StoreFault};
+use powers::Powers;
+use std::alloc::Global;
+
+/// What a journal begins with: the ASCII text TMJ1.
+const HEADER: [u8; 4] = [0x54, 0x4d, 0x4a, 0x31];
+
+/// A journal that was opened, and its records, the oldest first.
+#[derive(Drop)]
+pub struct Opened<S: Store + Drop> {
+    pub journal: Journal<S>,
+    pub records: Vec<Record>,
+}
+
+/// A store that was not opened, and why.
+#[derive(Drop)]
+pub struct NotOpened<S: Drop> {
+    pub fault: JournalFault,
+    pub store: S,
+}
+
+/// What opening keeps of the bytes that it found.
+#[derive(Drop)]
+struct Plan {
+    records: Vec<Record>,
+    keep: usize,
+    fresh: bool,
+}
+
+impl Plan {
+    fn into_records(self) -> Vec<Record>
+        ensures { result ≡ self.records }
+    {
+        let Plan {
+            records,
+            keep: _,
+            fresh: _,
+        } = self;
+        records
+    }
+}
+
+fn same_bytes(a: &[u8], b: &[u8]) -> bool
+    ensures { result ≡ bytes_eq a.now b.now }
+{
+    a == b
+}
+
+/// Of fewer bytes than a header has.
+fn short_plan(alloc: Global, bytes: &[u8]) -> Result<Plan, JournalFault>
+    requires { length bytes.now < 4 }
+    ensures { (powers : List ℕ) (me : ℕ) → IsPlan powers me bytes.now result }
+{
+    let (begun, _) = HEADER.split_at(bytes.len());
+    if !same_bytes(bytes, begun) {
+        return Err(JournalFault::BadRecord);
+    }
+    Ok(Plan {
+        records: Vec::new(alloc),
+        keep: 0,
+        fresh: true,
+    })
+}
+
+fn plan_of(alloc: Global, me: u16, powers: &Powers, bytes: &[u8]) -> Result<Plan, JournalFault>
+    ensures { IsPlan powers.now me bytes.now result }
+{
+    if bytes.len() < HEADER.len() {
+        return short_plan(alloc, bytes);
+    }
+    let (front, behind) = bytes.split_at(HEADER.len());
+    if !same_bytes(front, &HEADER) {
+        return Err(JournalFault::BadRecord);
+    }
+    let (records, torn) = read_records(alloc, me, powers, behind)?;
+    Ok(Plan {
+        records,
+        keep: bytes.len() - torn,
+        fresh: false,
+    })
+}
+
+/// Keeps the first bytes, adds a header where it is missing, and syncs.
+fn settle<S: Store>(store: &mut S, len: usize, keep: usize, fresh: bool) -> Result<(), StoreFault>
+    requires len { len ≡ length (S.seen store.old) }
+    requires keep { keep ≤ len }
+    ensures done { OnOk result ((S.seen store.new ≡ take keep (S.seen store.old) ++ added fresh) × Only (S.seen store.new) (S.may_leave store.new)) }
+    ensures stop { Adds (BegunOpening keep fresh (S.seen store.old)) (S.may_leave store.old) (S.may_leave store.new) }
+    ensures failed { FailsBy result (Grew (S.failures store.old) (S.failures store.new)) (Unit {0}) }
+{
+    if keep < len {
+        shorten(store, keep)?;
+    }
+    if fresh {
+        store.append(&HEADER)?;
+    }
+    match store.sync() {
+        Ok(()) => Ok(()),
+        Err(_) => Err(StoreFault::Device),
+    }
+}
+
+fn shorten<S: Store>(store: &mut S, keep: usize) -> Result<(), StoreFault>
+    requires { keep ≤ length (S.seen store.old) }
+    ensures kept { OnOk result (S.seen store.new ≡ take keep (S.seen store.old)) }
+    ensures stop { Adds (Shortened keep (S.seen store.old)) (S.may_leave store.old) (S.may_leave store.new) }
+    ensures cause { Counts result (S.failures store.old) (S.failures store.new) }
+{
+    match store.cut(keep) {
+        Ok(()) => Ok(()),
+        Err(_) => Err(StoreFault::Device),
+    }
+}
+
+fn prepare<S: Store>(
+    alloc: Global,
+    store: &mut S,
+    me: u16,
+    powers: &Powers,
+) -> Result<Vec<Record>, JournalFault>
+    ensures found { IfOk result (λ records. IsFoundIn powers.now me (S.may_leave store.old) (records_of records.items)) }
+    ensures whole { IfOk result (λ records. IsWhole powers.now me (S.seen store.new) (records_of records.items)) }
+    ensures synced { OnOk result (Only (S.seen store.new) (S.may_leave store.new)) }
+    ensures stop { KeepsEach powers.now me (S.may_leave store.old) (S.may_leave store.new) }
+    ensures bad { IsErrOf result JournalFault.BadRecord → HasNoJournal powers.now me (S.may_leave store.old) }
+    ensures failed { IsErrOf result JournalFault.Failed → Grew (S.failures store.old) (S.failures store.new) }
+{
+    let bytes = match store.read(alloc) {
+        Ok(bytes) => bytes,
+        Err(StoreFault::Device) => return Err(JournalFault::Failed),
+        Err(StoreFault::OutOfMemory) => return Err(JournalFault::OutOfMemory),
+    };
+    let plan = plan_of(alloc, me, powers, &bytes)?;
+    match settle(store, bytes.len(), plan.keep, plan.fresh) {
+        Ok(()) => Ok(plan.into_records()),
+        Err(StoreFault::Device) => Err(JournalFault::Failed),
+        Err(StoreFault::OutOfMemory) => Err(JournalFault::OutOfMemory),
+    }
+}
+
+impl<S: Store + Drop> Journal<S> {
+    /// Opens the journal of validator `me` on a store, as a stop or a `close` left it.
+    ///
+    /// What a stop left of a record that was cut short is cut away, a header that is missing or cut short is written,
+    /// and all is synced, whatever was done. Its records are those that its bytes spell.
+    ///
+    /// Faults, with the store: `Failed` (1) where its device failed; `OutOfMemory` (2); `BadRecord` (3) where the bytes
+    /// are no journal of this validator under these powers, cut short or not: another header, or a fault of a record as
+    /// [`read_record`](crate::read_record) has it, a length of 0 or above 1,100,000, or a record that may not follow those
+    /// before it. A refusal may have done the cut and have written the header; it leaves every whole record.
+    pub fn open(
+        alloc: Global,
+        mut store: S,
+        me: u16,
+        powers: &Powers,
+    ) -> Result<Opened<S>, NotOpened<S>>
+        ensures found { IfOk result (λ o. IsFoundIn powers.now me (S.may_leave store) (records_of o.records.items)) }
+        ensures whole { IfOk result (λ o. IsWhole powers.now me (S.seen o.journal.store) (records_of o.records.items)) }
+        ensures state { IfOk result (λ o. (o.journal.me ≡ me) × (o.journal.failed ≡ false)) }
+        ensures synced { IfOk result (λ o. Only (S.seen o.journal.store) (S.may_leave o.journal.store)) }
+        // A stop leaves a journal of the same records, at whichever call it comes.
+        ensures stop { IfErr result (λ e. KeepsEach powers.now me (S.may_leave store) (S.may_leave e.store)) }
+        ensures bad { IfErr result (λ e. e.fault ≡ JournalFault.BadRecord → HasNoJournal powers.now me (S.may_leave store)) }
+        ensures failed { IfErr result (λ e. e.fault ≡ JournalFault.Failed → Grew (S.failures store) (S.failures e.store)) }
+    {
+        match prepare(alloc, &mut store, me, powers) {
+            Ok(records) => Ok(Opened {
+                journal: Journal {
+                    alloc,
+                    store,
+                    me,
+                    failed: false,
+                },
+                records,
+            }),
+            Err(fault) => Err(NotOpened { fault, store }),
+        }
+    }
+}

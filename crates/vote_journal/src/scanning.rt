@@ -1,0 +1,87 @@
+//! The records of a journal, one after the other.
+
+ghost use Rattle.std.specs.Prelude.{◌≡◌, ◌&&◌, ◌++◌, ◌∷◌, [], nat_le, MatchResult};
+ghost use Rattle.vote_journal.specs.Layout.{IsFront, IsScan};
+
+use crate::fault::JournalFault;
+use crate::record::Record;
+use crate::standing::Standing;
+use byteorder::{BigEndian, ByteOrder};
+use powers::Powers;
+use std::alloc::Global;
+
+/// The most bytes that a record has behind its length.
+const LONGEST_CONTENT: usize = 1_100_000;
+
+/// What stands at the front of bytes behind a header.
+#[derive(Clone, Copy)]
+pub(crate) enum Front<'a> {
+    /// Less than a whole record.
+    Torn,
+    /// A length of 0 or above the limit.
+    Bad,
+    /// What a record has behind its length, and what follows it.
+    Whole(&'a [u8], &'a [u8]),
+}
+
+/// Whether a record may have so many bytes behind its length.
+fn is_lawful(len: usize) -> bool
+    ensures { result ≡ nat_le 1 len && nat_le len 1100000 }
+{
+    1 <= len && len <= LONGEST_CONTENT
+}
+
+fn front_of(bytes: &[u8]) -> Front<'_>
+    ensures { IsFront bytes.now result }
+{
+    if bytes.len() < 4 {
+        return Front::Torn;
+    }
+    let len = BigEndian::read_u32(bytes) as usize;
+    if !is_lawful(len) {
+        return Front::Bad;
+    }
+    let (_, behind) = bytes.split_at(4);
+    if behind.len() < len {
+        return Front::Torn;
+    }
+    let (content, after) = behind.split_at(len);
+    Front::Whole(content, after)
+}
+
+fn keep(records: &mut Vec<Record>, entry: Record) -> Result<(), JournalFault>
+    ensures { MatchResult result (λ _. records.new.items ≡ records.old.items ++ entry ∷ []) (λ e. e ≡ JournalFault.OutOfMemory) }
+{
+    match records.push(entry) {
+        Ok(()) => Ok(()),
+        Err(_) => Err(JournalFault::OutOfMemory),
+    }
+}
+
+/// The records of validator `me` behind a header, and how many bytes of a record that was cut short follow them.
+///
+/// Faults: `BadRecord` (3) for a length of 0 or above 1,100,000, for what is no record of the validator, and for a record
+/// that may not follow those before it; `OutOfMemory` (2).
+pub(crate) fn read_records(
+    alloc: Global,
+    me: u16,
+    powers: &Powers,
+    bytes: &[u8],
+) -> Result<(Vec<Record>, usize), JournalFault>
+    ensures { IsScan powers.now me bytes.now result }
+{
+    let mut standing = Standing::new(alloc);
+    let mut records = Vec::new(alloc);
+    let mut rest = bytes;
+    loop {
+        match front_of(rest) {
+            Front::Torn => return Ok((records, rest.len())),
+            Front::Bad => return Err(JournalFault::BadRecord),
+            Front::Whole(content, after) => {
+                let entry = standing.take(alloc, me, powers, content)?;
+                keep(&mut records, entry)?;
+                rest = after;
+            }
+        }
+    }
+}
