@@ -132,7 +132,7 @@ class Edit:
         self.label = f"{crate.name}/{folder}/{name.removesuffix('.edit')}"
         with open(self.path, encoding="utf-8") as it:
             self.text = it.read()
-        law = re.search(r"(?m)^by: (\w+)$", self.text)
+        law = re.search(r"(?m)^by: (\S+)$", self.text)
         self.law = law and law[1]
         self.pairs = self.read_pairs()
         self.functions = [] if self.law else self.find_functions()
