@@ -13,6 +13,7 @@ they reach are counted in its place. --list shows each definition with its sourc
 """
 import os
 import re
+import signal
 import sys
 from typing import NamedTuple
 
@@ -234,4 +235,6 @@ def main(words):
 
 
 if __name__ == "__main__":
+    # (a reader may stop early, as head does)
+    signal.signal(signal.SIGPIPE, signal.SIG_DFL)
     sys.exit(main(sys.argv[1:]))
