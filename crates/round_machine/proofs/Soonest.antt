@@ -85,13 +85,13 @@ one_round test qs rounds None r (Some place) is h = record {
 }
 one_round test qs rounds (Some best) r (Some place) is h = elim (cases_Bool (nat_lt r best.round)) [
   | inl y ↦ (let lower : r < best.round = ltb-true r best.round y in rw y (record {
-      one = there test r qs place (sym is);
-      each = λ j lt t i. here_or_before r rounds _ _ i (λ a. let l = h.each j lt t a in omega (arith, l, lower)) (λ e. omega (arith, e));
-    }))
+    one = there test r qs place (sym is);
+    each = λ j lt t i. here_or_before r rounds _ _ i (λ a. let l = h.each j lt t a in omega (arith, l, lower)) (λ e. omega (arith, e));
+  }))
   | inr y ↦ (let higher : best.round ≤ r = ltb-false r best.round y in rw y (record {
-      one = h.one;
-      each = λ j lt t i. here_or_before r rounds _ _ i (h.each j lt t) (λ e. omega (arith, e, higher));
-    }))
+    one = h.one;
+    each = λ j lt t i. here_or_before r rounds _ _ i (h.each j lt t) (λ e. omega (arith, e, higher));
+  }))
 ]
 
 -- one that passes before the best's place is of a higher round

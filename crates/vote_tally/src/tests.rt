@@ -389,7 +389,14 @@ fn the_highest_weak_round(rt: HostRuntime) -> Result<(), Fail> {
 #[test]
 fn the_decisive_rounds(rt: HostRuntime) -> Result<(), Fail> {
     let mut tally = tally_of(rt.alloc(), 3)?;
-    let votes = [(7, 0, A), (5, 0, A), (5, 1, B), (5, 2, A), (5, 1, A), (5, 3, A)];
+    let votes = [
+        (7, 0, A),
+        (5, 0, A),
+        (5, 1, B),
+        (5, 2, A),
+        (5, 1, A),
+        (5, 3, A),
+    ];
     for (round, sender, content) in votes {
         tally.keep(Vote {
             step: Step::Precommit,
