@@ -20,6 +20,7 @@ use Rattle.protocol.specs.Refusals.{context, bundle_senders, named_senders, is_v
 use Rattle.protocol.specs.Arrivals.{taken_in, firing, kept_message, stamp_of}
 use Rattle.protocol.specs.World.{World, Event, Sends, Comes, Fires, Asks, Resends, Restarts, happens, run, beginning, cut_record, moved}
 use Rattle.protocol.specs.Laws.{CertificateLaw}
+use Rattle.protocol.specs.Lawful.{precommit_text, StampFound, Stamped, IsRight, KeepsStamps}
 use Rattle.protocol.proofs.Membership.{in_append, in_left, in_right, flat_map_in, in_flat_map, any_found, any_in, find_in, found_in, in_below}
 use Rattle.protocol.proofs.Asked.{asked}
 use Rattle.protocol.proofs.Arrivals.{IsTaken, come_cases, try_cases, cut_cases}
@@ -27,28 +28,6 @@ use Rattle.protocol.proofs.Backing.{Counts, counts}
 use Rattle.protocol.proofs.Marks.{is_precommit, same_vote}
 use Rattle.protocol.proofs.Covered.{keeping_votes, keeping_height}
 use Rattle.protocol.proofs.Tagging.{all_right}
-
--- ---- the kept precommits from outside have their tags, and these are right
-
--- what is tagged of validator i's precommit for an id
-abbrev precommit_text : ℕ → ℕ → Id → ℕ → List ℕ
-precommit_text height round x i = body_spelling (OfVote (precommit height round i (Some x)))
-
--- a stamp of this round, id and sender
-pub record StampFound (stamps : List Stamp) (r : ℕ) (x : Id) (i : ℕ) : Type 0 where
-  pub stamp : Stamp
-  pub there : stamp ∈ stamps
-  pub is : is_stamp r x i stamp ≡ true
-
-abbrev Stamped : ℕ → List Vote → List Stamp → Type 0
-Stamped p votes stamps = (v : Vote) (x : Id) → v ∈ votes → step_of_vote v.step ≡ Precommit → v.content ≡ Some x → (v.sender ≡ p) ⊎ StampFound stamps v.round x v.sender
-
-abbrev IsRight : Setting → ℕ → ℕ → Stamp → Type 0
-IsRight c p height z = right c p (Validator z.signed.sender) (precommit_text height z.round z.id z.signed.sender) z.signed.tags ≡ true
-
-record KeepsStamps (c : Setting) (p height : ℕ) (votes : List Vote) (stamps : List Stamp) : Type 0 where
-  stamped : Stamped p votes stamps
-  rights : (z : Stamp) → z ∈ stamps → IsRight c p height z
 
 -- ---- a certificate
 
@@ -116,14 +95,14 @@ in_certificate c p s r x st i l e =
 
 -- ---- what a firing saves
 
-abbrev IsCertified : Setting → ℕ → Bundle → Type 0
+abbrev pub IsCertified : Setting → ℕ → Bundle → Type 0
 IsCertified c p b = (b.id ≡ id b.value) × IsQuorum c.powers (named_senders b) × (p < length c.powers → IsQuorum c.powers (bundle_senders c p b))
 
-abbrev RecordCertified : Setting → ℕ → Record → Type 0
+abbrev pub RecordCertified : Setting → ℕ → Record → Type 0
 RecordCertified c p (Own h r act) = Unit {0}
 RecordCertified c p (Decided b) = IsCertified c p b
 
-abbrev OptionCertified : Setting → ℕ → Option Record → Type 0
+abbrev pub OptionCertified : Setting → ℕ → Option Record → Type 0
 OptionCertified c p None = Unit {0}
 OptionCertified c p (Some r) = RecordCertified c p r
 
@@ -168,7 +147,7 @@ vouching_stands c p b i l e =
       tag = λ _. k.1;
     }
 
-saved_certified : (c : Setting) (p : ℕ) (picked : Value) (s : State) → KeepsStamps c p s.height s.votes s.stamps → (k : Rule) → holds (context c p) s k ≡ true → OptionCertified c p (saved (context c p) picked s k)
+pub saved_certified : (c : Setting) (p : ℕ) (picked : Value) (s : State) → KeepsStamps c p s.height s.votes s.stamps → (k : Rule) → holds (context c p) s k ≡ true → OptionCertified c p (saved (context c p) picked s k)
 saved_certified c p picked s st Start h = starts_certified c p s 0 picked
 saved_certified c p picked s st (PrevoteFresh v) h = tt
 saved_certified c p picked s st (PrevoteAgain r v) h = tt
@@ -267,7 +246,7 @@ new_right c p height tags u tag eh Precommit None es ec z i = absurd i
 new_right c p height tags u tag eh Prevote content es ec z i = absurd i
 new_right c p height tags u tag eh Propose content es ec z i = absurd i
 
-taken_stamped : (c : Setting) (p : ℕ) (s : State) (m : Message) (b : Body) → IsTaken c p s m b → KeepsStamps c p s.height s.votes s.stamps → KeepsStamps c p (kept_message s m b).height (kept_message s m b).votes (kept_message s m b).stamps
+pub taken_stamped : (c : Setting) (p : ℕ) (s : State) (m : Message) (b : Body) → IsTaken c p s m b → KeepsStamps c p s.height s.votes s.stamps → KeepsStamps c p (kept_message s m b).height (kept_message s m b).votes (kept_message s m b).stamps
 taken_stamped c p s m (OfVote u) t st =
     let more = stamp_of (step_of_vote u.step) u.round u.sender u.content m.tags in record {
       stamped = λ v x i es ec. elim (in_append v s.votes (u ∷ []) i) [
@@ -292,18 +271,25 @@ saved_all_certified c p None j v k r i = k r i
 saved_all_certified c p (Some a) j v k r (inl e) = subst (RecordCertified c p) (sym e) v
 saved_all_certified c p (Some a) j v k r (inr i) = k r i
 
+pub fired_keeps : (c : Setting) (p : ℕ) (n : Node) (k : Rule) → KeepsStamps c p n.state.height n.state.votes n.state.stamps → KeepsStamps c p (firing c p n k).node.state.height (firing c p n k).node.state.votes (firing c p n k).node.state.stamps
+fired_keeps c p n k st = fired_stamped c p (saved (context c p) (pick n.queues) n.state k) (changed n.state k) (changed_keeps (KeepsStamps c p) n.state k st (no_stamps c p))
+
+pub opened_keeps : (c : Setting) (p : ℕ) (j : List Record) → KeepsStamps c p (restart p j).height (restart p j).votes (restart p j).stamps
+unfolding restart
+opened_keeps c p j = record { stamped = λ v x i es ec. inl (let f = in_flat_map votes_in v (own_since p j) i in since_sender p j f.0 v f.1 f.2); rights = λ z i. absurd i }
+
 fired_certified : (c : Setting) (p : ℕ) (n : Node) (k : Rule) → Certified c p n → holds (context c p) n.state k ≡ true → Certified c p (firing c p n k).node
 fired_certified c p n k t h =
     let o = saved (context c p) (pick n.queues) n.state k in
     record {
-      keeps = fired_stamped c p o (changed n.state k) (changed_keeps (KeepsStamps c p) n.state k t.keeps (no_stamps c p));
+      keeps = fired_keeps c p n k t.keeps;
       certified = saved_all_certified c p o n.journal (saved_certified c p (pick n.queues) n.state t.keeps k h) t.certified;
     }
 
 opened_certified : (c : Setting) (p : ℕ) (j : List Record) → ((r : Record) → r ∈ j → RecordCertified c p r) → Certified c p (opened p j)
 unfolding restart
 opened_certified c p j k = record {
-  keeps = record { stamped = λ v x i es ec. inl (let f = in_flat_map votes_in v (own_since p j) i in since_sender p j f.0 v f.1 f.2); rights = λ z i. absurd i };
+  keeps = opened_keeps c p j;
   certified = k;
 }
 

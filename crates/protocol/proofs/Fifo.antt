@@ -14,11 +14,12 @@ use Rattle.protocol.specs.Queues.{pick, is_closed}
 use Rattle.protocol.specs.Refusals.{context}
 use Rattle.protocol.specs.Arrivals.{taken_in, firing}
 use Rattle.protocol.specs.World.{World, Event, Sends, Comes, Fires, Asks, Resends, Restarts, happens, run, beginning, cut_record, delivered, moved}
+use Rattle.protocol.specs.Lawful.{Tied}
 use Rattle.protocol.specs.Laws.{FifoLaw}
 use Rattle.messages.specs.Framing.{message_of}
 use Rattle.protocol.proofs.Asked.{asked}
 use Rattle.protocol.proofs.Arrivals.{come_cases, try_cases, cut_cases}
-use Rattle.protocol.proofs.Local.{Tied, IsTied, AllTied, happens_tied, beginning_tied}
+use Rattle.protocol.proofs.Local.{IsTied, AllTied, happens_tied, beginning_tied}
 
 -- a decided value is valid
 abbrev DecidesValid : State → Option Record → Type 0

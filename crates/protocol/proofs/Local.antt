@@ -15,21 +15,9 @@ use Rattle.protocol.specs.Refusals.{context}
 use Rattle.protocol.specs.Arrivals.{firing, taken_in, kept_message}
 use Rattle.protocol.specs.World.{World, Event, Sends, Comes, Fires, Asks, Resends, Restarts, happens, run, beginning, cut_record, moved, Cut}
 use Rattle.protocol.specs.Laws.{place, IsAfter, Grows, LockLaw}
+use Rattle.protocol.specs.Lawful.{IsReached, Tied}
 use Rattle.protocol.proofs.Asked.{asked}
 use Rattle.protocol.proofs.Arrivals.{come_cases, try_cases, cut_cases}
-
--- the last own message is at most where the state is, and there is none where no round has begun
-abbrev pub IsReached : Bool → Option (ℕ × Step) → ℕ → Step → Type 0
-IsReached false last round step = last ≡ None
-IsReached true None round step = Unit {0}
-IsReached true (Some last) round step = place last.1 last.0 ≤ place step round
-
-pub record Tied (s : State) (j : List Record) : Type 0 where
-  pub height : s.height ≡ height_of j
-  pub delivered : s.delivered ≡ delivered_of j
-  pub lock : s.lock ≡ lock_of j
-  pub grows : Grows j
-  pub last : IsReached s.begun (last_place j) s.round s.step
 
 -- ---- places
 

@@ -11,10 +11,10 @@ use Rattle.protocol.specs.State.{State, ValueAt, Rule, Start, PrevoteFresh, Prev
 use Rattle.protocol.specs.Rules.{holds, saved, changed, started, starts, proposal_of, lock_is, lock_allows, times_out, content_if}
 use Rattle.protocol.specs.Refusals.{context, bundle_senders}
 use Rattle.protocol.specs.Premises.{Honesty, IsCorrect}
+use Rattle.protocol.specs.Lawful.{Tied}
 use Rattle.protocol.proofs.Asked.{asked}
 use Rattle.protocol.proofs.Locking.{Mark, mark, Supported, Reason, Allows, AllowsAlone, lock_at}
 use Rattle.protocol.proofs.Marks.{content_of, marks_of, same_lock, locked_id}
-use Rattle.protocol.proofs.Local.{Tied}
 use Rattle.protocol.proofs.Backing.{Marks, history, KeepsWell, IsBacked, kept_quorum}
 
 module _ (c : Setting) (h : Honesty) where

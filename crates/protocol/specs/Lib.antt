@@ -6,6 +6,7 @@ pub mod State
 pub mod Rules
 pub mod Order
 pub mod Restart
+pub mod Records
 pub mod Queues
 pub mod Refusals
 pub mod Rings
@@ -17,5 +18,6 @@ pub mod Effects
 pub mod Premises
 pub mod Reports
 pub mod Laws
+pub mod Lawful
 pub mod Examples
 pub mod Witness

@@ -4,6 +4,7 @@
 //! validator, a rule or a timeout fires, a validator stops and is opened again over its journal, a client sends.
 #![tactic(auto)]
 
+mod records;
 mod types;
 
 ghost use Rattle.protocol.specs.Examples.{WorkedCases, WorkedRuns};
@@ -11,6 +12,7 @@ ghost use Rattle.protocol.specs.Order.{EnabledLaw, FirstLaw, QuietLaw};
 ghost use Rattle.protocol.specs.Laws.{AgreeLaw, BeginsLaw, CertificateLaw, FifoLaw, FrameLaw, HistoryLaw, JudgeLaw, LastsLaw, LockLaw, NoLaterQuorumLaw, OneVoteLaw, RefusedLaw, ReplayLaw, ReportLaw, SentLaw, TaggedLaw, TimeoutLaw};
 ghost use Rattle.protocol.specs.Witness.{PremisesMetLaw};
 
+pub use records::{Act, OwnMessage, Record};
 pub use types::{Stamp, Step, Timeout, ValueAt};
 
 /// Within a height a validator's own messages grow in round and step, over restarts too, and what it released is in

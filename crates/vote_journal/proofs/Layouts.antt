@@ -12,8 +12,8 @@ use Rattle.messages.proofs.Sizes.{body_short}
 use Rattle.messages.proofs.Lengths.{vote_length}
 use Rattle.protocol.specs.Values.{id}
 use Rattle.protocol.specs.Messages.{OfVote, OfBundle, Proposing, Prevoting, Precommitting, Record, Own, Decided, precommit, body_of}
-use Rattle.vote_journal.specs.Records.{record_of}
-use Rattle.vote_journal.specs.declared.record.Record.{Record as Held}
+use Rattle.protocol.specs.Records.{record_of}
+use Rattle.protocol.specs.declared.records.Record.{Record as Held}
 use Rattle.vote_journal.specs.Grammar.{content_spelling, framed, record_spelling, records_spelling, IsRecord, Spells}
 use Rattle.vote_journal.specs.declared.standing.Standing.{Standing}
 use Rattle.vote_journal.specs.declared.fault.JournalFault.{JournalFault}

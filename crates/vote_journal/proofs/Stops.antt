@@ -15,7 +15,7 @@ use Rattle.vote_journal.specs.Store.{Begun, Shortened, Only, NoMore}
 use Rattle.vote_journal.specs.declared.opening.Plan.{Plan}
 use Rattle.std.proofs.Common.{Ok, Err}
 use Rattle.std.specs.Global.{Vec}
-use Rattle.vote_journal.specs.declared.record.Record.{Record as Held}
+use Rattle.protocol.specs.declared.records.Record.{Record as Held}
 use Rattle.vote_journal.specs.declared.fault.JournalFault.{JournalFault}
 use Rattle.vote_journal.specs.declared.fault.JournalFault.TheVariants.{Failed, OutOfMemory, BadRecord}
 use Rattle.vote_journal.specs.Layout.{IsScan, records_of}

@@ -6,10 +6,10 @@ use Rattle.transactions.specs.Grammar.{value_spelling, IsValue}
 use Rattle.messages.specs.Grammar.{body_spelling, IsBody, IsBundle}
 use Rattle.protocol.specs.Values.{id}
 use Rattle.protocol.specs.Messages.{Signed, Bundle, OfBundle, Act, Proposing, Prevoting, Precommitting, Record, Own, Decided, body_of}
-use Rattle.vote_journal.specs.declared.record.Record.{Record as Held}
+use Rattle.protocol.specs.declared.records.Record.{Record as Held}
 use Rattle.vote_journal.specs.declared.fault.JournalFault.{JournalFault}
 use Rattle.vote_journal.specs.declared.fault.JournalFault.TheVariants.{Failed, OutOfMemory, BadRecord}
-use Rattle.vote_journal.specs.Records.{record_of}
+use Rattle.protocol.specs.Records.{record_of}
 
 -- the ASCII text TMJ1
 abbrev pub header : List ℕ

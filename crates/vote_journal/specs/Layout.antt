@@ -5,10 +5,10 @@ use Rattle.byteorder.specs.Endian.{big_number}
 use Rattle.protocol.specs.Messages.{Record}
 use Rattle.vote_journal.specs.declared.fault.JournalFault.{JournalFault}
 use Rattle.vote_journal.specs.declared.fault.JournalFault.TheVariants.{Failed, OutOfMemory, BadRecord}
-use Rattle.vote_journal.specs.declared.record.Record.{Record as Held}
+use Rattle.protocol.specs.declared.records.Record.{Record as Held}
 use Rattle.vote_journal.specs.declared.scanning.Front.{Front}
 use Rattle.vote_journal.specs.declared.scanning.Front.TheVariants as fronts
-use Rattle.vote_journal.specs.Records.{record_of}
+use Rattle.protocol.specs.Records.{record_of}
 use Rattle.vote_journal.specs.Grammar.{header, framed, records_spelling}
 use Rattle.vote_journal.specs.Order.{AreLawful}
 

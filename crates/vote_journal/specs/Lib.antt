@@ -1,4 +1,3 @@
-pub mod Records
 pub mod Grammar
 pub mod Parts
 pub mod Order

@@ -10,9 +10,9 @@ use Rattle.protocol.specs.Restart.{delivered_of, height_of, last_place}
 use Rattle.proposal_validity.specs.Standing.{IsFrontierOf}
 use Rattle.vote_journal.specs.declared.fault.JournalFault.{JournalFault}
 use Rattle.vote_journal.specs.declared.fault.JournalFault.TheVariants.{Failed, OutOfMemory, BadRecord}
-use Rattle.vote_journal.specs.declared.record.Record.{Record as Held}
+use Rattle.protocol.specs.declared.records.Record.{Record as Held}
 use Rattle.vote_journal.specs.declared.standing.Standing.{Standing}
-use Rattle.vote_journal.specs.Records.{record_of}
+use Rattle.protocol.specs.Records.{record_of}
 use Rattle.vote_journal.specs.Grammar.{IsRecord, Spells}
 
 -- a later round, or a later step of the round

@@ -7,7 +7,7 @@ use Rattle.vote_journal.specs.declared.opening.Plan.{Plan}
 use Rattle.vote_journal.specs.Grammar.{header, IsRecord}
 use Rattle.vote_journal.specs.Order.{may_follow}
 use Rattle.vote_journal.specs.Layout.{IsBegunHeader, Splits, IsJournal, IsWhole, records_of}
-use Rattle.vote_journal.specs.Store.{Shortened, Begun}
+use Rattle.vote_journal.specs.Store.{Shortened, Begun, Grew}
 
 -- why a record is not saved: the device failed, and this holds; or memory was short, and that does
 abbrev pub IsSaveFault : {T : Type 0} → Result T JournalFault → Type 0 → Type 0 → Type 0
@@ -15,6 +15,13 @@ IsSaveFault (Ok x) failed nothing = Unit {0}
 IsSaveFault (Err Failed) failed nothing = failed
 IsSaveFault (Err OutOfMemory) failed nothing = nothing
 IsSaveFault (Err BadRecord) failed nothing = ⊥
+
+-- how often the device failed, before a save and after it
+abbrev pub CountsSave : {T : Type 0} → Result T JournalFault → ℕ → ℕ → Type 0
+CountsSave (Ok x) before now = now ≡ before
+CountsSave (Err Failed) before now = Grew before now
+CountsSave (Err OutOfMemory) before now = now ≡ before
+CountsSave (Err BadRecord) before now = ⊥
 
 -- whatever a stop leaves is a journal of these records, or of them and this one
 abbrev pub LeavesBeforeOrAfter : List ℕ → ℕ → (List ℕ → Type 0) → List Record → Record → Type 0

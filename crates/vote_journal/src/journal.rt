@@ -1,16 +1,16 @@
 //! A journal on a store: what is saved, and when.
 
 ghost use Rattle.std.specs.Prelude.{◌≡◌, ◌++◌, ◌∷◌, [], ℕ, List, OnOk, true, false};
-ghost use Rattle.vote_journal.specs.Records.{record_of};
+ghost use Rattle.protocol.specs.Records.{record_of};
 ghost use Rattle.vote_journal.specs.Grammar.{record_spelling, IsRecord};
 ghost use Rattle.vote_journal.specs.Layout.{IsWhole};
-ghost use Rattle.vote_journal.specs.Store.{Only, NoMore, Adds, Begun, Grew, FailsBy};
-ghost use Rattle.vote_journal.specs.Saving.{IsSaveFault, LeavesBeforeOrAfter, WhereSaved};
+ghost use Rattle.vote_journal.specs.Store.{Only, NoMore, Adds, Begun, Grew, Counts, FailsBy};
+ghost use Rattle.vote_journal.specs.Saving.{IsSaveFault, CountsSave, LeavesBeforeOrAfter, WhereSaved};
 
 use crate::fault::JournalFault;
-use crate::record::Record;
 use crate::spelling::spell_record;
 use crate::store::{Store, StoreFault};
+use protocol::Record;
 use std::alloc::Global;
 
 /// The journal of a validator on a store. While it has not failed, all of it is synced.
@@ -29,6 +29,7 @@ pub struct Journal<S: Store + Drop> {
 fn append_synced<S: Store>(store: &mut S, bytes: &[u8]) -> Result<(), StoreFault>
     ensures done { OnOk result ((S.seen store.new ≡ S.seen store.old ++ bytes.now) × Only (S.seen store.new) (S.may_leave store.new)) }
     ensures stop { Adds (Begun (S.seen store.old) bytes.now) (S.may_leave store.old) (S.may_leave store.new) }
+    ensures counted { Counts result (S.failures store.old) (S.failures store.new) }
     ensures fault { FailsBy result (Grew (S.failures store.old) (S.failures store.new)) ((S.seen store.new ≡ S.seen store.old) × NoMore (S.may_leave store.old) (S.may_leave store.new)) }
 {
     store.append(bytes)?;
@@ -54,6 +55,8 @@ impl<S: Store + Drop> Journal<S> {
         ensures grown { OnOk result (WhereSaved self.old.me (S.seen self.old.store) (record_of entry.now) (λ powers rs. IsWhole powers self.old.me (S.seen self.new.store) (rs ++ record_of entry.now ∷ []))) }
         ensures fault { IsSaveFault result (Grew (S.failures self.old.store) (S.failures self.new.store) × (self.new.failed ≡ true))
             ((S.seen self.new.store ≡ S.seen self.old.store) × NoMore (S.may_leave self.old.store) (S.may_leave self.new.store) × (self.new.failed ≡ false)) }
+        // The device's failures are counted, and nothing else is.
+        ensures counted { CountsSave result (S.failures self.old.store) (S.failures self.new.store) }
         ensures me { self.new.me ≡ self.old.me }
     {
         let Ok(bytes) = spell_record(self.alloc, self.me, entry) else {

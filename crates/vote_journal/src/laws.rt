@@ -1,6 +1,6 @@
 //! What holds of every journal.
 
-ghost use Rattle.vote_journal.specs.Laws.{JournalLaw, OneJournalLaw, StopLaw, TornLaw};
+ghost use Rattle.vote_journal.specs.Laws.{FollowsLaw, JournalLaw, OneJournalLaw, StopLaw, TornLaw};
 
 use crate::store::Store;
 
@@ -25,4 +25,11 @@ pub fn stop_law()
 /// What a second stop leaves of a record that was cut short is no whole record either.
 pub fn torn_law()
     ensures { TornLaw }
+{}
+
+/// Each record that a validator of any run has saved may follow those before it, and its decisions are made as their records
+/// have to be: what correct validators save is never refused, as it is opened, for its height, its place in a round, its
+/// quorum or its value, nor for its sender, its id or the order of its precommits.
+pub fn follows_law()
+    ensures { FollowsLaw }
 {}

@@ -8,10 +8,10 @@ ghost use Rattle.vote_journal.specs.Saving.{added, BegunOpening, IsPlan, IsFound
 
 use crate::fault::JournalFault;
 use crate::journal::Journal;
-use crate::record::Record;
 use crate::scanning::read_records;
 use crate::store::{Store, StoreFault};
 use powers::Powers;
+use protocol::Record;
 use std::alloc::Global;
 
 /// What a journal begins with: the ASCII text TMJ1.

@@ -3,13 +3,13 @@
 ghost use Rattle.std.specs.Prelude.{◌≡◌, ◌≤◌, ◌<◌, ◌∷◌, ◌++◌, ℕ, List, length, option_map, MatchResult, IfOk};
 ghost use Rattle.transactions.specs.Grammar.{IsValue, SpellsValue};
 ghost use Rattle.messages.specs.Grammar.{SpellsBody};
-ghost use Rattle.vote_journal.specs.Records.{act_of, record_of};
+ghost use Rattle.protocol.specs.Records.{act_of, record_of};
 ghost use Rattle.vote_journal.specs.Grammar.{IsReading, is_rising};
 ghost use Rattle.vote_journal.specs.Parts.{IsReadingOf, plain_act, plain_record, lock_record, is_decision, bundle_of};
 
 use crate::fault::JournalFault;
-use crate::record::{Act, OwnMessage, Record};
 use messages::{Body, Bundle, Precommit, Proposal, Step, Vote, read_body, same_vote};
+use protocol::{Act, OwnMessage, Record};
 use std::alloc::{AllocError, Global};
 use transactions::{Fault, Named, Value, read_value, value_id};
 

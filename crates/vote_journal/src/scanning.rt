@@ -4,10 +4,10 @@ ghost use Rattle.std.specs.Prelude.{◌≡◌, ◌&&◌, ◌++◌, ◌∷◌, []
 ghost use Rattle.vote_journal.specs.Layout.{IsFront, IsScan};
 
 use crate::fault::JournalFault;
-use crate::record::Record;
 use crate::standing::Standing;
 use byteorder::{BigEndian, ByteOrder};
 use powers::Powers;
+use protocol::Record;
 use std::alloc::Global;
 
 /// The most bytes that a record has behind its length.

@@ -4,11 +4,11 @@ ghost use Rattle.std.specs.Prelude.{◌≡◌, ◌≤◌, ◌++◌, ◌∷◌, l
 ghost use Rattle.transactions.specs.Grammar.{value_spelling};
 ghost use Rattle.messages.specs.Grammar.{body_spelling, IsBody, IsBundle};
 ghost use Rattle.protocol.specs.Messages.{body_of};
-ghost use Rattle.vote_journal.specs.Records.{act_of, record_of};
+ghost use Rattle.protocol.specs.Records.{act_of, record_of};
 ghost use Rattle.vote_journal.specs.Grammar.{content_spelling, record_spelling, framed, IsRecord};
 
-use crate::record::{Act, OwnMessage, Record};
 use messages::{Body, Bundle, Proposal, Step, Vote, spell_body};
+use protocol::{Act, OwnMessage, Record};
 use std::alloc::{AllocError, Global};
 use transactions::{Duplicate, Value, len_of_value, put_u32, put_value};
 

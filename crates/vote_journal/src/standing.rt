@@ -5,15 +5,14 @@ ghost use Rattle.powers.specs.Power.{power};
 ghost use Rattle.protocol.specs.Values.{Item, valid};
 ghost use Rattle.protocol.specs.Messages.{Record as AnyRecord, Decided, step_of, step_number};
 ghost use Rattle.protocol.specs.Refusals.{named_senders};
-ghost use Rattle.vote_journal.specs.Records.{act_of, record_of};
+ghost use Rattle.protocol.specs.Records.{act_of, record_of};
 
 use crate::fault::JournalFault;
 use crate::reading::read_record;
-use crate::record::{Act, OwnMessage, Record};
 use messages::Bundle;
 use powers::{MOST_VALIDATORS, Powers};
 use proposal_validity::Frontier;
-use protocol::Step;
+use protocol::{Act, OwnMessage, Record, Step};
 use std::alloc::{AllocError, Global};
 
 /// The height after the last decision, the place of the last own message of that height, and what the decisions

@@ -2,9 +2,10 @@
 
 use crate::{FileFault, FileStore};
 use powers::Powers;
+use protocol::{Act, OwnMessage, Record};
 use std::fs;
 use std::test::Fail;
-use vote_journal::{Act, Journal, OwnMessage, Record, Store};
+use vote_journal::{Journal, Store};
 
 const FOLDER: &str = "journal_file_test";
 

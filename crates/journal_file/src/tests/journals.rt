@@ -2,12 +2,11 @@
 
 use messages::{Bundle, Precommit};
 use powers::Powers;
+use protocol::{Act, OwnMessage, Record};
 use std::alloc::{AllocError, Global};
 use std::test::Fail;
 use transactions::{Named, Op, Seq, Shared, Tx, Value, value_id};
-use vote_journal::{
-    Act, Journal, MemoryStore, NotOpened, Opened, OwnMessage, Record, read_record, spell_record,
-};
+use vote_journal::{Journal, MemoryStore, NotOpened, Opened, read_record, spell_record};
 
 const HEADER: [u8; 4] = *b"TMJ1";
 

@@ -3,7 +3,7 @@ use Rattle.std.proofs.lemmas.List.{take-append-drop}
 use Rattle.std.proofs.lemmas.Result.{err_from_is_err_and}
 use Rattle.transactions.specs.Grammar.{SpellsValue}
 use Rattle.messages.specs.Grammar.{SpellsBody}
-use Rattle.vote_journal.specs.Records.{record_of}
+use Rattle.protocol.specs.Records.{record_of}
 use Rattle.vote_journal.specs.Grammar.{Spells}
 use Rattle.vote_journal.specs.Parts.{IsReadingOf}
 use Rattle.vote_journal.proofs.RecordFormats.{lock_parts, lock_no_body, lock_no_value, lock_only, lock_spells}

@@ -1,10 +1,10 @@
 use Rattle.std.proofs.Common.{◌≡◌, ◌++◌, ◌∷◌, [], List, reverse, sym, ap, ◌∙◌, subst, arith}
 use Rattle.std.proofs.lemmas.Result.{err_from_is_err_and}
 use Rattle.protocol.specs.Messages.{Record}
-use Rattle.vote_journal.specs.declared.record.Record.{Record as Held}
+use Rattle.protocol.specs.declared.records.Record.{Record as Held}
 use Rattle.vote_journal.specs.Order.{Remembers}
 use Rattle.vote_journal.specs.Layout.{records_of}
-use Rattle.vote_journal.specs.Records.{record_of}
+use Rattle.protocol.specs.Records.{record_of}
 use Rattle.vote_journal.proofs.Layouts.{scan_step, scan_bad, scan_refused, newest_push, rest_shorter}
 use Rattle.vote_journal.proofs.scanning.read_records.Goals as goal
 

@@ -1,5 +1,5 @@
 use Rattle.std.proofs.Common.{◌++◌, List, ℕ, ap, ◌∙◌}
-use Rattle.vote_journal.specs.Records.{record_of}
+use Rattle.protocol.specs.Records.{record_of}
 use Rattle.vote_journal.proofs.Stops.{save_leaves, whole_push}
 use Rattle.vote_journal.proofs.journal.Journal.save.Goals as goal
 

@@ -1,5 +1,5 @@
 use Rattle.std.proofs.lemmas.Result.{err_from_is_err_and}
-use Rattle.vote_journal.specs.Records.{record_of}
+use Rattle.protocol.specs.Records.{record_of}
 use Rattle.vote_journal.proofs.Taking.{taken_err}
 use Rattle.vote_journal.proofs.standing.Standing.take.Goals as goal
 

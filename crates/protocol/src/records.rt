@@ -1,4 +1,4 @@
-//! What a validator saves.
+//! What a validator saves: its own messages, and decisions.
 
 use messages::Bundle;
 use transactions::{Id, Named, Value};

@@ -1,9 +1,9 @@
 -- The records that the code holds, as those of the definitions.
 use Rattle.protocol.specs.Messages.{Act, Proposing, Prevoting, Precommitting, Record, Own, Decided}
-use Rattle.vote_journal.specs.declared.record.Act.{Act as HeldAct}
-use Rattle.vote_journal.specs.declared.record.Act.TheVariants as acts
-use Rattle.vote_journal.specs.declared.record.Record.{Record as Held}
-use Rattle.vote_journal.specs.declared.record.Record.TheVariants as records
+use Rattle.protocol.specs.declared.records.Act.{Act as HeldAct}
+use Rattle.protocol.specs.declared.records.Act.TheVariants as acts
+use Rattle.protocol.specs.declared.records.Record.{Record as Held}
+use Rattle.protocol.specs.declared.records.Record.TheVariants as records
 
 abbrev pub act_of : HeldAct → Act
 act_of (acts.Proposing valid_round value) = Proposing valid_round value
