@@ -7,3 +7,4 @@ pub mod Sizes
 pub mod FrameSpelling
 pub mod MessageFormats
 pub mod ReplyFormats
+pub mod Streams

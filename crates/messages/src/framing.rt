@@ -1,7 +1,7 @@
 //! Whole messages as frames: a length, four bytes, and that many bytes of content.
 
 ghost use Rattle.std.specs.Prelude.{◌≡◌, ◌≤◌, ◌+◌, ◌*◌, ◌++◌, List, ℕ, length, MatchResult, OnOk, IfOk, Ok, Err};
-ghost use Rattle.transactions.specs.Fields.{Gives};
+ghost use Rattle.transactions.specs.Fields.{Gives, Tells};
 ghost use Rattle.transactions.specs.Grammar.{tags_spelling};
 ghost use Rattle.messages.specs.declared.body.Message.{Message};
 ghost use Rattle.messages.specs.Grammar.{body_spelling};
@@ -17,7 +17,7 @@ use std::alloc::{AllocError, Global};
 use transactions::{Fault, len_of_tags, put_u32, tags_of};
 
 /// The most bytes of content that a frame has.
-const LONGEST_CONTENT: usize = 1_048_576;
+pub(crate) const LONGEST_CONTENT: usize = 1_048_576;
 
 /// The content of a frame, once it is measured.
 #[tactic(auto, unfolding(crate::specs::Framing::content_of, transactions::specs::Fields::limited, transactions::specs::Fields::whole))]
@@ -53,7 +53,8 @@ fn message_front(alloc: Global, bytes: &[u8]) -> Result<(Message, &[u8]), Fault>
 
 #[tactic(auto, unfolding(crate::specs::Framing::message_of, transactions::specs::Fields::whole))]
 fn whole_message(alloc: Global, frame: &[u8]) -> Result<Message, Fault>
-    ensures { Gives (λ x. x) result (message_of frame.now) }
+    ensures exact { Gives (λ x. x) result (message_of frame.now) }
+    ensures measured { Tells result (content_of frame.now) }
 {
     let content = content_in(frame)?;
     let (message, rest) = message_front(alloc, content)?;
@@ -77,6 +78,8 @@ pub fn read(alloc: Global, frame: &[u8]) -> Result<Message, Fault>
     ensures only { (message : Message) → SpellsFrame frame.now message → Gives (λ x. x) result (Ok message) }
     // Which fault it is.
     ensures exact { Gives (λ x. x) result (message_of frame.now) }
+    // No fault of its measure is hidden by want of memory.
+    ensures measured { Tells result (content_of frame.now) }
 {
     whole_message(alloc, frame)
 }

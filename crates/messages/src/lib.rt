@@ -21,7 +21,9 @@
 #![tactic(auto)]
 
 mod body;
+mod frame_reader;
 mod framing;
+mod laws;
 mod measuring;
 mod reading;
 mod replies;
@@ -30,10 +32,9 @@ mod writing;
 pub use body::{
     Ask, Body, Bundle, Message, Precommit, Proposal, Step, Vote, same_proposal, same_vote,
 };
+pub use frame_reader::FrameReader;
 pub use framing::{body_in, frame_of, read, spell};
+pub use laws::pieces_law;
 pub use reading::read_body;
 pub use replies::{Reply, read_reply, spell_reply};
 pub use writing::spell_body;
-
-#[cfg(test)]
-mod tests;

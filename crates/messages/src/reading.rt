@@ -4,10 +4,11 @@
 //! the bytes that are left too. The first field that isn't right tells the fault.
 
 ghost use Rattle.std.specs.Prelude.{◌≡◌, true, IfOk, Ok};
-ghost use Rattle.transactions.specs.Fields.{Gives, repeat};
+ghost use Rattle.std.specs.Result.{result_map_both};
+ghost use Rattle.transactions.specs.Fields.{Gives, Tells, repeat};
 ghost use Rattle.messages.specs.declared.body.Body.{Body};
 ghost use Rattle.messages.specs.Grammar.{SpellsBody};
-ghost use Rattle.messages.specs.Reading.{valid_round_at, proposal_at, content_at, vote_at, ask_at, precommit_at, precommits_at, bundle_at, body_after, body_at, body_of};
+ghost use Rattle.messages.specs.Reading.{valid_round_at, proposal_at, content_at, vote_at, ask_at, precommit_at, precommits_at, bundle_at, body_after, body_at, body_of, proposal_head, bundle_head, head_after, head_at};
 
 use crate::body::{Ask, Body, Bundle, Precommit, Proposal, Step, Vote};
 use std::alloc::Global;
@@ -16,15 +17,16 @@ use transactions::{Fault, Id, Seq, tags_of, tx_fields_of, value_front};
 
 #[tactic(auto, unfolding(crate::specs::Reading::valid_round_at))]
 fn valid_round_of(bytes: &[u8]) -> Result<(Option<u32>, &[u8]), Fault>
-    ensures { Gives (λ x. (x.0, x.1.now)) result (valid_round_at bytes.now) }
+    ensures { result_map_both (λ x. (x.0, x.1.now)) (λ fault. fault) result ≡ valid_round_at bytes.now }
 {
     let (code, rest) = u32_at(bytes)?;
     Ok((code.checked_sub(1), rest))
 }
 
-#[tactic(auto, unfolding(crate::specs::Reading::proposal_at))]
+#[tactic(auto, unfolding(crate::specs::Reading::proposal_at, crate::specs::Reading::proposal_head))]
 fn proposal_of(alloc: Global, bytes: &[u8]) -> Result<(Proposal, &[u8]), Fault>
-    ensures { Gives (λ x. (x.0, x.1.now)) result (proposal_at bytes.now) }
+    ensures exact { Gives (λ x. (x.0, x.1.now)) result (proposal_at bytes.now) }
+    ensures told { Tells result (proposal_head bytes.now) }
 {
     let (height, rest) = u64_at(bytes)?;
     let (round, rest) = u32_at(rest)?;
@@ -45,7 +47,7 @@ fn proposal_of(alloc: Global, bytes: &[u8]) -> Result<(Proposal, &[u8]), Fault>
 
 #[tactic(auto, unfolding(crate::specs::Reading::content_at, crate::specs::Reading::content_after))]
 fn content_of(bytes: &[u8]) -> Result<(Option<Id>, &[u8]), Fault>
-    ensures { Gives (λ x. (x.0, x.1.now)) result (content_at bytes.now) }
+    ensures { result_map_both (λ x. (x.0, x.1.now)) (λ fault. fault) result ≡ content_at bytes.now }
 {
     let (flag, rest) = u8_at(bytes)?;
     match flag {
@@ -60,7 +62,7 @@ fn content_of(bytes: &[u8]) -> Result<(Option<Id>, &[u8]), Fault>
 
 #[tactic(auto, unfolding(crate::specs::Reading::vote_at))]
 fn vote_of(step: Step, bytes: &[u8]) -> Result<(Vote, &[u8]), Fault>
-    ensures { Gives (λ x. (x.0, x.1.now)) result (vote_at step bytes.now) }
+    ensures { result_map_both (λ x. (x.0, x.1.now)) (λ fault. fault) result ≡ vote_at step bytes.now }
 {
     let (height, rest) = u64_at(bytes)?;
     let (round, rest) = u32_at(rest)?;
@@ -80,7 +82,7 @@ fn vote_of(step: Step, bytes: &[u8]) -> Result<(Vote, &[u8]), Fault>
 
 #[tactic(auto, unfolding(crate::specs::Reading::ask_at))]
 fn ask_of(bytes: &[u8]) -> Result<(Ask, &[u8]), Fault>
-    ensures { Gives (λ x. (x.0, x.1.now)) result (ask_at bytes.now) }
+    ensures { result_map_both (λ x. (x.0, x.1.now)) (λ fault. fault) result ≡ ask_at bytes.now }
 {
     let (height, rest) = u64_at(bytes)?;
     let (sender, rest) = u16_at(rest)?;
@@ -125,9 +127,10 @@ fn precommits_of(alloc: Global, bytes: &[u8]) -> Result<(Seq<Precommit>, &[u8]),
     Ok((Seq::from_vec(precommits), rest))
 }
 
-#[tactic(auto, unfolding(crate::specs::Reading::bundle_at))]
+#[tactic(auto, unfolding(crate::specs::Reading::bundle_at, crate::specs::Reading::bundle_head))]
 fn bundle_of(alloc: Global, bytes: &[u8]) -> Result<(Bundle, &[u8]), Fault>
-    ensures { Gives (λ x. (x.0, x.1.now)) result (bundle_at bytes.now) }
+    ensures exact { Gives (λ x. (x.0, x.1.now)) result (bundle_at bytes.now) }
+    ensures told { Tells result (bundle_head bytes.now) }
 {
     let (height, rest) = u64_at(bytes)?;
     let (sender, rest) = u16_at(rest)?;
@@ -148,9 +151,10 @@ fn bundle_of(alloc: Global, bytes: &[u8]) -> Result<(Bundle, &[u8]), Fault>
     ))
 }
 
-#[tactic(auto, unfolding(crate::specs::Reading::body_after))]
+#[tactic(auto, unfolding(crate::specs::Reading::body_after, crate::specs::Reading::head_after))]
 fn body_behind(alloc: Global, kind: u8, bytes: &[u8]) -> Result<(Body, &[u8]), Fault>
-    ensures { Gives (λ x. (x.0, x.1.now)) result (body_after kind bytes.now) }
+    ensures exact { Gives (λ x. (x.0, x.1.now)) result (body_after kind bytes.now) }
+    ensures told { Tells result (head_after kind bytes.now) }
 {
     match kind {
         0x01 => {
@@ -181,9 +185,10 @@ fn body_behind(alloc: Global, kind: u8, bytes: &[u8]) -> Result<(Body, &[u8]), F
     }
 }
 
-#[tactic(auto, unfolding(crate::specs::Reading::body_at))]
+#[tactic(auto, unfolding(crate::specs::Reading::body_at, crate::specs::Reading::head_at))]
 pub(crate) fn body_front(alloc: Global, bytes: &[u8]) -> Result<(Body, &[u8]), Fault>
-    ensures { Gives (λ x. (x.0, x.1.now)) result (body_at bytes.now) }
+    ensures exact { Gives (λ x. (x.0, x.1.now)) result (body_at bytes.now) }
+    ensures told { Tells result (head_at bytes.now) }
 {
     let (kind, rest) = u8_at(bytes)?;
     body_behind(alloc, kind, rest)
@@ -191,7 +196,8 @@ pub(crate) fn body_front(alloc: Global, bytes: &[u8]) -> Result<(Body, &[u8]), F
 
 #[tactic(auto, unfolding(transactions::specs::Fields::whole))]
 fn whole_body(alloc: Global, bytes: &[u8]) -> Result<Body, Fault>
-    ensures { Gives (λ x. x) result (body_of bytes.now) }
+    ensures exact { Gives (λ x. x) result (body_of bytes.now) }
+    ensures told { Tells result (head_at bytes.now) }
 {
     let (body, rest) = body_front(alloc, bytes)?;
     if !rest.is_empty() {
@@ -212,6 +218,8 @@ pub fn read_body(alloc: Global, bytes: &[u8]) -> Result<Body, Fault>
     ensures only { (body : Body) → SpellsBody bytes.now body → Gives (λ x. x) result (Ok body) }
     // Which fault it is.
     ensures exact { Gives (λ x. x) result (body_of bytes.now) }
+    // No fault before the first memory is hidden by want of it.
+    ensures told { Tells result (head_at bytes.now) }
 {
     whole_body(alloc, bytes)
 }

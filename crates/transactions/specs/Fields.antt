@@ -31,6 +31,10 @@ abbrev pub Gives : {X Y : Type 0} → (X → Y) → Result X Fault → Result Y 
 Gives view (Ok x) given = given ≡ Ok (view x)
 Gives view (Err e) given = Fails e given
 
+-- A fault of this reading is what a function returned, and no want of memory stands in its place.
+abbrev pub Tells : {X Y : Type 0} → Result X Fault → Result Y Fault → Type 0
+Tells result given = (fault : Fault) → given ≡ Err fault → result ≡ Err fault
+
 -- What a field reads as: its value and the bytes after it.
 abbrev pub Read : Type 0 → Type 0
 Read A = Result (A × List ℕ) Fault

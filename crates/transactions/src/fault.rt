@@ -8,7 +8,8 @@ use thiserror::Error;
 
 /// The first fault in the order of the fields, and its number.
 ///
-/// Where memory runs out, `OutOfMemory` may come in place of what the contract names.
+/// Where memory runs out, `OutOfMemory` may come in place of what stands behind the first thing that
+/// memory is taken for. A fault before that is told, as is each one of a call that takes no memory.
 #[derive(Clone, Copy, Debug, Error, PartialEq, Eq)]
 pub enum Fault {
     /// 1: the bytes end before the field ends.

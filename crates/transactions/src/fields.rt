@@ -3,14 +3,16 @@
 //! Each reader gives what the field reads as, and the bytes after it; where the bytes end before
 //! the field does, it gives `Truncated` (1). None takes memory.
 
-ghost use Rattle.transactions.specs.Fields.{Gives, byte_at, number_at, mark_at, bytes_at};
+ghost use Rattle.std.specs.Prelude.{◌≡◌};
+ghost use Rattle.std.specs.Result.{result_map_both};
+ghost use Rattle.transactions.specs.Fields.{byte_at, number_at, mark_at, bytes_at};
 
 use crate::fault::Fault;
 use byteorder::{BigEndian, ByteOrder};
 
 /// One byte.
 pub fn u8_at(bytes: &[u8]) -> Result<(u8, &[u8]), Fault>
-    ensures { Gives (λ x. (x.0, x.1.now)) result (byte_at bytes.now) }
+    ensures { result_map_both (λ x. (x.0, x.1.now)) (λ fault. fault) result ≡ byte_at bytes.now }
 {
     match bytes {
         [] => Err(Fault::Truncated),
@@ -20,7 +22,7 @@ pub fn u8_at(bytes: &[u8]) -> Result<(u8, &[u8]), Fault>
 
 /// A number of two bytes, the high one first.
 pub fn u16_at(bytes: &[u8]) -> Result<(u16, &[u8]), Fault>
-    ensures { Gives (λ x. (x.0, x.1.now)) result (number_at 2 bytes.now) }
+    ensures { result_map_both (λ x. (x.0, x.1.now)) (λ fault. fault) result ≡ number_at 2 bytes.now }
 {
     if bytes.len() < 2 {
         return Err(Fault::Truncated);
@@ -30,7 +32,7 @@ pub fn u16_at(bytes: &[u8]) -> Result<(u16, &[u8]), Fault>
 
 /// A number of four bytes, the high one first.
 pub fn u32_at(bytes: &[u8]) -> Result<(u32, &[u8]), Fault>
-    ensures { Gives (λ x. (x.0, x.1.now)) result (number_at 4 bytes.now) }
+    ensures { result_map_both (λ x. (x.0, x.1.now)) (λ fault. fault) result ≡ number_at 4 bytes.now }
 {
     if bytes.len() < 4 {
         return Err(Fault::Truncated);
@@ -40,7 +42,7 @@ pub fn u32_at(bytes: &[u8]) -> Result<(u32, &[u8]), Fault>
 
 /// A number of eight bytes, the high one first.
 pub fn u64_at(bytes: &[u8]) -> Result<(u64, &[u8]), Fault>
-    ensures { Gives (λ x. (x.0, x.1.now)) result (number_at 8 bytes.now) }
+    ensures { result_map_both (λ x. (x.0, x.1.now)) (λ fault. fault) result ≡ number_at 8 bytes.now }
 {
     if bytes.len() < 8 {
         return Err(Fault::Truncated);
@@ -50,7 +52,7 @@ pub fn u64_at(bytes: &[u8]) -> Result<(u64, &[u8]), Fault>
 
 /// The next `len` bytes, which stay where they are.
 pub fn slice_at(bytes: &[u8], len: usize) -> Result<(&[u8], &[u8]), Fault>
-    ensures { Gives (λ x. (x.0.now, x.1.now)) result (bytes_at len bytes.now) }
+    ensures { result_map_both (λ x. (x.0.now, x.1.now)) (λ fault. fault) result ≡ bytes_at len bytes.now }
 {
     if bytes.len() < len {
         return Err(Fault::Truncated);
@@ -60,7 +62,7 @@ pub fn slice_at(bytes: &[u8], len: usize) -> Result<(&[u8], &[u8]), Fault>
 
 /// A digest or a tag: 32 bytes, copied out.
 pub fn array_at(bytes: &[u8]) -> Result<([u8; 32], &[u8]), Fault>
-    ensures { Gives (λ x. (x.0, x.1.now)) result (bytes_at 32 bytes.now) }
+    ensures { result_map_both (λ x. (x.0, x.1.now)) (λ fault. fault) result ≡ bytes_at 32 bytes.now }
 {
     if bytes.len() < 32 {
         return Err(Fault::Truncated);
@@ -74,7 +76,7 @@ pub fn array_at(bytes: &[u8]) -> Result<([u8; 32], &[u8]), Fault>
 /// A byte that has to be this one: another is `BadSpelling` (3).
 #[tactic(auto, unfolding(crate::specs::Fields::mark_at))]
 pub(crate) fn mark_of(wanted: u8, bytes: &[u8]) -> Result<((), &[u8]), Fault>
-    ensures { Gives (λ x. (x.0, x.1.now)) result (mark_at wanted bytes.now) }
+    ensures { result_map_both (λ x. (x.0, x.1.now)) (λ fault. fault) result ≡ mark_at wanted bytes.now }
 {
     let (mark, rest) = u8_at(bytes)?;
     if mark != wanted {

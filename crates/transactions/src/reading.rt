@@ -3,8 +3,9 @@
 //! A reader whose name ends in `_of` or `_front` reads the front of the bytes, and gives the bytes
 //! that are left too. The first field that isn't right tells the fault.
 
-ghost use Rattle.std.specs.Prelude.{true, IfOk, Ok};
-ghost use Rattle.transactions.specs.Fields.{Gives, bytes_at, repeat};
+ghost use Rattle.std.specs.Prelude.{◌≡◌, true, IfOk, Ok};
+ghost use Rattle.std.specs.Result.{result_map_both};
+ghost use Rattle.transactions.specs.Fields.{Gives, Tells, number_at, bytes_at, limited, repeat};
 ghost use Rattle.transactions.specs.declared.tx.Tx.{Tx};
 ghost use Rattle.transactions.specs.declared.tx.Value.{Value};
 ghost use Rattle.transactions.specs.Grammar.{SpellsTx, SpellsValue};
@@ -18,7 +19,8 @@ use std::alloc::Global;
 
 #[tactic(auto, unfolding(crate::specs::Reading::data_at, crate::specs::Fields::limited))]
 fn data_of(alloc: Global, bytes: &[u8]) -> Result<(Seq<u8>, &[u8]), Fault>
-    ensures { Gives (λ x. (x.0, x.1.now)) result (data_at bytes.now) }
+    ensures exact { Gives (λ x. (x.0, x.1.now)) result (data_at bytes.now) }
+    ensures told { Tells result (data_at bytes.now) }
 {
     let (len, rest) = u16_at(bytes)?;
     if len > 1024 {
@@ -30,7 +32,8 @@ fn data_of(alloc: Global, bytes: &[u8]) -> Result<(Seq<u8>, &[u8]), Fault>
 
 #[tactic(auto, unfolding(crate::specs::Reading::op_at, crate::specs::Reading::op_after))]
 fn op_of(alloc: Global, bytes: &[u8]) -> Result<(Op, &[u8]), Fault>
-    ensures { Gives (λ x. (x.0, x.1.now)) result (op_at bytes.now) }
+    ensures exact { Gives (λ x. (x.0, x.1.now)) result (op_at bytes.now) }
+    ensures told { Tells result (op_at bytes.now) }
 {
     let (kind, rest) = u8_at(bytes)?;
     match kind {
@@ -45,7 +48,7 @@ fn op_of(alloc: Global, bytes: &[u8]) -> Result<(Op, &[u8]), Fault>
 
 #[tactic(auto, unfolding(crate::specs::Fields::ranged))]
 fn client_of(bytes: &[u8]) -> Result<(u16, &[u8]), Fault>
-    ensures { Gives (λ x. (x.0, x.1.now)) result (client_at bytes.now) }
+    ensures { result_map_both (λ x. (x.0, x.1.now)) (λ fault. fault) result ≡ client_at bytes.now }
 {
     let (client, rest) = u16_at(bytes)?;
     if client > 1023 {
@@ -56,7 +59,7 @@ fn client_of(bytes: &[u8]) -> Result<(u16, &[u8]), Fault>
 
 #[tactic(auto, unfolding(crate::specs::Fields::ranged))]
 fn number_of(bytes: &[u8]) -> Result<(u64, &[u8]), Fault>
-    ensures { Gives (λ x. (x.0, x.1.now)) result (tx_number_at bytes.now) }
+    ensures { result_map_both (λ x. (x.0, x.1.now)) (λ fault. fault) result ≡ tx_number_at bytes.now }
 {
     let (number, rest) = u64_at(bytes)?;
     if number == 0 || number > 0x1_0000_0000_0000 {
@@ -72,7 +75,10 @@ fn number_of(bytes: &[u8]) -> Result<(u64, &[u8]), Fault>
 /// (4).
 #[tactic(auto, unfolding(crate::specs::Reading::tx_fields_at))]
 pub fn tx_fields_of(alloc: Global, bytes: &[u8]) -> Result<(Tx, &[u8]), Fault>
-    ensures { Gives (λ x. (x.0, x.1.now)) result (tx_fields_at bytes.now) }
+    // Which fault it is.
+    ensures exact { Gives (λ x. (x.0, x.1.now)) result (tx_fields_at bytes.now) }
+    // No fault is hidden by want of memory, which is taken last.
+    ensures told { Tells result (tx_fields_at bytes.now) }
 {
     let (client, rest) = client_of(bytes)?;
     let (number, rest) = number_of(rest)?;
@@ -92,7 +98,8 @@ pub fn tx_fields_of(alloc: Global, bytes: &[u8]) -> Result<(Tx, &[u8]), Fault>
 /// A transaction without its tags.
 #[tactic(auto, unfolding(crate::specs::Reading::tx_body_at))]
 fn tx_body_of(alloc: Global, bytes: &[u8]) -> Result<(Tx, &[u8]), Fault>
-    ensures { Gives (λ x. (x.0, x.1.now)) result (tx_body_at bytes.now) }
+    ensures exact { Gives (λ x. (x.0, x.1.now)) result (tx_body_at bytes.now) }
+    ensures told { Tells result (tx_body_at bytes.now) }
 {
     let (_, rest) = mark_of(1, bytes)?;
     tx_fields_of(alloc, rest)
@@ -100,7 +107,7 @@ fn tx_body_of(alloc: Global, bytes: &[u8]) -> Result<(Tx, &[u8]), Fault>
 
 #[tactic(auto, unfolding(crate::specs::Reading::tag_count_at, crate::specs::Fields::limited, crate::specs::Fields::ranged))]
 fn tag_count_of(bytes: &[u8]) -> Result<(u8, &[u8]), Fault>
-    ensures { Gives (λ x. (x.0, x.1.now)) result (tag_count_at bytes.now) }
+    ensures { result_map_both (λ x. (x.0, x.1.now)) (λ fault. fault) result ≡ tag_count_at bytes.now }
 {
     let (count, rest) = u8_at(bytes)?;
     if count > 64 {
@@ -113,9 +120,13 @@ fn tag_count_of(bytes: &[u8]) -> Result<(u8, &[u8]), Fault>
 }
 
 fn tag_list_of(alloc: Global, count: u8, bytes: &[u8]) -> Result<(Vec<[u8; 32]>, &[u8]), Fault>
-    ensures { Gives (λ x. (x.0.items, x.1.now)) result (repeat (bytes_at 32) (λ _. true) count bytes.now) }
+    ensures exact { Gives (λ x. (x.0.items, x.1.now)) result (repeat (bytes_at 32) (λ _. true) count bytes.now) }
+    ensures told { Tells result (repeat (bytes_at 32) (λ _. true) count bytes.now) }
 {
-    let mut tags = Vec::new(alloc);
+    if bytes.len() < 32 * usize::from(count) {
+        return Err(Fault::Truncated);
+    }
+    let mut tags = Vec::with_capacity(alloc, usize::from(count))?;
     let mut rest = bytes;
     for _ in 0..count {
         let (tag, after) = array_at(rest)?;
@@ -131,7 +142,10 @@ fn tag_list_of(alloc: Global, count: u8, bytes: &[u8]) -> Result<(Vec<[u8; 32]>,
 /// `OutOfMemory` (4).
 #[tactic(auto, unfolding(crate::specs::Reading::tags_at))]
 pub fn tags_of(alloc: Global, bytes: &[u8]) -> Result<(Seq<[u8; 32]>, &[u8]), Fault>
-    ensures { Gives (λ x. (x.0, x.1.now)) result (tags_at bytes.now) }
+    // Which fault it is.
+    ensures exact { Gives (λ x. (x.0, x.1.now)) result (tags_at bytes.now) }
+    // No fault is hidden by want of memory: it is taken once, when the tags are all there.
+    ensures told { Tells result (tags_at bytes.now) }
 {
     let (count, rest) = tag_count_of(bytes)?;
     let (tags, rest) = tag_list_of(alloc, count, rest)?;
@@ -141,7 +155,8 @@ pub fn tags_of(alloc: Global, bytes: &[u8]) -> Result<(Seq<[u8; 32]>, &[u8]), Fa
 /// A transaction with its tags.
 #[tactic(auto, unfolding(crate::specs::Reading::tx_at))]
 fn tx_front(alloc: Global, bytes: &[u8]) -> Result<(Tx, &[u8]), Fault>
-    ensures { Gives (λ x. (x.0, x.1.now)) result (tx_at bytes.now) }
+    ensures exact { Gives (λ x. (x.0, x.1.now)) result (tx_at bytes.now) }
+    ensures told { Tells result (tx_body_at bytes.now) }
 {
     let (body, rest) = tx_body_of(alloc, bytes)?;
     let (tags, rest) = tags_of(alloc, rest)?;
@@ -185,7 +200,10 @@ fn txs_of(alloc: Global, count: u16, len: usize, bytes: &[u8]) -> Result<(Vec<Tx
 /// passes the limit, for more than 500,000 bytes.
 #[tactic(auto, unfolding(crate::specs::Reading::value_at, crate::specs::Fields::limited))]
 pub fn value_front(alloc: Global, bytes: &[u8]) -> Result<(Value, &[u8]), Fault>
-    ensures { Gives (λ x. (x.0, x.1.now)) result (value_at bytes.now) }
+    // Which fault it is.
+    ensures exact { Gives (λ x. (x.0, x.1.now)) result (value_at bytes.now) }
+    // No fault of the count is hidden by want of memory.
+    ensures told { Tells result (limited 256 (number_at 2 bytes.now)) }
 {
     let (count, rest) = u16_at(bytes)?;
     if 256 < count {
@@ -202,7 +220,8 @@ pub fn value_front(alloc: Global, bytes: &[u8]) -> Result<(Value, &[u8]), Fault>
 
 #[tactic(auto, unfolding(crate::specs::Fields::whole))]
 fn whole_tx(alloc: Global, bytes: &[u8]) -> Result<Tx, Fault>
-    ensures { Gives (λ x. x) result (tx_of bytes.now) }
+    ensures exact { Gives (λ x. x) result (tx_of bytes.now) }
+    ensures told { Tells result (tx_body_at bytes.now) }
 {
     let (tx, rest) = tx_front(alloc, bytes)?;
     if !rest.is_empty() {
@@ -213,7 +232,8 @@ fn whole_tx(alloc: Global, bytes: &[u8]) -> Result<Tx, Fault>
 
 #[tactic(auto, unfolding(crate::specs::Fields::whole))]
 fn whole_value(alloc: Global, bytes: &[u8]) -> Result<Value, Fault>
-    ensures { Gives (λ x. x) result (value_of bytes.now) }
+    ensures exact { Gives (λ x. x) result (value_of bytes.now) }
+    ensures told { Tells result (limited 256 (number_at 2 bytes.now)) }
 {
     let (value, rest) = value_front(alloc, bytes)?;
     if !rest.is_empty() {
@@ -233,6 +253,8 @@ pub fn read_tx(alloc: Global, bytes: &[u8]) -> Result<Tx, Fault>
     ensures only { (tx : Tx) → SpellsTx bytes.now tx → Gives (λ x. x) result (Ok tx) }
     // Which fault it is.
     ensures exact { Gives (λ x. x) result (tx_of bytes.now) }
+    // No fault before the tags is hidden by want of memory.
+    ensures told { Tells result (tx_body_at bytes.now) }
 {
     whole_tx(alloc, bytes)
 }
@@ -245,6 +267,8 @@ pub fn read_value(alloc: Global, bytes: &[u8]) -> Result<Value, Fault>
     ensures found { IfOk result (λ value. SpellsValue bytes.now value) }
     ensures only { (value : Value) → SpellsValue bytes.now value → Gives (λ x. x) result (Ok value) }
     ensures exact { Gives (λ x. x) result (value_of bytes.now) }
+    // No fault of the count is hidden by want of memory.
+    ensures told { Tells result (limited 256 (number_at 2 bytes.now)) }
 {
     whole_value(alloc, bytes)
 }

@@ -1,6 +1,6 @@
 //! Replies as frames, and frames that spell none.
 
-use crate::{Reply, read_reply, spell_reply};
+use messages::{Reply, read_reply, spell_reply};
 use std::process::Abort;
 use transactions::Fault;
 

@@ -1,9 +1,10 @@
 mod equality;
 mod faults;
 mod frames;
+mod pieces;
 mod replies;
 
-use super::*;
+use messages::*;
 use std::alloc::{AllocError, Global};
 use std::process::Abort;
 use transactions::{Duplicate, Fault, Op, Seq, Shared, Tx, Value};

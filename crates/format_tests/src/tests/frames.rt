@@ -1,7 +1,7 @@
 //! Messages as frames, and frames that spell none.
 
 use super::{ASK, PREVOTE, assert_fault, assert_holds, message_of, nines};
-use crate::{Body, Message, Proposal, body_in, frame_of, read, spell};
+use messages::{Body, Message, Proposal, body_in, frame_of, read, spell};
 use std::alloc::{AllocError, Global};
 use std::process::Abort;
 use transactions::{Fault, Shared, Value};
@@ -13,7 +13,10 @@ fn prevote_frame(alloc: Global, tags: usize) -> Result<Vec<u8>, Fault> {
 }
 
 /// What is so of the frame of the prevote for nil with four tags.
-fn of_frame<F: FnOnce(&[u8]) -> Result<bool, Fault>>(alloc: Global, look: F) -> Result<bool, Fault>
+pub(crate) fn of_frame<F: FnOnce(&[u8]) -> Result<bool, Fault>>(
+    alloc: Global,
+    look: F,
+) -> Result<bool, Fault>
     requires { F.IsAlwaysCallable look }
 {
     let frame = prevote_frame(alloc, 4)?;

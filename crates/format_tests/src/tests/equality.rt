@@ -1,7 +1,7 @@
 //! Votes and proposals that agree, and that differ in one field.
 
 use super::{assert_holds, value_of};
-use crate::{Proposal, Step, Vote, same_proposal, same_vote};
+use messages::{Proposal, Step, Vote, same_proposal, same_vote};
 use std::alloc::{AllocError, Global};
 use transactions::{Duplicate, Fault};
 

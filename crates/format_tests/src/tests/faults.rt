@@ -4,7 +4,7 @@ use super::{
     BUNDLE_FRONT, PREVOTE, VECTORS, assert_fault, assert_holds, nines, of_body, spelled_bundle,
     there_and_back, value_of,
 };
-use crate::{Body, Proposal, read_body, spell_body};
+use messages::{Body, Proposal, read_body, spell_body};
 use std::alloc::{AllocError, Global};
 use std::process::Abort;
 use transactions::{Fault, Op, Tx};
