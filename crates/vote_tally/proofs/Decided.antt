@@ -1,7 +1,7 @@
 -- The rounds in which a quorum precommitted one id, one vote more.
-use Rattle.std.proofs.Common.{◌≡◌, ℕ, ◌*◌, ◌<◌, Bool, true, false, ◌&&◌, ◌||◌, not, List, [], ◌∷◌, ◌++◌, Some, None, Option, refl, sym, ap, subst, ◌∙◌, inl, inr, arith, ltb-true, lt-ltb, eqb-true}
+use Rattle.std.proofs.Common.{◌≡◌, ℕ, ◌*◌, ◌<◌, Bool, true, false, ◌&&◌, not, List, [], ◌∷◌, ◌++◌, Some, None, Option, refl, sym, subst, ◌∙◌, inl, inr, arith, ltb-true, lt-ltb, eqb-true}
 use Rattle.std.specs.Prelude.{◌==◌, ◌⊎◌}
-use Rattle.std.specs.List.{list_any}
+use Rattle.std.specs.List.{list_any, AllByRecursion, IsDistinct}
 use Rattle.std.specs.BTreeMap.{BTreeMap}
 use Rattle.std.proofs.lemmas.List.Folds.{list_any-append}
 use Rattle.std.proofs.lemmas.Bool.{cases_Bool, and_parts}
@@ -18,9 +18,9 @@ use Rattle.protocol.proofs.Membership.{in_append, in_left, in_right, any_found}
 use Rattle.vote_tally.specs.declared.totals.Topic.{Topic}
 use Rattle.vote_tally.specs.declared.totals.Topic.TheVariants.{PrecommitsFor}
 use Rattle.vote_tally.specs.declared.totals.Total.{Total}
-use Rattle.vote_tally.specs.Kept.{Kept}
 use Rattle.vote_tally.specs.Totals.{total_at, is_decided, rounds_with}
 use Rattle.vote_tally.specs.Told.{AreDecisive}
+use Rattle.vote_tally.proofs.Raising.{and_false}
 use Rattle.vote_tally.proofs.Told.{power_for_stays}
 
 -- ---- a list of rounds, one more
@@ -45,6 +45,29 @@ in_either decided r n rounds i = elim (cases_Bool (decided && not (list_any (λ 
     | inr (inr none) ↦ absurd none
   ])
   | inr f ↦ inl (rw f at i)
+]
+
+-- ---- each once
+
+apart_last : (x r : ℕ) (rounds : List ℕ) → AllByRecursion (λ y. (x == y) ≡ false) rounds → (x == r) ≡ false → AllByRecursion (λ y. (x == y) ≡ false) (rounds ++ r ∷ [])
+apart_last x r [] h e = (e, tt)
+apart_last x r (y ∷ ys) h e = (h.0, apart_last x r ys h.1 e)
+
+distinct_more : (r : ℕ) (rounds : List ℕ) → list_any (λ other. other == r) rounds ≡ false → IsDistinct (λ a b. a == b) rounds → IsDistinct (λ a b. a == b) (rounds ++ r ∷ [])
+unfolding IsDistinct
+distinct_more r [] f d = (tt, tt)
+distinct_more r (x ∷ xs) f d = elim (cases_Bool (x == r)) [
+  | inl t ↦ absurd (let g = rw t at f in cc)
+  | inr e ↦ (apart_last x r xs d.0 e, distinct_more r xs (rw e at f) d.1)
+]
+
+distinct_with : (decided : Bool) (r : ℕ) (rounds : List ℕ) → IsDistinct (λ a b. a == b) rounds → IsDistinct (λ a b. a == b) (rounds_with decided r rounds)
+distinct_with decided r rounds d = elim (cases_Bool (list_any (λ other. other == r) rounds)) [
+  | inl t ↦ rw (t, and_false decided) d
+  | inr f ↦ (elim (cases_Bool decided) [
+    | inl t ↦ rw (t, f) (distinct_more r rounds f d)
+    | inr e ↦ rw e d
+  ])
 ]
 
 -- ---- quorums, one vote more
@@ -90,14 +113,14 @@ in_decided powers vs v rounds totals r x h is q = elim (cases_Bool (is_vote_for 
       let here = subst (λ n. is_quorum powers (power_for powers (vs ++ v ∷ []) n round_steps.Precommit (Some x)) ≡ true) (sym same) q in
       let d : is_decided powers totals v.step v.round v.content ≡ true = is_decided_by powers totals (vs ++ v ∷ []) v.step v.round v.content x (is v.round x) s.1 ((content_eq_decides v.content (Some x)).0 p.1) here in
       rw d (subst (λ n. n ∈ rounds_with true v.round rounds) same (own_in v.round rounds)))
-  | inr f ↦ (let stays = power_for_stays (record { powers = powers; me = 0; proposals = []; votes = vs }) v r round_steps.Precommit (Some x) f in
+  | inr f ↦ (let stays = power_for_stays (record { powers = powers; me = 0; proposals = []; votes = vs; ready = None }) v r round_steps.Precommit (Some x) f in
       still_in (is_decided powers totals v.step v.round v.content) v.round r rounds ((h.each r).1 (x, subst (λ n. is_quorum powers n ≡ true) stays q)))
 ]
 
 pub decisive_more : (powers : List ℕ) (vs : List Vote) (v : Vote) (rounds : List ℕ) (totals : BTreeMap Topic Total) → AreDecisive powers vs rounds
     → ((r : ℕ) (x : List ℕ) → (total_at totals (PrecommitsFor r (Some x))).power ≡ power_for powers (vs ++ v ∷ []) r round_steps.Precommit (Some x))
     → AreDecisive powers (vs ++ v ∷ []) (rounds_with (is_decided powers totals v.step v.round v.content) v.round rounds)
-decisive_more powers vs v rounds totals h is = record { each = λ r. (λ i. decided_in powers vs v rounds totals r h is i, λ q. in_decided powers vs v rounds totals r q.0 h is q.1) }
+decisive_more powers vs v rounds totals h is = record { each = λ r. (λ i. decided_in powers vs v rounds totals r h is i, λ q. in_decided powers vs v rounds totals r q.0 h is q.1); once = distinct_with (is_decided powers totals v.step v.round v.content) v.round rounds h.once }
 
 -- nothing is decided where nothing is kept
 none_decides : (powers : List ℕ) (r : ℕ) → r ∈ [] → (x : List ℕ) × (is_quorum powers (power_for powers [] r round_steps.Precommit (Some x)) ≡ true)
@@ -111,4 +134,5 @@ no_quorum powers e =
     omega (arith, k, n)
 
 pub decisive_nothing : (powers : List ℕ) (vs : List Vote) (rounds : List ℕ) → vs ≡ [] → rounds ≡ [] → AreDecisive powers vs rounds
-decisive_nothing powers vs rounds ev er = rw (ev, er) (record { each = λ r. (λ i. absurd i, λ q. absurd (no_quorum powers q.1)) })
+unfolding IsDistinct
+decisive_nothing powers vs rounds ev er = rw (ev, er) (record { each = λ r. (λ i. absurd i, λ q. absurd (no_quorum powers q.1)); once = tt })

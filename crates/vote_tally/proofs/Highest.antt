@@ -1,13 +1,13 @@
 -- The highest of the numbers that pass a test.
-use Rattle.std.proofs.Common.{◌≡◌, ℕ, ◌*◌, ◌<◌, ◌≤◌, Bool, true, false, ◌&&◌, ◌||◌, cond, List, [], ◌∷◌, ◌++◌, map, fold, max, Option, Some, None, IfSome, refl, sym, ap, subst, ◌∙◌, inl, inr, arith, ltb-true, lt-ltb, eqb-true}
+use Rattle.std.proofs.Common.{◌≡◌, ℕ, ◌*◌, ◌<◌, Bool, true, false, ◌&&◌, cond, List, [], ◌∷◌, ◌++◌, map, fold, max, Option, Some, None, IfSome, refl, sym, ap, subst, ◌∙◌, inl, inr, arith, ltb-true, lt-ltb, eqb-true}
 use Rattle.std.specs.Prelude.{◌==◌}
 use Rattle.std.proofs.lemmas.Bool.{and_parts, or_cases, cases_lt, cases_eq, cond_both, false≢true}
 use Rattle.powers.specs.Power.{power, total, is_weak}
-use Rattle.powers.proofs.Quorums.{some_outside, no_power, power_agrees, power_le}
+use Rattle.powers.proofs.Quorums.{some_outside, no_power, power_le}
 use Rattle.protocol.specs.Messages.{◌∈◌, Proposal, Vote}
 use Rattle.protocol.specs.Tally.{senders, proposers, speakers, power_above}
 use Rattle.protocol.specs.Order.{higher, highest}
-use Rattle.protocol.proofs.Membership.{in_append, in_left, in_right, in_map, map_in, any_found}
+use Rattle.protocol.proofs.Membership.{in_left, in_right, map_in, any_found}
 use Rattle.vote_tally.specs.Kept.{Kept, rounds_of, highest_weak}
 use Rattle.vote_tally.specs.Told.{Reaches, IsHighest}
 

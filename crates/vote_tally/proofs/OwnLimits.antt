@@ -1,5 +1,5 @@
 -- The answer to a validator's message depends on that validator's kept messages alone.
-use Rattle.std.proofs.Common.{◌≡◌, ℕ, Bool, true, false, ◌&&◌, ◌||◌, not, nat_le, cond, ◌+◌, ap, sym, ◌∙◌, refl, List, [], ◌∷◌, eqb, Option, Some, None, length}
+use Rattle.std.proofs.Common.{◌≡◌, ℕ, Bool, true, false, ◌&&◌, not, nat_le, ◌+◌, ap, sym, ◌∙◌, refl, List, [], ◌∷◌, eqb, length}
 use Rattle.std.specs.List.{list_any, count_by, filter}
 use Rattle.std.proofs.lemmas.List.Sums.{length-filter}
 use Rattle.std.proofs.lemmas.Map.Views.{any-filter_same}
@@ -8,8 +8,6 @@ use Rattle.messages.proofs.Equality.{vote_eq_decides, proposal_eq_decides}
 use Rattle.protocol.specs.Messages.{Proposal, Vote, proposal_eq, vote_eq}
 use Rattle.protocol.specs.Refusals.{is_full, has_two}
 use Rattle.vote_tally.specs.Kept.{Kept}
-use Rattle.vote_tally.specs.declared.TallyFault.{TallyFault}
-use Rattle.vote_tally.specs.declared.TallyFault.TheVariants.{Repeat, VoterFull}
 use Rattle.vote_tally.specs.Faults.{vote_fault, proposal_fault, HasSameFrom, proposals_from, votes_from}
 
 -- what passes a test is found among what passes a wider one

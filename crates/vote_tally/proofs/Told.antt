@@ -1,11 +1,11 @@
 -- What a tally knows of its messages, one message more.
-use Rattle.std.proofs.Common.{◌≡◌, ℕ, ◌+◌, ◌<◌, ◌≤◌, Bool, true, false, ◌&&◌, ◌||◌, cond, nat_le, min, eqb, List, [], ◌∷◌, ◌++◌, length, Option, Some, None, refl, sym, ap, subst, ◌∙◌, inl, inr, arith, eqb-true}
+use Rattle.std.proofs.Common.{◌≡◌, ℕ, ◌+◌, ◌<◌, ◌≤◌, Bool, true, false, ◌&&◌, ◌||◌, cond, nat_le, min, List, [], ◌∷◌, ◌++◌, length, Option, Some, None, refl, sym, ap, subst, ◌∙◌, inl, inr, arith, eqb-true}
 use Rattle.std.specs.Prelude.{◌==◌, slice_index_or}
 use Rattle.std.specs.List.{list_any, list_all, count_by, filter}
 use Rattle.std.proofs.lemmas.List.Sums.{sum_by-append, length-filter}
 use Rattle.std.specs.BTreeMap.{BTreeMap}
 use Rattle.std.proofs.lemmas.List.Folds.{list_any-append, list_all-append}
-use Rattle.std.proofs.lemmas.Bool.{cases_Bool, cases_eq, cases_lt, and_parts, or_cases, eq-eqb, ne_eqb, false≢true, le-leb, lt-leb}
+use Rattle.std.proofs.lemmas.Bool.{cases_Bool, cases_eq, cases_lt, and_parts, eq-eqb, ne_eqb, false≢true, le-leb, lt-leb}
 use Rattle.messages.specs.declared.body.Step.{Step}
 use Rattle.messages.specs.declared.body.Step.TheVariants as steps
 use Rattle.messages.specs.Equality.{vote_eq, content_eq, proposal_eq}
@@ -14,7 +14,6 @@ use Rattle.powers.specs.Power.{power, is_weak}
 use Rattle.powers.proofs.Quorums.{power_agrees, no_power}
 use Rattle.protocol.specs.Messages.{Proposal, Vote, step_eq, step_of_vote}
 use Rattle.protocol.specs.Order.{higher}
-use Rattle.protocol.specs.Refusals.{has_two}
 use Rattle.protocol.specs.Tally.{is_vote, is_vote_for, senders, proposers, speakers, power_above}
 use Rattle.vote_tally.specs.declared.heights.Heights.{Heights}
 use Rattle.vote_tally.specs.declared.heights.Heights.TheVariants.{Nothing, One, Several}

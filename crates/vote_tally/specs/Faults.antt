@@ -1,5 +1,5 @@
 -- Why a message is not kept: the first cause, in this order.
-use Rattle.std.specs.Prelude.{◌≡◌, ℕ, Bool, ◌||◌, ◌==◌, filter, Option, Some, None, List, Result, Ok, Err, if◌then◌else◌}
+use Rattle.std.specs.Prelude.{◌≡◌, ℕ, ◌||◌, ◌==◌, filter, Option, Some, None, List, Result, Ok, Err, if◌then◌else◌}
 use Rattle.std.specs.List.{list_any}
 use Rattle.protocol.specs.Messages.{Proposal, Vote, proposal_eq, vote_eq}
 use Rattle.protocol.specs.Refusals.{is_full, has_two}

@@ -1,5 +1,6 @@
--- What a tally is: the validators' powers, the own number, and the messages of one height that were kept, in order of arrival.
-use Rattle.std.specs.Prelude.{◌≡◌, ℕ, ◌++◌, ◌∷◌, [], true, List, Option, Some, map}
+-- What a tally is: the validators' powers, the own number, the messages of one height that were kept, in order of arrival, and what it
+-- has room for.
+use Rattle.std.specs.Prelude.{◌≡◌, ℕ, ◌++◌, ◌∷◌, [], true, List, Option, Some, None, map}
 use Rattle.protocol.specs.Values.{Id}
 use Rattle.protocol.specs.Messages.{Proposal, Vote}
 use Rattle.protocol.specs.declared.types.Step.{Step}
@@ -7,12 +8,14 @@ use Rattle.protocol.specs.declared.types.Step.TheVariants.{Precommit}
 use Rattle.powers.specs.Power.{is_weak, is_quorum}
 use Rattle.protocol.specs.Tally as tally
 use Rattle.protocol.specs.Order.{highest}
+use Rattle.vote_tally.specs.declared.room.Ready.{Ready}
 
 pub record Kept : Type 0 where
   pub powers : List ℕ
   pub me : ℕ
   pub proposals : List Proposal
   pub votes : List Vote
+  pub ready : Option Ready  -- what it has room for, so that keeping it takes no memory
 
 abbrev pub power_for : Kept → ℕ → Step → Option Id → ℕ
 power_for k round step content = tally.power_for k.powers k.votes round step content
@@ -35,9 +38,9 @@ highest_weak k = highest (λ r. is_weak k.powers (power_above k r)) (rounds_of k
 abbrev pub IsDecisive : Kept → ℕ → Type 0
 IsDecisive k round = (x : Id) × (is_quorum k.powers (power_for k round Precommit (Some x)) ≡ true)
 
--- the vote is kept
+-- the vote is kept, and no room
 abbrev pub with_vote : Kept → Vote → Kept
-with_vote k v = record k { votes = k.votes ++ v ∷ [] }
+with_vote k v = record k { votes = k.votes ++ v ∷ []; ready = None }
 
 abbrev pub with_proposal : Kept → Proposal → Kept
-with_proposal k q = record k { proposals = k.proposals ++ q ∷ [] }
+with_proposal k q = record k { proposals = k.proposals ++ q ∷ []; ready = None }

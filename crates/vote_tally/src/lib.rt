@@ -3,8 +3,8 @@
 //! A power is that of a *set* of validators: each counts once, however often it spoke.
 #![tactic(auto)]
 
-ghost use Rattle.std.specs.Prelude.{◌≡◌, ◌==◌, ◌<◌, ◌≤◌, ◌↔◌, ◌++◌, ◌∷◌, [], ℕ, false, Option, IfOk, OnOk, OnErr, length, nat_le};
-ghost use Rattle.std.specs.List.{list_any};
+ghost use Rattle.std.specs.Prelude.{◌≡◌, ◌==◌, ◌<◌, ◌≤◌, ◌↔◌, ◌++◌, ◌∷◌, [], ℕ, false, Option, None, IfOk, OnOk, OnErr, length, nat_le};
+ghost use Rattle.std.specs.List.{list_any, IsDistinct};
 ghost use Rattle.protocol.specs.Values.{Id as Digest};
 ghost use Rattle.protocol.specs.Messages.{◌∈◌, step_of_vote, vote_eq, proposal_eq};
 ghost use Rattle.protocol.specs.declared.types.Step.{Step as RoundStep};
@@ -18,6 +18,7 @@ ghost use Rattle.vote_tally.specs.Faults.{vote_fault, proposal_fault, number_of,
 mod counts;
 mod decisive;
 mod heights;
+mod room;
 mod scans;
 mod totals;
 mod voters;
@@ -26,6 +27,7 @@ use counts::{Counts, count_one, none_counted};
 use heights::Heights;
 use messages::{Proposal, Step, Vote};
 use powers::{MOST_VALIDATORS, Powers};
+use room::Ready;
 use std::alloc::{AllocError, AllocFailed, Global};
 use std::collections::BTreeMap;
 use std::marker::Model;
@@ -94,23 +96,24 @@ pub struct Tally {
     heights: Heights,
     highest: Option<u32>,
     decisive: Vec<u32>,
+    ready: Option<Ready>,
 }
 
 impl Model for Tally {
     ghost use Rattle.vote_tally.specs.Kept.{Kept};
-    ghost use Rattle.vote_tally.specs.Told.{IsTold, AreDecisive};
+    ghost use Rattle.vote_tally.specs.Told.{IsTold, AreDecisive, HasRoomFor};
 
     ghost Value = { Kept };
 
-    ghost view = { λ a. record { powers = a.powers; me = a.me; proposals = a.proposals.items; votes = a.votes.items } };
+    ghost view = { λ a. record { powers = a.powers; me = a.me; proposals = a.proposals.items; votes = a.votes.items; ready = a.ready } };
 
-    ghost invariant = { λ a. IsTold a.powers a.proposals.items a.votes.items a.totals a.counts a.heights a.highest × AreDecisive a.powers a.votes.items a.decisive.items };
+    ghost invariant = { λ a. IsTold a.powers a.proposals.items a.votes.items a.totals a.counts a.heights a.highest × AreDecisive a.powers a.votes.items a.decisive.items × HasRoomFor a.ready a.totals a.votes a.decisive a.proposals };
 }
 
 impl Tally {
     /// An empty tally of validator `me`.
     pub fn new(alloc: Global, powers: Powers, me: u16) -> Tally
-        ensures { result ≡ record { powers = powers; me = me; proposals = []; votes = [] } }
+        ensures { result ≡ record { powers = powers; me = me; proposals = []; votes = []; ready = None } }
     {
         check_small(&powers);
         Tally {
@@ -124,6 +127,7 @@ impl Tally {
             heights: Heights::Nothing,
             highest: None,
             decisive: Vec::new(alloc),
+            ready: None,
         }
     }
 
@@ -206,14 +210,8 @@ impl Tally {
         ensures ok { OnOk result (self.new ≡ with_vote self.old vote) }
         ensures err { OnErr result (self.new ≡ self.old) }
     {
-        totals::make_room_for_vote(&mut self.totals, &vote)?;
-        self.decisive.reserve(1)?;
-        self.votes.push(vote)?;
-        totals::raise_vote(&mut self.totals, &self.powers, &vote);
-        self.highest = totals::highest_with(self.highest, &self.totals, &self.powers, vote.round);
-        decisive::note(&mut self.decisive, &self.totals, &self.powers, &vote);
-        count_one(&mut self.counts, vote.sender);
-        self.heights = self.heights.with(vote.height);
+        self.reserve_vote(&vote)?;
+        self.keep_reserved_vote(vote);
         Ok(())
     }
 
@@ -222,18 +220,15 @@ impl Tally {
         ensures ok { OnOk result (self.new ≡ with_proposal self.old proposal.now) }
         ensures err { OnErr result (self.new ≡ self.old) }
     {
-        let (round, sender) = (proposal.round, proposal.sender);
-        totals::make_room_for_proposal(&mut self.totals, round)?;
-        self.proposals.push(proposal.copy(self.alloc)?)?;
-        totals::raise_proposal(&mut self.totals, &self.powers, round, sender);
-        self.highest = totals::highest_with(self.highest, &self.totals, &self.powers, round);
-        count_one(&mut self.counts, sender);
+        let copy = proposal.copy(self.alloc)?;
+        self.reserve_proposal(copy.round)?;
+        self.keep_reserved_proposal(copy);
         Ok(())
     }
 
     /// The tally of the next height, which keeps nothing yet.
     pub fn clear(&mut self)
-        ensures { self.new ≡ record self.old { proposals = []; votes = [] } }
+        ensures { self.new ≡ record self.old { proposals = []; votes = []; ready = None } }
     {
         self.proposals.clear();
         self.votes.clear();
@@ -242,6 +237,7 @@ impl Tally {
         self.heights = Heights::Nothing;
         self.highest = None;
         self.decisive.clear();
+        self.ready = None;
     }
 
     /// Whether a validator voted for this content.
@@ -289,14 +285,15 @@ impl Tally {
     /// The rounds in which a quorum precommitted one id, each once: the only ones that line 49 may decide in.
     /// As long as liars have less than a third of the power, the others precommitted in each of them.
     pub fn decisive(&self) -> &[u32]
-        ensures { (r : ℕ) → (r ∈ result.now) ↔ IsDecisive self.now r }
+        ensures each { (r : ℕ) → (r ∈ result.now) ↔ IsDecisive self.now r }
+        ensures once { IsDistinct (λ a b. a == b) result.now }
     {
         &self.decisive
     }
 
-    /// An equal tally.
+    /// An equal tally, which has no room yet.
     pub fn copy(&self) -> Result<Tally, AllocError>
-        ensures { IfOk result (λ copy. copy ≡ self.now) }
+        ensures { IfOk result (λ copy. copy ≡ record self.now { ready = None }) }
     {
         let powers = self.powers.copy(self.alloc)?;
         let mut copy = Tally::new(self.alloc, powers, self.me);
@@ -305,14 +302,16 @@ impl Tally {
     }
 
     fn keep_all(&mut self, proposals: &[Proposal], votes: &[Vote]) -> Result<(), AllocError>
-        ensures { OnOk result (self.new ≡ record self.old { proposals = self.old.proposals ++ proposals.now; votes = self.old.votes ++ votes.now }) }
+        requires { self.old.ready ≡ None }
+        ensures { OnOk result (self.new ≡ record self.old { proposals = self.old.proposals ++ proposals.now; votes = self.old.votes ++ votes.now; ready = None }) }
     {
         self.keep_proposals(proposals)?;
         self.keep_votes(votes)
     }
 
     fn keep_proposals(&mut self, proposals: &[Proposal]) -> Result<(), AllocError>
-        ensures { OnOk result (self.new ≡ record self.old { proposals = self.old.proposals ++ proposals.now }) }
+        requires { self.old.ready ≡ None }
+        ensures { OnOk result (self.new ≡ record self.old { proposals = self.old.proposals ++ proposals.now; ready = None }) }
     {
         for proposal in proposals {
             self.keep_proposal(proposal)?;
@@ -321,7 +320,8 @@ impl Tally {
     }
 
     fn keep_votes(&mut self, votes: &[Vote]) -> Result<(), AllocError>
-        ensures { OnOk result (self.new ≡ record self.old { votes = self.old.votes ++ votes.now }) }
+        requires { self.old.ready ≡ None }
+        ensures { OnOk result (self.new ≡ record self.old { votes = self.old.votes ++ votes.now; ready = None }) }
     {
         for vote in votes {
             self.keep(*vote)?;

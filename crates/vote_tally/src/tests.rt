@@ -1,4 +1,5 @@
 use super::*;
+use std::process::Abort;
 use std::test::Fail;
 use transactions::{Shared, Value};
 
@@ -431,4 +432,28 @@ fn the_last_validator(rt: HostRuntime) -> Result<(), Fail> {
     assert!(rt; tally.has_voted(128, 0, Step::Prevote, Some(A)));
     assert!(rt; !tally.has_voted(62, 0, Step::Prevote, Some(A)));
     Ok(())
+}
+
+/// A vote and a proposal that are kept in room that was made before, and room that nothing takes.
+fn keep_in_room(rt: &impl Abort, tally: &mut Tally, proposed: Proposal) -> Result<(), Fail> {
+    let vote = prevote(0, 1, Some(A));
+    tally.reserve_vote(&vote)?;
+    assert_eq!(rt; tally.power_for(0, Step::Prevote, Some(A)), 0);
+    tally.keep_reserved_vote(vote);
+    assert_eq!(rt; tally.power_for(0, Step::Prevote, Some(A)), 1);
+    tally.reserve_proposal(proposed.round)?;
+    assert_eq!(rt; tally.power_above(7), 0);
+    tally.keep_reserved_proposal(proposed);
+    assert_eq!(rt; tally.power_above(7), 1);
+    tally.reserve_vote(&prevote(0, 2, Some(A)))?;
+    tally.forget_reserved();
+    assert_eq!(rt; tally.power_any(0, Step::Prevote), 1);
+    Ok(())
+}
+
+#[test]
+fn room_before_a_message(rt: HostRuntime) -> Result<(), Fail> {
+    let mut tally = tally_of(rt.alloc(), 3)?;
+    let proposed = proposal(rt.alloc(), 7, 2, None)?;
+    keep_in_room(&rt, &mut tally, proposed)
 }

@@ -132,6 +132,7 @@ fn raise(totals: &mut Totals, powers: &Powers, topic: Topic, validator: u16)
 /// Makes room for a vote, which changes no total.
 pub fn make_room_for_vote(totals: &mut Totals, vote: &Vote) -> Result<(), AllocError>
     ensures same { (t : AnyTopic) → total_at totals.new t ≡ total_at totals.old t }
+    ensures kept { (t : AnyTopic) → HasRoom totals.old t → HasRoom totals.new t }
     ensures room { OnOk result (HasRoomForVote totals.new vote.now) }
 {
     make_room(totals, Topic::Round(vote.round))?;
@@ -165,6 +166,7 @@ pub fn raise_vote(totals: &mut Totals, powers: &Powers, vote: &Vote)
 /// Makes room for a proposal, which changes no total.
 pub fn make_room_for_proposal(totals: &mut Totals, round: u32) -> Result<(), AllocError>
     ensures same { (t : AnyTopic) → total_at totals.new t ≡ total_at totals.old t }
+    ensures kept { (t : AnyTopic) → HasRoom totals.old t → HasRoom totals.new t }
     ensures room { OnOk result (HasRoomForProposal totals.new round) }
 {
     make_room(totals, Topic::Round(round))?;
