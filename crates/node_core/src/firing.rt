@@ -13,6 +13,7 @@ ghost use Rattle.node_core.specs.Calls.{HasFiredOnce};
 ghost use Rattle.node_core.specs.Running.{HasRun};
 ghost use Rattle.node_core.specs.Firing.{IsHanded, IsFit, IsRoundHanded, frames_of, decided_by, is_empty, IsNarrow};
 
+use crate::journal::NoJournal;
 use crate::node::NodeCore;
 use frame_admission::{frame_for, own_tags};
 use height_catchup::Decisions;
@@ -20,7 +21,7 @@ use mempool::Mempool;
 use messages::Body;
 use protocol::{Step, Timeout};
 use round_machine::{Input, Rule, enabled, fire, next_message};
-use round_states::{Fired, Picked, State, Unsaved, release};
+use round_states::{Fired, Picked, Saved, State, release};
 use std::alloc::AllocError;
 
 impl NodeCore {
@@ -63,10 +64,13 @@ impl NodeCore {
         self.scheduled.reserve(1)?;
         self.decisions.reserve(1)?;
         let frame = self.frame_of_firing(rule, &input)?;
-        let Fired { unsaved, timeout } = fire(&mut self.state, rule, input)?;
+        let Fired { saved, timeout } = match fire(&mut self.state, rule, input, &mut NoJournal) {
+            Ok(fired) => fired,
+            Err(_) => return Err(AllocError),
+        };
         push_one(&mut self.outgoing, frame);
         push_one(&mut self.scheduled, timeout);
-        note(unsaved, &self.state, &mut self.decisions, &mut self.mempool);
+        note(saved, &self.state, &mut self.decisions, &mut self.mempool);
         Ok(())
     }
 
@@ -158,20 +162,20 @@ pub(crate) fn push_one<T>(list: &mut Vec<T>, item: Option<T>)
 /// Notes what a firing saved: a decision is kept, in room that was made before, and what it delivered leaves the
 /// queues.
 pub(crate) fn note(
-    unsaved: Option<Unsaved>,
+    saved: Option<Saved>,
     state: &State,
     decisions: &mut Decisions,
     mempool: &mut Mempool,
 )
-    requires height { All (λ b. b.height ≡ length decisions.old.bundles) (decided_by unsaved) }
+    requires height { All (λ b. b.height ≡ length decisions.old.bundles) (decided_by saved) }
     requires room { 0 < decisions.old.room }
-    ensures decisions { decisions.new.bundles ≡ decisions.old.bundles ++ decided_by unsaved }
-    ensures narrow { All IsNarrow (decided_by unsaved) }
-    ensures queues { mempool.new ≡ cond (is_empty (decided_by unsaved)) mempool.old (drop_delivered state.now.state.delivered mempool.old) }
+    ensures decisions { decisions.new.bundles ≡ decisions.old.bundles ++ decided_by saved }
+    ensures narrow { All IsNarrow (decided_by saved) }
+    ensures queues { mempool.new ≡ cond (is_empty (decided_by saved)) mempool.old (drop_delivered state.now.state.delivered mempool.old) }
 {
-    match unsaved {
+    match saved {
         None => {}
-        Some(unsaved) => match release(unsaved) {
+        Some(saved) => match release(saved) {
             Body::Bundle(bundle) => {
                 decisions.keep_reserved(bundle);
                 mempool.drop_delivered(state.frontier());

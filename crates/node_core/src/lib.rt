@@ -10,12 +10,10 @@
 
 mod calls;
 mod firing;
+mod journal;
 mod node;
 mod refusal;
 mod taking;
 
 pub use node::{Config, NodeCore};
 pub use refusal::Refusal;
-
-#[cfg(test)]
-mod tests;

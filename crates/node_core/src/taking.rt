@@ -16,12 +16,12 @@ ghost use Rattle.node_core.specs.Core.{Stands, setting_of, context_of, frame_by}
 ghost use Rattle.node_core.specs.Calls.{IsAnswer, IsReceived, IsBeside, HasFiredOnce};
 
 use crate::firing::{note, push_one};
+use crate::journal::decide_unsaved;
 use crate::node::NodeCore;
 use crate::refusal::Refusal;
 use frame_admission::{frame_for, is_genuine};
 use height_catchup::{certified, judge};
 use messages::{Ask, Body, Bundle, Message, Proposal, Vote};
-use round_machine::decide_by_bundle;
 use round_states::Fired;
 use std::alloc::AllocError;
 use transactions::{Duplicate, Seq, Tx};
@@ -162,9 +162,9 @@ impl NodeCore {
         let certificate = certified(self.alloc, bundle, &self.ring)?;
         self.scheduled.reserve(1)?;
         self.decisions.reserve(1)?;
-        let Fired { unsaved, timeout } = decide_by_bundle(&mut self.state, certificate)?;
+        let Fired { saved, timeout } = decide_unsaved(&mut self.state, certificate)?;
         push_one(&mut self.scheduled, timeout);
-        note(unsaved, &self.state, &mut self.decisions, &mut self.mempool);
+        note(saved, &self.state, &mut self.decisions, &mut self.mempool);
         Ok(())
     }
 }

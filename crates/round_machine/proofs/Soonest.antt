@@ -114,5 +114,5 @@ soonest_of test qs rounds (Some best) h all =
     (λ j lt t. let l = lowest j lt t in omega (arith, l, own)))
 
 -- what may be decided is of a round in which a quorum precommitted one id
-pub decidable_in : (powers : List ℕ) (me : ℕ) (s : State) (rounds : List ℕ) → ((r : ℕ) → (r ∈ rounds) ↔ IsDecisive (record { powers = powers; me = me; proposals = s.proposals; votes = s.votes }) r) → (q : Proposal) → is_decidable powers s q ≡ true → q.round ∈ rounds
+pub decidable_in : (powers : List ℕ) (me : ℕ) (s : State) (rounds : List ℕ) → ((r : ℕ) → (r ∈ rounds) ↔ IsDecisive (record { powers = powers; me = me; proposals = s.proposals; votes = s.votes; ready = None }) r) → (q : Proposal) → is_decidable powers s q ≡ true → q.round ∈ rounds
 decidable_in powers me s rounds h q t = (h q.round).1 (id q.value, (and_parts _ _ t).1)

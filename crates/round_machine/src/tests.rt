@@ -1,13 +1,15 @@
-ghost use Rattle.std.specs.Prelude.{◌≡◌, false, true, [], cond, map, is_none, IsSome, IfSome, IfOk};
+ghost use Rattle.std.specs.Prelude.{◌≡◌, false, true, [], cond, map, is_none, IsSome, IfSome, IfOk, OnOk, OnErr};
 ghost use Rattle.transactions.specs.Grammar.{IsValue};
 ghost use Rattle.protocol.specs.State.{Context};
-ghost use Rattle.round_machine.specs.Naming.{pick_in};
+ghost use Rattle.protocol.specs.Rules.{holds};
+ghost use Rattle.round_states.specs.Machine.{Agrees};
+ghost use Rattle.round_machine.specs.Naming.{rule_of, pick_in, IsPlaced, Serves};
 
 use super::*;
 use messages::{Body, Proposal, Step as VoteStep, Vote};
 use powers::Powers;
 use protocol::{Step, Timeout};
-use round_states::{Fired, Picked, Refusal, State, release};
+use round_states::{Fired, Picked, Refusal, SaveFault, Saver, State, Unfired, Unsaved, release};
 use std::alloc::Global;
 use std::process::Abort;
 use std::test::Fail;
@@ -15,6 +17,31 @@ use transactions::{Duplicate, Id, Seq, Value, read_value, value_id};
 
 mod scenes;
 mod single;
+
+/// Saves nothing, and never fails.
+#[derive(Drop)]
+struct Unkept;
+
+impl Saver for Unkept {
+    ghost saves = { λ _ _ _ _. Unit {0} };
+
+    fn save(&mut self, _unsaved: &Unsaved) -> Result<(), SaveFault> {
+        Ok(())
+    }
+}
+
+/// `fire`, which saves nothing. (A proof file can't answer what the generic function requires.)
+fn fire_unkept(state: &mut State, rule: Rule, input: Input) -> Result<Fired, Unfired>
+    ghost g: { Context }
+    requires agrees { Agrees g state.old }
+    requires placed { IsPlaced state.old.state rule }
+    requires holds { holds g state.old.state (rule_of state.old.state rule) ≡ true }
+    requires serves { Serves g state.old rule input }
+    ensures agrees { OnOk result (Agrees g state.new) }
+    ensures err { OnErr result (state.new ≡ state.old) }
+{
+    fire(state, rule, input, &mut Unkept)
+}
 
 /// A validator among four of power 1, to which every value's own tags are right, or none's are.
 #[derive(Drop)]
@@ -76,7 +103,7 @@ impl Validator {
             Rule::Decide(_) => Input::OwnTags(self.own_tags.copy(self.alloc)?),
             _ => Input::Nothing,
         };
-        Ok(Some(fire(&mut self.state, rule, input)?))
+        Ok(Some(fire_unkept(&mut self.state, rule, input)?))
     }
 
     /// Fires the rule of a timeout of the present height and round, if it holds.
@@ -93,7 +120,7 @@ impl Validator {
             return Ok(None);
         }
         let input = self.pick()?;
-        Ok(Some(fire(&mut self.state, Rule::TimedOut(timeout), input)?))
+        Ok(Some(fire_unkept(&mut self.state, Rule::TimedOut(timeout), input)?))
     }
 
     /// Fires until no rule is enabled. What is let go joins these bodies.
@@ -116,13 +143,10 @@ impl Validator {
 
 /// Lets go what a firing leaves.
 fn let_go(fired: Fired, bodies: &mut Vec<Body>) -> Result<(), Fail> {
-    let Fired {
-        unsaved,
-        timeout: _,
-    } = fired;
-    match unsaved {
+    let Fired { saved, timeout: _ } = fired;
+    match saved {
         None => {}
-        Some(unsaved) => bodies.push(release(unsaved))?,
+        Some(saved) => bodies.push(release(saved))?,
     }
     Ok(())
 }

@@ -2,3 +2,4 @@ pub mod Beginning
 pub mod Certificates
 pub mod Deciding
 pub mod ByRound
+pub mod Keeping

@@ -1,8 +1,8 @@
 -- How the code's state and its parts are seen, and what holds of them.
-use Rattle.std.specs.Prelude.{◌≡◌, ℕ, ◌≤◌, ◌^◌, Bool, true, false, List, map, flat_map, All, IfSome}
+use Rattle.std.specs.Prelude.{◌≡◌, ℕ, ◌≤◌, ◌^◌, Bool, true, false, None, List, map, flat_map, All, IfSome}
 use Rattle.transactions.specs.Grammar.{IsValue}
 use Rattle.protocol.specs.Values.{Value, Item, items}
-use Rattle.protocol.specs.Messages.{Proposing, Prevoting, Precommitting, Record, Own, Decided}
+use Rattle.protocol.specs.Records.{record_of}
 use Rattle.protocol.specs.declared.types.Step.{Step}
 use Rattle.protocol.specs.declared.types.Step.TheVariants.{Propose, Prevote, Precommit}
 use Rattle.protocol.specs.declared.types.ValueAt.{ValueAt}
@@ -14,21 +14,17 @@ use Rattle.round_states.specs.Places.{places_of, places_at}
 use Rattle.round_states.specs.declared.state.KeptProposal.{KeptProposal}
 use Rattle.round_states.specs.declared.rounds.Stage.{Stage}
 use Rattle.round_states.specs.declared.rounds.Stage.TheVariants as stages
-use Rattle.round_states.specs.declared.unsaved.Entry.{Entry}
-use Rattle.round_states.specs.declared.unsaved.Entry.TheVariants as entries
 use Rattle.round_states.specs.declared.unsaved.Unsaved.TheInside.{Inside as UnsavedInside}
+use Rattle.round_states.specs.declared.unsaved.Saved.TheInside.{Inside as SavedInside}
 use Rattle.round_states.specs.declared.state.State.TheInside.{Inside}
 
--- ---- records that wait for their save
-
-abbrev pub record_of : ℕ → ℕ → Entry → Record
-record_of height round (entries.Proposal valid_round value) = Own height round (Proposing valid_round value)
-record_of height round (entries.Prevote content) = Own height round (Prevoting content)
-record_of height round (entries.Precommit choice) = Own height round (Precommitting choice)
-record_of height round (entries.Decision bundle) = Decided bundle
+-- ---- records, before their save and after it
 
 abbrev pub pending : UnsavedInside → Pending
-pending a = record { sender = a.sender; entry = record_of a.height a.round a.entry }
+pending a = record { sender = a.sender; entry = record_of a.entry }
+
+abbrev pub pending_saved : SavedInside → Pending
+pending_saved a = record { sender = a.sender; entry = record_of a.entry }
 
 -- ---- where a height stands
 
@@ -99,3 +95,4 @@ pub record IsSound (a : Inside) : Type 0 where
   pub stage : IsOf a.tally.me a.height a.stage
   pub height : a.height ≤ 2 ^ 48
   pub valid_value : IfSome a.valid_value (IsFoundBy a.stage)
+  pub ready : a.tally.ready ≡ None

@@ -1,10 +1,8 @@
 -- What taking a message in answers, and what it changes.
 use Rattle.std.specs.Prelude.{◌≡◌, ℕ, ◌+◌, Bool, ◌||◌, not, ◌++◌, ◌∷◌, [], List, Option, Some, None, Result, Ok, Err, is_some, nat_lt, ◌==◌, if◌then◌else◌}
-use Rattle.transactions.specs.Grammar.{IsValue}
 use Rattle.powers.specs.Power.{proposer}
-use Rattle.protocol.specs.Messages.{step_of_vote, Proposal, Vote, Body, OfTx, OfProposal, OfVote, OfAsk, OfBundle}
+use Rattle.protocol.specs.Messages.{Proposal, OfProposal}
 use Rattle.protocol.specs.Rules.{keeping}
-use Rattle.protocol.specs.Arrivals.{stamp_of}
 use Rattle.protocol.specs.State.{Context, State}
 use Rattle.protocol.specs.Refusals.{Cause, first_cause, proposal_causes, vote_causes, Refusal}
 use Rattle.protocol.specs.Refusals as causes

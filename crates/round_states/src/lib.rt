@@ -1,21 +1,24 @@
 //! A validator's state: its typed rounds, what it takes in, and the steps that its rules are made of.
 //!
-//! The rounds are typed by their step, so a second vote in one step does not compile. What a step
-//! sends is an [`Unsaved`], which has to be spent: a message reaches nobody before it was let go.
+//! The rounds are typed by their step, so a second vote in one step does not compile. What a step says is an [`Unsaved`]
+//! until it is saved, and only then a [`Saved`], which alone gives its message: a step makes its growths, saves, and only
+//! then changes the state. One that was refused memory or its save left the state as it was.
 #![tactic(auto)]
 
 mod certificate;
 mod places;
 mod rounds;
+mod saving;
 mod state;
 mod steps;
 mod taking;
 mod unsaved;
 
+pub use saving::{SaveFault, Saver, Unfired};
 pub use state::{KeptProposal, State};
 pub use steps::{Fired, Picked};
 pub use taking::{MOST_ROUNDS, Refusal};
-pub use unsaved::{Unsaved, release};
+pub use unsaved::{Saved, Unsaved, release};
 
 #[cfg(test)]
 mod tests;

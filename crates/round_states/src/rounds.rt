@@ -2,6 +2,7 @@
 
 ghost use Rattle.std.specs.Prelude.{◌≡◌, ◌<◌};
 ghost use Rattle.protocol.specs.Messages.{Own, Prevoting, Precommitting};
+ghost use Rattle.round_states.specs.Saving.{IsOwnIn};
 
 use crate::unsaved::Unsaved;
 use transactions::{Id, Named};
@@ -58,6 +59,26 @@ impl Round<Prevote> {
     {
         let unsaved = Unsaved::precommit(self.validator, self.height, self.number, choice);
         (self.into_step(Precommit), unsaved)
+    }
+
+    /// The round before its prevote, which was not saved.
+    pub(crate) fn take_back(self, unsaved: Unsaved) -> Round<Propose>
+        requires { IsOwnIn self.height self.number unsaved.entry }
+        ensures { (result.validator ≡ self.validator) × (result.height ≡ self.height) × (result.number ≡ self.number) }
+    {
+        unsaved.unsay();
+        self.into_step(Propose)
+    }
+}
+
+impl Round<Precommit> {
+    /// The round before its precommit, which was not saved.
+    pub(crate) fn take_back(self, unsaved: Unsaved) -> Round<Prevote>
+        requires { IsOwnIn self.height self.number unsaved.entry }
+        ensures { (result.validator ≡ self.validator) × (result.height ≡ self.height) × (result.number ≡ self.number) }
+    {
+        unsaved.unsay();
+        self.into_step(Prevote)
     }
 }
 

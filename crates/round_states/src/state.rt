@@ -195,7 +195,7 @@ impl State {
 
     /// The kept messages of the height, and the power of their senders.
     pub fn tally(&self) -> &Tally
-        ensures { result.now ≡ record { powers = self.now.powers; me = self.now.me; proposals = self.now.state.proposals; votes = self.now.state.votes } }
+        ensures { result.now ≡ record { powers = self.now.powers; me = self.now.me; proposals = self.now.state.proposals; votes = self.now.state.votes; ready = None } }
     {
         &self.tally
     }

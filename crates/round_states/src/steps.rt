@@ -1,7 +1,8 @@
-//! The steps that rules are made of. Each makes its growths first: refused, nothing has changed.
+//! The steps that rules are made of. Each makes its growths first, then saves what it says, and then changes the state,
+//! which can't fail: where memory or the save was refused, nothing has changed.
 //! Line numbers are those of algorithm 1 of arXiv 1807.04938.
 
-ghost use Rattle.std.specs.Prelude.{◌≡◌, ◌<◌, ◌^◌, ◌≤◌, ℕ, [], true, false, Some, None, IsTrue, IsSome, IfSome, IfOk, OnOk, OnErr, length, option_map, cond};
+ghost use Rattle.std.specs.Prelude.{◌≡◌, ◌<◌, ◌^◌, ◌≤◌, ℕ, [], true, false, Some, None, IsTrue, IsSome, IfSome, IfOk, IfErr, OnOk, OnErr, length, option_map, cond};
 ghost use Rattle.std.specs.Option.{option_copied};
 ghost use Rattle.powers.specs.Power.{proposer};
 ghost use Rattle.transactions.specs.Grammar.{IsValue};
@@ -14,22 +15,26 @@ ghost use Rattle.protocol.specs.State.{Context, Lock, Decide};
 ghost use Rattle.protocol.specs.Rules.{proposal_of, keeping, keeping_own, released_by, changed, started, decided};
 ghost use Rattle.round_states.specs.Machine.{Agrees};
 ghost use Rattle.round_states.specs.Pending.{pending_of};
+ghost use Rattle.round_states.specs.Saving.{Wrote, Unwritten};
 ghost use Rattle.round_states.specs.Taking.{with_proposal};
 ghost use Rattle.round_states.specs.Steps.{at, proposal_at, picked_value, IsPick, IsPickTold, opening, opening_timeout, certificate_with};
 
 use crate::rounds::{Round, Stage};
+use crate::saving::{Saver, Unfired};
 use crate::state::State;
-use crate::unsaved::{Unsaved, content_of};
+use crate::taking::{keep_in_room, make_room_for};
+use crate::unsaved::{Saved, Unsaved, content_of};
 use messages::{Bundle, Proposal, Step as VoteStep, Vote};
 use protocol::{Step, Timeout, ValueAt};
 use std::alloc::AllocError;
 use std::mem;
 use transactions::{Duplicate, Id, Named, Value, value_id};
 
-/// What a firing leaves to its caller: a message or decision to save, and a timeout to schedule.
+/// What a firing leaves to its caller: a message or decision to let go, and a timeout to schedule.
+#[derive(Drop)]
 pub struct Fired {
-    /// What may be let go once it is saved. It has to be spent.
-    pub unsaved: Option<Unsaved>,
+    /// What is saved, and may be let go.
+    pub saved: Option<Saved>,
     /// The timeout that begins now.
     pub timeout: Option<Timeout>,
 }
@@ -61,44 +66,72 @@ impl State {
 
     /// Prevotes in the present round, for an id or for nil (lines 24 to 27, 30 to 33, 59 and 60).
     /// The own vote is among the kept ones from now on.
-    pub fn prevote(&mut self, content: Option<Id>) -> Result<Unsaved, AllocError>
+    pub fn prevote<J: Saver>(
+        &mut self,
+        content: Option<Id>,
+        journal: &mut J,
+    ) -> Result<Saved, Unfired>
         requires begun { IsTrue self.old.state.begun }
         requires step { self.old.state.step ≡ at_steps.Propose }
         ensures ok { let s = self.old.state in OnOk result (self.new ≡ at self.old (keeping (record s { step = at_steps.Prevote }) (OfVote (prevote s.height s.round self.old.me content)))) }
-        ensures unsaved { IfOk result (λ u. u ≡ record { sender = self.old.me; entry = Own self.old.state.height self.old.state.round (Prevoting content) }) }
+        ensures saved { IfOk result (λ u. u ≡ record { sender = self.old.me; entry = Own self.old.state.height self.old.state.round (Prevoting content) }) }
+        ensures wrote { OnOk result (Wrote J.saves (Some (record { sender = self.old.me; entry = Own self.old.state.height self.old.state.round (Prevoting content) })) journal.old journal.new) }
+        ensures unwritten { IfErr result (λ e. Unwritten J.saves (Some (record { sender = self.old.me; entry = Own self.old.state.height self.old.state.round (Prevoting content) })) e journal.old journal.new) }
         ensures err { OnErr result (self.new ≡ self.old) }
     {
         let vote = self.own_vote(VoteStep::Prevote, content);
-        self.tally.keep(vote)?;
-        match mem::replace(&mut self.stage, Stage::Before) {
-            Stage::Propose(round) => {
-                let (round, unsaved) = round.prevote(content);
-                self.stage = Stage::Prevote(round);
-                Ok(unsaved)
-            }
+        self.tally.reserve_vote(&vote)?;
+        let (round, unsaved) = match mem::replace(&mut self.stage, Stage::Before) {
+            Stage::Propose(round) => round.prevote(content),
             _ => unreachable!(),
+        };
+        match unsaved.save(journal) {
+            Ok(saved) => {
+                self.tally.keep_reserved_vote(vote);
+                self.stage = Stage::Prevote(round);
+                Ok(saved)
+            }
+            Err((fault, unsaved)) => {
+                self.tally.forget_reserved();
+                self.stage = Stage::Propose(round.take_back(unsaved));
+                Err(Unfired::NotSaved(fault))
+            }
         }
     }
 
     /// Precommits in the present round, for a value or for nil (lines 40, 41, 45, 46, 63 and 64).
     /// The own vote is among the kept ones from now on.
-    pub fn precommit(&mut self, choice: Option<Named>) -> Result<Unsaved, AllocError>
+    pub fn precommit<J: Saver>(
+        &mut self,
+        choice: Option<Named>,
+        journal: &mut J,
+    ) -> Result<Saved, Unfired>
         requires begun { IsTrue self.old.state.begun }
         requires step { self.old.state.step ≡ at_steps.Prevote }
         ensures ok { let s = self.old.state in OnOk result (self.new ≡ at self.old (keeping (record s { step = at_steps.Precommit }) (OfVote (precommit s.height s.round self.old.me (option_map id choice))))) }
-        ensures unsaved { IfOk result (λ u. u ≡ record { sender = self.old.me; entry = Own self.old.state.height self.old.state.round (Precommitting choice) }) }
+        ensures saved { IfOk result (λ u. u ≡ record { sender = self.old.me; entry = Own self.old.state.height self.old.state.round (Precommitting choice) }) }
+        ensures wrote { OnOk result (Wrote J.saves (Some (record { sender = self.old.me; entry = Own self.old.state.height self.old.state.round (Precommitting choice) })) journal.old journal.new) }
+        ensures unwritten { IfErr result (λ e. Unwritten J.saves (Some (record { sender = self.old.me; entry = Own self.old.state.height self.old.state.round (Precommitting choice) })) e journal.old journal.new) }
         ensures err { OnErr result (self.new ≡ self.old) }
     {
         let content = content_of(&choice);
         let vote = self.own_vote(VoteStep::Precommit, content);
-        self.tally.keep(vote)?;
-        match mem::replace(&mut self.stage, Stage::Before) {
-            Stage::Prevote(round) => {
-                let (round, unsaved) = round.precommit(choice);
-                self.stage = Stage::Precommit(round);
-                Ok(unsaved)
-            }
+        self.tally.reserve_vote(&vote)?;
+        let (round, unsaved) = match mem::replace(&mut self.stage, Stage::Before) {
+            Stage::Prevote(round) => round.precommit(choice),
             _ => unreachable!(),
+        };
+        match unsaved.save(journal) {
+            Ok(saved) => {
+                self.tally.keep_reserved_vote(vote);
+                self.stage = Stage::Precommit(round);
+                Ok(saved)
+            }
+            Err((fault, unsaved)) => {
+                self.tally.forget_reserved();
+                self.stage = Stage::Prevote(round.take_back(unsaved));
+                Err(Unfired::NotSaved(fault))
+            }
         }
     }
 }
@@ -117,18 +150,24 @@ impl State {
 
     /// Notes that a kept proposal's value has a quorum of prevotes in this round: it is the valid
     /// value from now on, and in the step of prevotes it is locked and precommitted (lines 37 to 43).
-    pub fn find_value(&mut self, place: usize) -> Result<Option<Unsaved>, AllocError>
+    pub fn find_value<J: Saver>(
+        &mut self,
+        place: usize,
+        journal: &mut J,
+    ) -> Result<Option<Saved>, Unfired>
         requires begun { IsTrue self.old.state.begun }
         requires step { step_eq self.old.state.step at_steps.Propose ≡ false }
         requires place { place < length self.old.state.proposals }
         ensures ok { let s = self.old.state in let v = (proposal_at s place).value in OnOk result (self.new ≡ at self.old (keeping_own (changed s (Lock v)) (released_by self.old.me (cond (step_eq s.step at_steps.Prevote) (Some (Own s.height s.round (Precommitting (Some v)))) None)))) }
-        ensures unsaved { let s = self.old.state in let v = (proposal_at s place).value in IfOk result (λ u. u ≡ pending_of self.old.me (cond (step_eq s.step at_steps.Prevote) (Some (Own s.height s.round (Precommitting (Some v)))) None)) }
+        ensures saved { let s = self.old.state in let v = (proposal_at s place).value in IfOk result (λ u. u ≡ pending_of self.old.me (cond (step_eq s.step at_steps.Prevote) (Some (Own s.height s.round (Precommitting (Some v)))) None)) }
+        ensures wrote { let s = self.old.state in let v = (proposal_at s place).value in OnOk result (Wrote J.saves (pending_of self.old.me (cond (step_eq s.step at_steps.Prevote) (Some (Own s.height s.round (Precommitting (Some v)))) None)) journal.old journal.new) }
+        ensures unwritten { let s = self.old.state in let v = (proposal_at s place).value in IfErr result (λ e. Unwritten J.saves (pending_of self.old.me (cond (step_eq s.step at_steps.Prevote) (Some (Own s.height s.round (Precommitting (Some v)))) None)) e journal.old journal.new) }
         ensures err { OnErr result (self.new ≡ self.old) }
     {
         let round = self.round();
         let found = self.named(place)?;
-        let unsaved = match self.step() {
-            Step::Prevote => Some(self.lock_value(place)?),
+        let saved = match self.step() {
+            Step::Prevote => Some(self.lock_value(place, journal)?),
             Step::Propose | Step::Precommit => None,
         };
         self.valid_value = Some(ValueAt {
@@ -136,7 +175,7 @@ impl State {
             value: found,
         });
         self.value_found = true;
-        Ok(unsaved)
+        Ok(saved)
     }
 
     /// Notes that the timeout of prevotes is scheduled in this round (line 35).
@@ -154,23 +193,25 @@ impl State {
     }
 
     /// Locks a kept proposal's value in this round, and precommits it.
-    fn lock_value(&mut self, place: usize) -> Result<Unsaved, AllocError>
+    fn lock_value<J: Saver>(&mut self, place: usize, journal: &mut J) -> Result<Saved, Unfired>
         requires begun { IsTrue self.old.state.begun }
         requires step { self.old.state.step ≡ at_steps.Prevote }
         requires place { place < length self.old.state.proposals }
         ensures ok { let s = self.old.state in let v = (proposal_at s place).value in OnOk result (self.new ≡ at self.old (keeping (record s { step = at_steps.Precommit; lock = Some (record { round = s.round; value = v }) }) (OfVote (precommit s.height s.round self.old.me (Some (id v)))))) }
-        ensures unsaved { let s = self.old.state in IfOk result (λ u. u ≡ record { sender = self.old.me; entry = Own s.height s.round (Precommitting (Some (proposal_at s place).value)) }) }
+        ensures saved { let s = self.old.state in IfOk result (λ u. u ≡ record { sender = self.old.me; entry = Own s.height s.round (Precommitting (Some (proposal_at s place).value)) }) }
+        ensures wrote { let s = self.old.state in OnOk result (Wrote J.saves (Some (record { sender = self.old.me; entry = Own s.height s.round (Precommitting (Some (proposal_at s place).value)) })) journal.old journal.new) }
+        ensures unwritten { let s = self.old.state in IfErr result (λ e. Unwritten J.saves (Some (record { sender = self.old.me; entry = Own s.height s.round (Precommitting (Some (proposal_at s place).value)) })) e journal.old journal.new) }
         ensures err { OnErr result (self.new ≡ self.old) }
     {
         let round = self.round();
         let locked = self.named(place)?;
         let said = self.named(place)?;
-        let unsaved = self.precommit(Some(said))?;
+        let saved = self.precommit(Some(said), journal)?;
         self.lock = Some(ValueAt {
             round,
             value: locked,
         });
-        Ok(unsaved)
+        Ok(saved)
     }
 
     /// The proposal that begins a round, as it will be let go: none where another validator proposes.
@@ -219,12 +260,19 @@ impl State {
     /// Begins a round, which has to be a later one than the present (lines 11 to 21). Its proposer
     /// proposes the valid value, or the picked one where there is none; any other schedules the timeout
     /// of proposals.
-    pub fn start_round(&mut self, round: u32, picked: Option<Picked>) -> Result<Fired, AllocError>
+    pub fn start_round<J: Saver>(
+        &mut self,
+        round: u32,
+        picked: Option<Picked>,
+        journal: &mut J,
+    ) -> Result<Fired, Unfired>
         requires later { self.old.state.begun ≡ true → self.old.state.round < round }
         requires pick { IsPick picked }
         requires some { proposer self.old.powers self.old.state.height round ≡ self.old.me → self.old.state.valid_value ≡ None → IsSome picked }
         ensures ok { OnOk result (self.new.state ≡ keeping_own (started self.old.state round) (released_by self.old.me (opening self.old round (picked_value picked)))) }
-        ensures unsaved { IfOk result (λ f. f.unsaved ≡ pending_of self.old.me (opening self.old round (picked_value picked))) }
+        ensures saved { IfOk result (λ f. f.saved ≡ pending_of self.old.me (opening self.old round (picked_value picked))) }
+        ensures wrote { OnOk result (Wrote J.saves (pending_of self.old.me (opening self.old round (picked_value picked))) journal.old journal.new) }
+        ensures unwritten { IfErr result (λ e. Unwritten J.saves (pending_of self.old.me (opening self.old round (picked_value picked))) e journal.old journal.new) }
         ensures timeout { IfOk result (λ f. f.timeout ≡ opening_timeout self.old round) }
         ensures agrees { OnOk result ((g : Context) → Agrees g self.old → IsPickTold g picked → Agrees g self.new) }
         ensures err { OnErr result (self.new ≡ self.old) }
@@ -233,7 +281,7 @@ impl State {
             None => {
                 self.begin(round);
                 Ok(Fired {
-                    unsaved: None,
+                    saved: None,
                     timeout: Some(Timeout {
                         kind: Step::Propose,
                         height: self.height,
@@ -244,10 +292,10 @@ impl State {
             Some(proposal) => {
                 let id = self.offered_id(&proposal.value)?;
                 let genuine = picked.is_some_and(|picked| picked.genuine);
-                let unsaved = self.propose(proposal, id, genuine)?;
+                let saved = self.propose(proposal, id, genuine, journal)?;
                 self.begin(round);
                 Ok(Fired {
-                    unsaved: Some(unsaved),
+                    saved: Some(saved),
                     timeout: None,
                 })
             }
@@ -267,20 +315,53 @@ impl State {
         }
     }
 
-    /// Keeps the own proposal of a round, before the round begins.
+    /// Saves and keeps the own proposal of a round, before the round begins.
     #[tactic(auto, unfolding(protocol::specs::Values::id))]
-    fn propose(&mut self, proposal: Proposal, id: Id, genuine: bool) -> Result<Unsaved, AllocError>
+    fn propose<J: Saver>(
+        &mut self,
+        proposal: Proposal,
+        id: Id,
+        genuine: bool,
+        journal: &mut J,
+    ) -> Result<Saved, Unfired>
         requires fits { IsValue proposal.value }
         requires id { id ≡ name_of proposal.value }
         ensures ok { OnOk result (self.new ≡ with_proposal self.old proposal genuine) }
-        ensures unsaved { IfOk result (λ u. u ≡ record { sender = proposal.sender; entry = Own proposal.height proposal.round (Proposing proposal.valid_round proposal.value) }) }
+        ensures saved { IfOk result (λ u. u ≡ record { sender = proposal.sender; entry = Own proposal.height proposal.round (Proposing proposal.valid_round proposal.value) }) }
+        ensures wrote { OnOk result (Wrote J.saves (Some (record { sender = proposal.sender; entry = Own proposal.height proposal.round (Proposing proposal.valid_round proposal.value) })) journal.old journal.new) }
+        ensures unwritten { IfErr result (λ e. Unwritten J.saves (Some (record { sender = proposal.sender; entry = Own proposal.height proposal.round (Proposing proposal.valid_round proposal.value) })) e journal.old journal.new) }
         ensures err { OnErr result (self.new ≡ self.old) }
     {
-        let said = Named::new(proposal.value.copy(self.alloc)?, id);
         let (sender, height) = (proposal.sender, proposal.height);
         let (round, valid_round) = (proposal.round, proposal.valid_round);
-        self.keep_proposal(proposal, id, genuine)?;
-        Ok(Unsaved::proposal(sender, height, round, valid_round, said))
+        let value = proposal.value.copy(self.alloc)?;
+        let said = proposal.copy(self.alloc)?;
+        let found = self.found(proposal, id, genuine);
+        make_room_for(
+            self.alloc,
+            &mut self.kept,
+            &mut self.places,
+            &mut self.tally,
+            round,
+        )?;
+        let unsaved = Unsaved::proposal(sender, height, round, valid_round, value);
+        match unsaved.save(journal) {
+            Ok(saved) => {
+                keep_in_room(
+                    &mut self.kept,
+                    &mut self.places,
+                    &mut self.tally,
+                    said,
+                    found,
+                );
+                Ok(saved)
+            }
+            Err((fault, unsaved)) => {
+                unsaved.unsay();
+                self.tally.forget_reserved();
+                Err(Unfired::NotSaved(fault))
+            }
+        }
     }
 
     /// The round is the present one, in its first step.
@@ -303,12 +384,19 @@ impl State {
     /// Decides the height by a kept proposal that a quorum precommitted in its round, and goes on to
     /// the next height, of which no round has begun (lines 51 to 53). The own precommit of the
     /// certificate gets these tags, one for each validator.
-    pub fn decide(&mut self, place: usize, own_tags: &[[u8; 32]]) -> Result<Unsaved, AllocError>
+    pub fn decide<J: Saver>(
+        &mut self,
+        place: usize,
+        own_tags: &[[u8; 32]],
+        journal: &mut J,
+    ) -> Result<Saved, Unfired>
         requires place { place < length self.old.state.proposals }
         requires room { self.old.state.height < 2 ^ 48 }
         requires valid { valid self.old.state.delivered (proposal_at self.old.state place).value ≡ true }
         ensures ok { OnOk result (self.new ≡ record self.old { state = decided self.old.state (proposal_at self.old.state place).value; genuine = [] }) }
-        ensures unsaved { let s = self.old.state in let q = proposal_at s place in IfOk result (λ u. u ≡ record { sender = self.old.me; entry = Decided (record { height = s.height; sender = self.old.me; round = q.round; id = id q.value; value = q.value; precommits = certificate_with self.old own_tags.now q.round (id q.value) }) }) }
+        ensures saved { let s = self.old.state in let q = proposal_at s place in IfOk result (λ u. u ≡ record { sender = self.old.me; entry = Decided (record { height = s.height; sender = self.old.me; round = q.round; id = id q.value; value = q.value; precommits = certificate_with self.old own_tags.now q.round (id q.value) }) }) }
+        ensures wrote { let s = self.old.state in let q = proposal_at s place in OnOk result (Wrote J.saves (Some (record { sender = self.old.me; entry = Decided (record { height = s.height; sender = self.old.me; round = q.round; id = id q.value; value = q.value; precommits = certificate_with self.old own_tags.now q.round (id q.value) }) })) journal.old journal.new) }
+        ensures unwritten { let s = self.old.state in let q = proposal_at s place in IfErr result (λ e. Unwritten J.saves (Some (record { sender = self.old.me; entry = Decided (record { height = s.height; sender = self.old.me; round = q.round; id = id q.value; value = q.value; precommits = certificate_with self.old own_tags.now q.round (id q.value) }) })) e journal.old journal.new) }
         ensures err { OnErr result (self.new ≡ self.old) }
     {
         let kept = &self.kept[place];
@@ -323,51 +411,73 @@ impl State {
             value: value.copy(self.alloc)?,
             precommits,
         };
-        self.deliver(value)?;
-        let unsaved = Unsaved::decision(self.tally.me(), bundle);
-        Ok(unsaved)
+        self.deliver(value, bundle, journal)
     }
 
     /// Decides the height by a bundle that another validator collected, and goes on to the next one (lines
     /// 51 to 53). The bundle is kept as the own number's.
-    pub fn decide_by_bundle(&mut self, mut bundle: Bundle) -> Result<Unsaved, AllocError>
+    pub fn decide_by_bundle<J: Saver>(
+        &mut self,
+        mut bundle: Bundle,
+        journal: &mut J,
+    ) -> Result<Saved, Unfired>
         requires height { bundle.height ≡ self.old.state.height }
         requires id { bundle.id ≡ id bundle.value }
         requires room { self.old.state.height < 2 ^ 48 }
         requires fits { IsValue bundle.value }
         requires valid { valid self.old.state.delivered bundle.value ≡ true }
         ensures ok { OnOk result (self.new ≡ record self.old { state = decided self.old.state bundle.value; genuine = [] }) }
-        ensures unsaved { IfOk result (λ u. u ≡ record { sender = self.old.me; entry = Decided (record bundle { sender = self.old.me }) }) }
+        ensures saved { IfOk result (λ u. u ≡ record { sender = self.old.me; entry = Decided (record bundle { sender = self.old.me }) }) }
+        ensures wrote { OnOk result (Wrote J.saves (Some (record { sender = self.old.me; entry = Decided (record bundle { sender = self.old.me }) })) journal.old journal.new) }
+        ensures unwritten { IfErr result (λ e. Unwritten J.saves (Some (record { sender = self.old.me; entry = Decided (record bundle { sender = self.old.me }) })) e journal.old journal.new) }
         ensures err { OnErr result (self.new ≡ self.old) }
     {
-        self.deliver(bundle.value.copy(self.alloc)?)?;
+        let value = bundle.value.copy(self.alloc)?;
         bundle.sender = self.me();
-        Ok(Unsaved::decision(bundle.sender, bundle))
+        self.deliver(value, bundle, journal)
     }
 
-    /// Delivers a value that may be delivered next, and goes on to the next height, of which no round
+    /// Saves a decision, delivers its value, which may be delivered next, and goes on to the next height, of which no round
     /// has begun.
-    fn deliver(&mut self, value: Value) -> Result<(), AllocError>
+    fn deliver<J: Saver>(
+        &mut self,
+        value: Value,
+        bundle: Bundle,
+        journal: &mut J,
+    ) -> Result<Saved, Unfired>
         requires room { self.old.state.height < 2 ^ 48 }
         requires fits { IsValue value }
         requires valid { valid self.old.state.delivered value ≡ true }
         ensures ok { OnOk result (self.new ≡ record self.old { state = decided self.old.state value; genuine = [] }) }
+        ensures saved { IfOk result (λ u. u ≡ record { sender = self.old.me; entry = Decided bundle }) }
+        ensures wrote { OnOk result (Wrote J.saves (Some (record { sender = self.old.me; entry = Decided bundle })) journal.old journal.new) }
+        ensures unwritten { IfErr result (λ e. Unwritten J.saves (Some (record { sender = self.old.me; entry = Decided bundle })) e journal.old journal.new) }
         ensures err { OnErr result (self.new ≡ self.old) }
     {
         self.decided.reserve(1)?;
-        self.frontier.extend(&value)?;
-        self.decided.push_reserved(value);
-        self.tally.clear();
-        self.kept.clear();
-        self.places.clear();
-        self.stamps.clear();
-        self.height += 1;
-        self.stage = Stage::Before;
-        self.lock = None;
-        self.valid_value = None;
-        self.prevotes_awaited = false;
-        self.value_found = false;
-        self.precommits_awaited = false;
-        Ok(())
+        let mut frontier = self.frontier.copy(self.alloc)?;
+        frontier.extend(&value)?;
+        match Unsaved::decision(self.tally.me(), bundle).save(journal) {
+            Ok(saved) => {
+                self.decided.push_reserved(value);
+                self.frontier = frontier;
+                self.tally.clear();
+                self.kept.clear();
+                self.places.clear();
+                self.stamps.clear();
+                self.height += 1;
+                self.stage = Stage::Before;
+                self.lock = None;
+                self.valid_value = None;
+                self.prevotes_awaited = false;
+                self.value_found = false;
+                self.precommits_awaited = false;
+                Ok(saved)
+            }
+            Err((fault, unsaved)) => {
+                unsaved.unsay();
+                Err(Unfired::NotSaved(fault))
+            }
+        }
     }
 }

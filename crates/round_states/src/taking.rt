@@ -1,23 +1,27 @@
 //! Taking messages in.
 
-ghost use Rattle.std.specs.Prelude.{◌≡◌, ◌≢◌, ◌≤◌, OnOk, OnErr, Some, None, Err, Option, option_to_list, length};
+ghost use Rattle.std.specs.Prelude.{◌≡◌, ◌≢◌, ◌<◌, ◌≤◌, ◌==◌, ◌||◌, ◌++◌, ◌∷◌, [], ℕ, OnOk, OnErr, Some, None, Err, Option, cond, is_some, option_to_list, length, vec_len, vec_capacity};
 ghost use Rattle.transactions.specs.Grammar.{IsValue};
 ghost use Rattle.protocol.specs.Values.{id as name_of};
 ghost use Rattle.protocol.specs.Messages.{OfVote, step_of_vote};
 ghost use Rattle.protocol.specs.State.{Context};
 ghost use Rattle.protocol.specs.Arrivals.{kept_message, stamp_of};
 ghost use Rattle.protocol.specs.Refusals.{first_cause, proposal_causes, vote_causes};
+ghost use Rattle.vote_tally.specs.Kept.{with_proposal as with_kept};
+ghost use Rattle.vote_tally.specs.declared.room.Ready.TheVariants as ready;
 ghost use Rattle.round_states.specs.Machine.{Agrees};
+ghost use Rattle.round_states.specs.Found.{IsFound};
+ghost use Rattle.round_states.specs.Places.{places_at, HasRoom};
 ghost use Rattle.round_states.specs.Taking.{IsTold, IsAnswer, with_proposal, place_answer, number_of};
 ghost use Rattle.round_states.specs.Steps.{at};
 
-use crate::places::{add_place, make_room};
+use crate::places::{Places, add_place, make_room};
 use crate::state::{KeptProposal, State};
 use messages::{Precommit, Proposal, Step, Vote};
 use protocol::Stamp;
-use std::alloc::{AllocError, AllocFailed};
-use transactions::{Id, Seq, value_id};
-use vote_tally::TallyFault;
+use std::alloc::{AllocError, AllocFailed, Global};
+use transactions::{Duplicate, Id, Seq, value_id};
+use vote_tally::{Tally, TallyFault};
 
 /// The last round of a height, of which rounds are numbered from 0.
 pub const MOST_ROUNDS: u32 = 1_000_000;
@@ -179,33 +183,90 @@ impl State {
         Ok(())
     }
 
-    /// Keeps a proposal, with its id and what is found of it.
-    pub(crate) fn keep_proposal(
-        &mut self,
-        proposal: Proposal,
-        id: Id,
-        genuine: bool,
-    ) -> Result<(), AllocError>
+    /// Keeps a proposal that arrived, with its id and what is found of it.
+    fn keep_proposal(&mut self, proposal: Proposal, id: Id, genuine: bool) -> Result<(), AllocError>
         requires fits { IsValue proposal.value }
         requires id { id ≡ name_of proposal.value }
         ensures ok { OnOk result (self.new ≡ with_proposal self.old proposal genuine) }
         ensures err { OnErr result (self.new ≡ self.old) }
     {
-        let (round, place) = (proposal.round, self.kept.len());
-        self.kept.reserve(1)?;
-        make_room(self.alloc, &mut self.places, round)?;
-        self.tally.keep_proposal(&proposal)?;
-        add_place(&mut self.places, round, place);
+        let round = proposal.round;
+        let copy = proposal.copy(self.alloc)?;
+        let found = self.found(proposal, id, genuine);
+        make_room_for(
+            self.alloc,
+            &mut self.kept,
+            &mut self.places,
+            &mut self.tally,
+            round,
+        )?;
+        keep_in_room(
+            &mut self.kept,
+            &mut self.places,
+            &mut self.tally,
+            copy,
+            found,
+        );
+        Ok(())
+    }
+
+    /// A proposal with its id, and what is found of it as it is kept.
+    pub(crate) fn found(&self, proposal: Proposal, id: Id, genuine: bool) -> KeptProposal
+        requires fits { IsValue proposal.value }
+        requires id { id ≡ name_of proposal.value }
+        ensures proposal { result.proposal ≡ proposal }
+        ensures genuine { result.is_genuine ≡ (genuine || is_some proposal.valid_round) }
+        ensures found { IsFound self.now.state.delivered result }
+    {
         let is_valid = self.frontier.valid(&proposal.value);
         let is_genuine = genuine || proposal.valid_round.is_some();
-        self.kept.push_reserved(KeptProposal {
+        KeptProposal {
             proposal,
             id,
             is_valid,
             is_genuine,
-        });
-        Ok(())
+        }
     }
+}
+
+/// Makes room for one more proposal of a round, which keeps nothing yet.
+pub(crate) fn make_room_for(
+    alloc: Global,
+    kept: &mut Vec<KeptProposal>,
+    places: &mut Places,
+    tally: &mut Tally,
+    round: u32,
+) -> Result<(), AllocError>
+    ensures kept { kept.new.items ≡ kept.old.items }
+    ensures places { (r : ℕ) → places_at places.new r ≡ places_at places.old r }
+    ensures ok { OnOk result (tally.new ≡ record tally.old { ready = Some (ready.Proposal round) }) }
+    ensures room { OnOk result (HasRoom places.new round × (vec_len kept.new < vec_capacity kept.new)) }
+    ensures err { OnErr result (tally.new ≡ tally.old) }
+{
+    kept.reserve(1)?;
+    make_room(alloc, places, round)?;
+    tally.reserve_proposal(round)
+}
+
+/// Keeps a proposal in room that was made before. It takes no memory.
+pub(crate) fn keep_in_room(
+    kept: &mut Vec<KeptProposal>,
+    places: &mut Places,
+    tally: &mut Tally,
+    proposal: Proposal,
+    found: KeptProposal,
+)
+    requires same { proposal ≡ found.proposal }
+    requires ready { tally.old.ready ≡ Some (ready.Proposal proposal.round) }
+    requires place { HasRoom places.old proposal.round }
+    requires room { vec_len kept.old < vec_capacity kept.old }
+    ensures kept { kept.new.items ≡ kept.old.items ++ found ∷ [] }
+    ensures places { (r : ℕ) → places_at places.new r ≡ cond (proposal.round == r) (places_at places.old r ++ length kept.old.items ∷ []) (places_at places.old r) }
+    ensures tally { tally.new ≡ with_kept tally.old proposal }
+{
+    add_place(places, proposal.round, kept.len());
+    tally.keep_reserved_proposal(proposal);
+    kept.push_reserved(found);
 }
 
 /// What is kept of a precommit for a value beside its vote.

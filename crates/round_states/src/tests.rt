@@ -4,7 +4,7 @@ ghost use Rattle.transactions.specs.Grammar.{IsValue};
 use super::*;
 use messages::{Body, Proposal, Step as VoteStep, Vote};
 use powers::Powers;
-use protocol::Step;
+use protocol::{Record, Step};
 use std::alloc::Global;
 use std::process::Abort;
 use std::test::Fail;
@@ -12,6 +12,44 @@ use transactions::{Id, Seq, Value, read_value};
 
 /// The id of some value.
 const A: Id = [0xaa; 32];
+
+/// A journal that counts its saves and the decisions among them, and refuses the save of this number, counted from 1:
+/// none for 0.
+#[derive(Drop)]
+struct FakeJournal {
+    saves: u32,
+    decisions: u32,
+    sender: u16,
+    failing: u32,
+}
+
+impl FakeJournal {
+    fn new(failing: u32) -> FakeJournal {
+        FakeJournal {
+            saves: 0,
+            decisions: 0,
+            sender: 0,
+            failing,
+        }
+    }
+}
+
+impl Saver for FakeJournal {
+    ghost saves = { λ old pending answer new. Unit {0} };
+
+    fn save(&mut self, unsaved: &Unsaved) -> Result<(), SaveFault> {
+        self.saves = self.saves.saturating_add(1);
+        self.sender = unsaved.sender();
+        if let Record::Decided(_) = unsaved.record() {
+            self.decisions = self.decisions.saturating_add(1);
+        }
+        if self.saves == self.failing {
+            Err(SaveFault::Failed)
+        } else {
+            Ok(())
+        }
+    }
+}
 
 /// A validator's state among four of power 1.
 fn state_of(alloc: Global, me: u16) -> Result<State, Fail> {
@@ -69,14 +107,11 @@ fn vote_in(body: Body) -> Option<Vote> {
 }
 
 /// Lets go what a firing leaves.
-fn spend(fired: Fired) -> Option<Body> {
-    let Fired {
-        unsaved,
-        timeout: _,
-    } = fired;
-    match unsaved {
+fn let_go(fired: Fired) -> Option<Body> {
+    let Fired { saved, timeout: _ } = fired;
+    match saved {
         None => None,
-        Some(unsaved) => Some(release(unsaved)),
+        Some(saved) => Some(release(saved)),
     }
 }
 
@@ -105,7 +140,8 @@ fn begin(state: &mut State, round: u32) -> Result<Option<Body>, Fail> {
         return Err(Fail::new("the round is no later one"));
     }
     let handed = picked(state.alloc, 1)?;
-    Ok(spend(state.start_round(round, Some(handed))?))
+    let fired = state.start_round(round, Some(handed), &mut FakeJournal::new(0))?;
+    Ok(let_go(fired))
 }
 
 /// The own prevote.
@@ -113,7 +149,8 @@ fn prevote(state: &mut State, content: Option<Id>) -> Result<Option<Vote>, Fail>
     if !state.has_begun() || state.step() != Step::Propose {
         return Ok(None);
     }
-    Ok(vote_in(release(state.prevote(content)?)))
+    let saved = state.prevote(content, &mut FakeJournal::new(0))?;
+    Ok(vote_in(release(saved)))
 }
 
 /// The own precommit for nil.
@@ -121,7 +158,8 @@ fn precommit_nil(state: &mut State) -> Result<Option<Vote>, Fail> {
     if !state.has_begun() || state.step() != Step::Prevote {
         return Ok(None);
     }
-    Ok(vote_in(release(state.precommit(None)?)))
+    let saved = state.precommit(None, &mut FakeJournal::new(0))?;
+    Ok(vote_in(release(saved)))
 }
 
 /// Why each of these fresh proposals is refused, if it is: after its height, its round, its sender
@@ -263,23 +301,42 @@ fn lock(state: &mut State) -> Result<Option<Vote>, Fail> {
     if !state.has_begun() || state.step() == Step::Propose || state.kept().is_empty() {
         return Err(Fail::new("nothing to lock"));
     }
-    match state.find_value(0)? {
-        Some(unsaved) => Ok(vote_in(release(unsaved))),
+    match state.find_value(0, &mut FakeJournal::new(0))? {
+        Some(saved) => Ok(vote_in(release(saved))),
         None => Ok(None),
     }
 }
 
-/// Decides the first kept value, and gives how many precommits decided it.
-fn decide(state: &mut State) -> Result<usize, Fail> {
+/// Decides the first kept value, and gives how many precommits decided it, or why it was not saved.
+fn decide(state: &mut State, journal: &mut FakeJournal) -> Result<Result<usize, Unfired>, Fail> {
     let may_decide = state.kept().first().is_some_and(|kept| kept.is_valid);
     if !may_decide || state.height() >= 1 << 48 {
         return Err(Fail::new("nothing to decide"));
     }
     let tags = vec![in state.alloc; [7u8; 32]; 4]?;
-    match release(state.decide(0, &tags)?) {
-        Body::Bundle(bundle) => Ok(bundle.precommits.len()),
+    let saved = match state.decide(0, &tags, journal) {
+        Ok(saved) => saved,
+        Err(unfired) => return Ok(Err(unfired)),
+    };
+    match release(saved) {
+        Body::Bundle(bundle) => Ok(Ok(bundle.precommits.len())),
         _ => Err(Fail::new("no decision")),
     }
+}
+
+/// A decision whose first save fails: the height goes on with the second one.
+fn decide_again(rt: &impl Abort, state: &mut State, journal: &mut FakeJournal) -> Result<(), Fail> {
+    let refused = Err(Unfired::NotSaved(SaveFault::Failed));
+    assert_eq!(rt; decide(state, journal)?, refused);
+    assert_eq!(rt; seen_in_copy(state)?, (0, 1, true));
+    assert_eq!(rt; state.decided().len(), 0);
+    assert_eq!(rt; decide(state, journal)?, Ok(1));
+    assert_eq!(rt; seen_in_copy(state)?, (1, 0, false));
+    assert_eq!(rt;
+        (state.decided().len(), journal.decisions, journal.sender),
+        (1, 2, 3)
+    );
+    Ok(())
 }
 
 /// The height of a copy, and how much it keeps and locks.
@@ -297,12 +354,7 @@ fn pass(rt: &impl Abort, state: &mut State) -> Result<(), Fail> {
     let precommitted = vote(VoteStep::Precommit, 0, 0, 3, id);
     assert_eq!(rt; lock(state)?, Some(precommitted));
     assert_eq!(rt; seen_in_copy(state)?, (0, 1, true));
-    assert_eq!(rt; decide(state)?, 1);
-    assert_eq!(rt;
-        (state.height(), state.kept().len(), state.lock().is_some()),
-        (1, 0, false)
-    );
-    Ok(())
+    decide_again(rt, state, &mut FakeJournal::new(1))
 }
 
 #[test]
@@ -376,4 +428,90 @@ fn open_round(rt: &impl Abort, state: &mut State) -> Result<(), Fail> {
 fn the_proposer_proposes(rt: HostRuntime) -> Result<(), Fail> {
     let mut state = state_of(rt.alloc(), 0)?;
     open_round(&rt, &mut state)
+}
+
+/// Why the own prevote for nil was not said, if it was not.
+fn refused_prevote(state: &mut State, journal: &mut FakeJournal) -> Result<Option<Unfired>, Fail> {
+    if !state.has_begun() || state.step() != Step::Propose {
+        return Err(Fail::new("no prevote"));
+    }
+    Ok(state.prevote(None, journal).err())
+}
+
+/// Why the own precommit for nil was not said, if it was not.
+fn refused_precommit(
+    state: &mut State,
+    journal: &mut FakeJournal,
+) -> Result<Option<Unfired>, Fail> {
+    if !state.has_begun() || state.step() != Step::Prevote {
+        return Err(Fail::new("no precommit"));
+    }
+    Ok(state.precommit(None, journal).err())
+}
+
+/// The step, and the power of the own votes in round 0.
+fn stands(state: &State) -> (Step, u64, u64) {
+    let tally = state.tally();
+    (
+        state.step(),
+        tally.power_any(0, VoteStep::Prevote),
+        tally.power_any(0, VoteStep::Precommit),
+    )
+}
+
+/// Each vote is saved at the second try, and kept from then on alone.
+fn vote_again(rt: &impl Abort, state: &mut State) -> Result<(), Fail> {
+    begin(state, 0)?;
+    let failed = Some(Unfired::NotSaved(SaveFault::Failed));
+    let mut journal = FakeJournal::new(1);
+    assert_eq!(rt; refused_prevote(state, &mut journal)?, failed);
+    assert_eq!(rt; stands(state), (Step::Propose, 0, 0));
+    assert_eq!(rt; refused_prevote(state, &mut journal)?, None);
+    assert_eq!(rt; stands(state), (Step::Prevote, 1, 0));
+    let mut journal = FakeJournal::new(1);
+    assert_eq!(rt; refused_precommit(state, &mut journal)?, failed);
+    assert_eq!(rt; stands(state), (Step::Prevote, 1, 0));
+    assert_eq!(rt; refused_precommit(state, &mut journal)?, None);
+    assert_eq!(rt; stands(state), (Step::Precommit, 1, 1));
+    Ok(())
+}
+
+#[test]
+fn a_vote_that_was_not_saved(rt: HostRuntime) -> Result<(), Fail> {
+    let mut state = state_of(rt.alloc(), 3)?;
+    vote_again(&rt, &mut state)
+}
+
+/// Why a round did not begin, if it did not.
+fn refused_round(
+    state: &mut State,
+    round: u32,
+    journal: &mut FakeJournal,
+) -> Result<Option<Unfired>, Fail> {
+    if state.has_begun() {
+        return Err(Fail::new("a round has begun"));
+    }
+    let handed = picked(state.alloc, 1)?;
+    Ok(state.start_round(round, Some(handed), journal).err())
+}
+
+/// A proposal is saved at the second try: only then its round begins.
+fn propose_again(
+    rt: &impl Abort,
+    state: &mut State,
+    journal: &mut FakeJournal,
+) -> Result<(), Fail> {
+    let failed = Some(Unfired::NotSaved(SaveFault::Failed));
+    assert_eq!(rt; refused_round(state, 0, journal)?, failed);
+    assert_eq!(rt; (state.has_begun(), state.kept().len()), (false, 0));
+    assert_eq!(rt; refused_round(state, 0, journal)?, None);
+    assert_eq!(rt; (state.has_begun(), state.kept().len()), (true, 1));
+    assert_eq!(rt; journal.saves, 2);
+    Ok(())
+}
+
+#[test]
+fn a_proposal_that_was_not_saved(rt: HostRuntime) -> Result<(), Fail> {
+    let mut state = state_of(rt.alloc(), 0)?;
+    propose_again(&rt, &mut state, &mut FakeJournal::new(1))
 }

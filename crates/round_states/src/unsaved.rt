@@ -1,30 +1,22 @@
-//! What waits for its save.
+//! What waits for its save, and what is saved.
 
-ghost use Rattle.std.specs.Prelude.{◌≡◌, option_map};
+ghost use Rattle.std.specs.Prelude.{◌≡◌, Ok, Err, IfOk, IfErr, option_map};
 ghost use Rattle.protocol.specs.Values.{id};
 ghost use Rattle.protocol.specs.Messages.{Own, Proposing, Prevoting, Precommitting, Decided};
+ghost use Rattle.protocol.specs.Records.{record_of, act_of};
 ghost use Rattle.round_states.specs.Pending.{body_in};
 
+use crate::saving::{SaveFault, Saver};
 use messages::{Body, Bundle, Proposal, Step, Vote};
+use protocol::{Act, OwnMessage, Record};
 use std::marker::Model;
-use transactions::{Id, Named};
+use transactions::{Id, Named, Value};
 
-/// What one save adds to the journal, without its height and round.
-#[derive(Drop)]
-pub(crate) enum Entry {
-    Proposal(Option<u32>, Named),
-    Prevote(Option<Id>),
-    Precommit(Option<Named>),
-    Decision(Bundle),
-}
-
-/// An own message or a decision that is not saved yet. It has to be spent: let go once its save is
-/// done. No one but a typed round and the steps of a [`State`](crate::State) makes one.
+/// An own message or a decision that is not saved yet. It has to be spent: by its save, or as what was not said. No one
+/// but a typed round and the steps of a [`State`](crate::State) makes one, and its message can't be had of it.
 pub struct Unsaved {
     sender: u16,
-    height: u64,
-    round: u32,
-    entry: Entry,
+    entry: Record,
 }
 
 impl Model for Unsaved {
@@ -37,6 +29,23 @@ impl Model for Unsaved {
     ghost view = { pending };
 }
 
+/// An own message or a decision that is saved. Only a save that answered `Ok` makes one, and only it gives its message.
+#[derive(Drop)]
+pub struct Saved {
+    sender: u16,
+    entry: Record,
+}
+
+impl Model for Saved {
+    ghost use Rattle.round_states.specs.Pending.{Pending};
+
+    ghost Value = { Pending };
+
+    ghost use Rattle.round_states.specs.Seen.{pending_saved};
+
+    ghost view = { pending_saved };
+}
+
 impl Unsaved {
     /// The own proposal of a round.
     pub(crate) fn proposal(
@@ -44,40 +53,25 @@ impl Unsaved {
         height: u64,
         round: u32,
         valid_round: Option<u32>,
-        value: Named,
+        value: Value,
     ) -> Unsaved
         ensures { result ≡ record { sender = sender; entry = Own height round (Proposing valid_round value) } }
     {
-        Unsaved {
-            sender,
-            height,
-            round,
-            entry: Entry::Proposal(valid_round, value),
-        }
+        Unsaved::own(sender, height, round, Act::Proposing(valid_round, value))
     }
 
     /// The own prevote of a round.
     pub(crate) fn prevote(sender: u16, height: u64, round: u32, content: Option<Id>) -> Unsaved
         ensures { result ≡ record { sender = sender; entry = Own height round (Prevoting content) } }
     {
-        Unsaved {
-            sender,
-            height,
-            round,
-            entry: Entry::Prevote(content),
-        }
+        Unsaved::own(sender, height, round, Act::Prevoting(content))
     }
 
     /// The own precommit of a round.
     pub(crate) fn precommit(sender: u16, height: u64, round: u32, choice: Option<Named>) -> Unsaved
         ensures { result ≡ record { sender = sender; entry = Own height round (Precommitting choice) } }
     {
-        Unsaved {
-            sender,
-            height,
-            round,
-            entry: Entry::Precommit(choice),
-        }
+        Unsaved::own(sender, height, round, Act::Precommitting(choice))
     }
 
     /// The decision of a height, with the precommits that decided.
@@ -86,38 +80,81 @@ impl Unsaved {
     {
         Unsaved {
             sender,
-            height: bundle.height,
-            round: bundle.round,
-            entry: Entry::Decision(bundle),
+            entry: Record::Decided(bundle),
         }
+    }
+
+    fn own(sender: u16, height: u64, round: u32, act: Act) -> Unsaved
+        ensures { result ≡ record { sender = sender; entry = Own height round (act_of act) } }
+    {
+        Unsaved {
+            sender,
+            entry: Record::Own(OwnMessage { height, round, act }),
+        }
+    }
+
+    /// The own number.
+    pub fn sender(&self) -> u16
+        ensures { result ≡ self.now.sender }
+    {
+        self.sender
+    }
+
+    /// What is to be saved.
+    pub fn record(&self) -> &Record
+        ensures { record_of result.now ≡ self.now.entry }
+    {
+        &self.entry
+    }
+
+    /// Saves it, or hands it back with the cause.
+    pub fn save<J: Saver>(self, journal: &mut J) -> Result<Saved, (SaveFault, Unsaved)>
+        ensures saved { IfOk result (λ saved. saved ≡ self) }
+        ensures back { IfErr result (λ e. e.1 ≡ self) }
+        ensures wrote { IfOk result (λ _. J.saves journal.old self (Ok tt) journal.new) }
+        ensures unwritten { IfErr result (λ e. J.saves journal.old self (Err e.0) journal.new) }
+    {
+        match journal.save(&self) {
+            Ok(()) => {
+                let Unsaved { sender, entry } = self;
+                Ok(Saved { sender, entry })
+            }
+            Err(fault) => Err((fault, self)),
+        }
+    }
+
+    /// Spends what was not saved: it was never said.
+    pub(crate) fn unsay(self) {
+        let Unsaved {
+            sender: _,
+            entry: _,
+        } = self;
     }
 }
 
 /// Lets an own message go, or a decision as a bundle of the precommits that decided.
 #[tactic(auto, unfolding(protocol::specs::Values::id))]
-pub fn release(unsaved: Unsaved) -> Body
-    ensures { result ≡ body_in unsaved.sender unsaved.entry }
+pub fn release(saved: Saved) -> Body
+    ensures { result ≡ body_in saved.sender saved.entry }
 {
-    let Unsaved {
-        sender,
-        height,
-        round,
-        entry,
-    } = unsaved;
-    match entry {
-        Entry::Proposal(valid_round, named) => Body::Proposal(Proposal {
+    let Saved { sender, entry } = saved;
+    let OwnMessage { height, round, act } = match entry {
+        Record::Own(message) => message,
+        Record::Decided(bundle) => return Body::Bundle(bundle),
+    };
+    match act {
+        Act::Proposing(valid_round, value) => Body::Proposal(Proposal {
             height,
             round,
             sender,
             valid_round,
-            value: named.into_value(),
+            value,
         }),
-        Entry::Prevote(content) => vote_body(Step::Prevote, height, round, sender, content),
-        Entry::Precommit(choice) => {
+        Act::Prevoting(content) => vote_body(Step::Prevote, height, round, sender, content),
+        Act::Precommitting(choice) => {
             let content = content_of(&choice);
             vote_body(Step::Precommit, height, round, sender, content)
         }
-        Entry::Decision(bundle) => Body::Bundle(bundle),
     }
 }
 

@@ -132,16 +132,13 @@ fn decide_by(state: &mut State, alloc: Global, value: Value) -> Result<Option<Fi
         value,
         precommits: Seq::new(alloc),
     };
-    Ok(Some(decide_by_bundle(state, bundle)?))
+    Ok(Some(decide_by_bundle(state, bundle, &mut Unkept)?))
 }
 
 /// The sender and the round of the bundle that a firing lets go.
 fn bundle_in(fired: Fired) -> Option<(u16, u32)> {
-    let Fired {
-        unsaved,
-        timeout: _,
-    } = fired;
-    match release(unsaved?) {
+    let Fired { saved, timeout: _ } = fired;
+    match release(saved?) {
         Body::Bundle(bundle) => Some((bundle.sender, bundle.round)),
         _ => None,
     }

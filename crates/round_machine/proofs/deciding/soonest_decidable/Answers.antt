@@ -21,7 +21,7 @@ returns-in-None-clause-soonest c =
     let rounds = c.decisive-round-items.result.now in
     let all : take c.loop-round.round-index rounds ≡ rounds = take_all c.loop-round.round-index rounds c.loop-round-test.false in
     let best = subst (λ (rs : List ℕ). IsBest (is_decidable powers s) s.proposals rs c.loop-round.best) all c.loop-round.invariant in
-    let told = rw c.tally.ensures at c.decisive-round-items.ensures in
+    let told = rw c.tally.ensures at c.decisive-round-items.ensures.each in
     rw c.in-None.is at (soonest_of (is_decidable powers s) s.proposals rounds c.loop-round.best best (λ j lt t. decidable_in powers c.args.state.now.me s rounds told (get_or s.proposals j nowhere) t))
 
 pub returns-in-Some-clause-soonest : goal.returns-in-Some-clause-soonest
@@ -31,7 +31,7 @@ returns-in-Some-clause-soonest c =
     let rounds = c.decisive-round-items.result.now in
     let all : take c.loop-round.round-index rounds ≡ rounds = take_all c.loop-round.round-index rounds c.loop-round-test.false in
     let best = subst (λ (rs : List ℕ). IsBest (is_decidable powers s) s.proposals rs c.loop-round.best) all c.loop-round.invariant in
-    let told = rw c.tally.ensures at c.decisive-round-items.ensures in
+    let told = rw c.tally.ensures at c.decisive-round-items.ensures.each in
     rw c.in-Some.is at (soonest_of (is_decidable powers s) s.proposals rounds c.loop-round.best best (λ j lt t. decidable_in powers c.args.state.now.me s rounds told (get_or s.proposals j nowhere) t))
 
 pub returns-in-Some-clause-placed : goal.returns-in-Some-clause-placed

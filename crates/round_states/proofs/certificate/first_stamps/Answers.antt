@@ -1,5 +1,4 @@
-use Rattle.std.proofs.Common.{◌∙◌, sym, ap, None, Option, ℕ, List}
-use Rattle.std.specs.Prelude.{slice_index_or}
+use Rattle.std.proofs.Common.{◌∙◌, sym, None}
 use Rattle.std.proofs.lemmas.List.{get_or-replicate}
 use Rattle.round_states.proofs.Certificates.{first_noted, first_same}
 use Rattle.round_states.proofs.certificate.first_stamps.Goals as goal

@@ -1,4 +1,4 @@
-use Rattle.std.proofs.Common.{◌≡◌, ◌∙◌, ◌+◌, ◌++◌, ◌∷◌, [], ℕ, sym, ap, map, take, get_or, length, List, arith}
+use Rattle.std.proofs.Common.{◌≡◌, ◌∙◌, ◌+◌, ◌++◌, ◌∷◌, [], sym, ap, map, take, get_or, length, List, arith}
 use Rattle.std.proofs.lemmas.List.{take_more, length-take-le}
 use Rattle.round_states.specs.Found.{proposal_in}
 use Rattle.round_states.specs.Places.{places_of}

@@ -17,8 +17,8 @@ use Rattle.node_core.proofs.Spelled.{bundle_decided}
 use Rattle.node_core.proofs.node.NodeCore.decide.Given as given
 use Rattle.node_core.proofs.node.NodeCore.decide.Goals as goal
 
-pub decide_by_bundle-requires : goal.decide_by_bundle-requires
-decide_by_bundle-requires g c =
+pub decide_unsaved-requires : goal.decide_unsaved-requires
+decide_unsaved-requires g c =
     let core : Core = seen c.self.inside in
     let holds = rw (← c.self.view_is) at c.requires.1.0 in
     let cut = c.in_ok-certificate.ensures in
@@ -26,19 +26,19 @@ decide_by_bundle-requires g c =
     rw (c.requires.0, ← c.self.view_is) (c.self.invariant.agrees, (holds, (same, (cut.spelled (setting_of core) core.machine.me (known core c.self.invariant) (few_setting core c.self.invariant) c.requires.1.1).value)))
 
 made : (g : given.Over) (c : goal.After-note g) → IsFiredTo (DecideByBundle c.args.bundle) (seen c.self.inside)
-    (seen (record { alloc = c.self.inside.alloc; ring = c.self.inside.ring; state = c.decide_by_bundle.new.state; mempool = c.note.new.mempool; decisions = c.note.new.decisions; outgoing = c.self.inside.outgoing; scheduled = c.push_one.new.list; fired = c.self.inside.fired }))
+    (seen (record { alloc = c.self.inside.alloc; ring = c.self.inside.ring; state = c.decide_unsaved.new.state; mempool = c.note.new.mempool; decisions = c.note.new.decisions; outgoing = c.self.inside.outgoing; scheduled = c.push_one.new.list; fired = c.self.inside.fired }))
 made g c =
     let core : Core = seen c.self.inside in
     let s = core.machine.state in
     let k = DecideByBundle c.args.bundle in
     let v = pick core.queues in
     let came = rw (← c.self.view_is) at c.requires.0 in
-    let fires = c.in_ok-unsaved.ensures in
-    fired_to k core _ v c.in_ok-unsaved.field-0.unsaved c.in_ok-unsaved.field-0.timeout refl
-    (subst (λ (x : Came). c.decide_by_bundle.new.state.state ≡ fired x.context v s (DecideByBundle x.bundle)) came (fires.state v))
-    (subst (λ (x : Came). Agrees x.context c.decide_by_bundle.new.state) came fires.agrees)
+    let fires = c.in_ok-saved.ensures in
+    fired_to k core _ v c.in_ok-saved.field-0.saved c.in_ok-saved.field-0.timeout refl
+    (subst (λ (x : Came). c.decide_unsaved.new.state.state ≡ fired x.context v s (DecideByBundle x.bundle)) came (fires.state v))
+    (subst (λ (x : Came). Agrees x.context c.decide_unsaved.new.state) came fires.agrees)
     refl
-    (subst (λ (x : Came). c.in_ok-unsaved.field-0.unsaved ≡ pending_of core.machine.me (saved x.context v s (DecideByBundle x.bundle))) came (fires.unsaved v))
+    (subst (λ (x : Came). c.in_ok-saved.field-0.saved ≡ pending_of core.machine.me (saved x.context v s (DecideByBundle x.bundle))) came (fires.saved v))
     fires.timeout
     c.note.ensures.queues
     (rw c.reserve-2.ensures.same at c.note.ensures.decisions)
@@ -52,7 +52,7 @@ note-requires-clause-height g c =
     let s = core.machine.state in
     let came = rw (← c.self.view_is) at c.requires.0 in
     let holds = rw (← c.self.view_is) at c.requires.1.0 in
-    let unsaved = subst (λ (x : Came). c.in_ok-unsaved.field-0.unsaved ≡ pending_of core.machine.me (saved x.context v s (DecideByBundle x.bundle))) came (c.in_ok-unsaved.ensures.unsaved v) in
+    let unsaved = subst (λ (x : Came). c.in_ok-saved.field-0.saved ≡ pending_of core.machine.me (saved x.context v s (DecideByBundle x.bundle))) came (c.in_ok-saved.ensures.saved v) in
     let decided = ap decided_by unsaved ∙ pending_decided core.machine.me (saved (context_of core) v s (DecideByBundle c.args.bundle)) in
     let height = (asked (context_of core) s (DecideByBundle c.args.bundle) holds).height in
     rw (decided, c.reserve-2.ensures.same, c.self.invariant.decided) (one_all (λ (b : Bundle). b.height ≡ s.height) _ height)

@@ -25,14 +25,14 @@ made g c =
     let v = picked_value (pick_in c.in_ok-input.input) in
     let same = (subst (λ (n : Core). IsHanded n c.args.rule c.in_ok-input.input) (sym c.self.view_is) c.in_ok-input.ensures.handed).same in
     let context = rw (← c.self.view_is) at c.requires.0 in
-    let fires = c.in_ok-unsaved.ensures in
+    let fires = c.in-Ok.ensures in
     let frames = c.in_ok-frame.ensures in
-    fired_to k core _ v c.in_ok-unsaved.field-0.unsaved c.in_ok-unsaved.field-0.timeout same
+    fired_to k core _ v c.in-Ok.fired.saved c.in-Ok.fired.timeout same
     (subst (λ (h : Context). c.fire.new.state.state ≡ fired h v s k) context fires.state)
     (subst (λ (h : Context). Agrees h c.fire.new.state) context fires.agrees)
     refl
-    (subst (λ (h : Context). c.in_ok-unsaved.field-0.unsaved ≡ pending_of core.machine.me (saved h v s k)) context fires.unsaved)
-    (subst (λ (h : Context). c.in_ok-unsaved.field-0.timeout ≡ scheduled h s k) context fires.timeout)
+    (subst (λ (h : Context). c.in-Ok.fired.saved ≡ pending_of core.machine.me (saved h v s k)) context fires.saved)
+    (subst (λ (h : Context). c.in-Ok.fired.timeout ≡ scheduled h s k) context fires.timeout)
     c.note.ensures.queues
     (rw c.reserve-3.ensures.same at c.note.ensures.decisions)
     (rw (c.push_one.ensures, c.reserve.ensures.items, map-append, frames) refl)
@@ -49,7 +49,7 @@ invariant_of-self-3 g c =
     let v = picked_value (pick_in c.in_ok-input.input) in
     let context = rw (← c.self.view_is) at c.requires.0 in
     let same = (subst (λ (n : Core). IsHanded n c.args.rule c.in_ok-input.input) (sym c.self.view_is) c.in_ok-input.ensures.handed).same in
-    let unsaved = subst (λ (h : Context). c.in_ok-unsaved.field-0.unsaved ≡ pending_of core.machine.me (saved h v s k)) context c.in_ok-unsaved.ensures.unsaved in
+    let unsaved = subst (λ (h : Context). c.in-Ok.fired.saved ≡ pending_of core.machine.me (saved h v s k)) context c.in-Ok.ensures.saved in
     let decided = ap decided_by unsaved ∙ pending_decided core.machine.me (saved (context_of core) v s k) ∙ ap decided_in same in
     let fit = rw (← c.self.view_is) at c.in_ok-input.ensures.fit in
     let a = rule_decided core c.self.invariant (pick core.queues) c.args.rule fit (subst (λ (bs : List Bundle). All IsNarrow bs) decided c.note.ensures.narrow) in

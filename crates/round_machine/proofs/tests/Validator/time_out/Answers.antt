@@ -21,8 +21,8 @@ serves g m flag Propose input same h = tt
 serves g m flag Prevote input same h = tt
 serves g m flag Precommit input same h = let t = told g flag (pick_in input) same h.0 in (t.0, t.1, λ own none. h.1)
 
-pub fire-requires : goal.fire-requires
-fire-requires g c =
+pub fire_unkept-requires : goal.fire_unkept-requires
+fire_unkept-requires g c =
     let v = c.args.self.now in (
       rw c.requires (record { powers = refl; me = refl; genuine = v.told }),
       (tt, (sym (c.holds_timeout.ensures g.g) ∙ c.if-not-holds_timeout.false, serves g.g v.state v.genuine c.args.kind c.in_ok-input.input (λ x. ap (λ (k : Context). k.genuine x) c.requires) c.in_ok-input.ensures)),

@@ -18,4 +18,5 @@ invariant_of-self c =
       stage = (is.0, is.1);
       height = c.self.invariant.height;
       valid_value = found_before a.stage a.valid_value r (rw is.2 later) c.self.invariant.valid_value;
+      ready = c.self.invariant.ready;
     }

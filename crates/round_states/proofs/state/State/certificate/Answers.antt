@@ -1,4 +1,4 @@
-use Rattle.std.proofs.Common.{◌≡◌, ◌<◌, ◌∙◌, sym, ap, List, [], ◌∷◌, ◌++◌, arith}
+use Rattle.std.proofs.Common.{◌<◌, ◌∙◌, sym, ap, List, [], ◌∷◌, ◌++◌, arith}
 use Rattle.protocol.specs.Rules.{is_stamp}
 use Rattle.std.proofs.lemmas.List.{append-nil}
 use Rattle.protocol.specs.Messages.{Signed, below}

@@ -11,4 +11,5 @@ invariant_of-result c = record {
   stage = search rules;
   height = search rules;
   valid_value = search rules;
+  ready = search rules;
 }

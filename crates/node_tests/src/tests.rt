@@ -12,9 +12,9 @@ mod queues;
 mod refusals;
 mod timeouts;
 
-use crate::{Config, NodeCore, Refusal};
 use authenticators::{KeyRing, Party, hmac};
 use messages::{Body, Proposal, Step as VoteStep, Vote, frame_of, spell_body};
+use node_core::{Config, NodeCore, Refusal};
 use powers::Powers;
 use std::alloc::Global;
 use std::process::Abort;

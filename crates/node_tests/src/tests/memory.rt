@@ -3,8 +3,8 @@
 use super::bundles::RIGHT;
 use super::timeouts::due;
 use super::{Node, on_node, vote};
-use crate::Refusal;
 use messages::{Ask, Body, Step as VoteStep};
+use node_core::Refusal;
 use protocol::Step;
 use std::process::Abort;
 use std::test::Fail;

@@ -1,9 +1,9 @@
 //! Transactions that come to a validator.
 
 use super::{Answer, Node};
-use crate::Refusal;
 use mempool::SubmitFault;
 use messages::Body;
+use node_core::Refusal;
 use std::process::Abort;
 use std::test::Fail;
 use transactions::{Op, Seq, Tx};

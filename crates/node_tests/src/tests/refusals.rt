@@ -1,8 +1,8 @@
 //! Which cause is told of several. Each frame has the later ones too, as far as they can stand beside the first.
 
 use super::{Answer, Node, on_node, vote};
-use crate::Refusal;
 use messages::Step;
+use node_core::Refusal;
 use std::process::Abort;
 use std::test::Fail;
 use transactions::Id;

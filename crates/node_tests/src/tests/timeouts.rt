@@ -1,7 +1,7 @@
 //! Timeouts that come due.
 
 use super::{Answer, Node, on_node};
-use crate::Refusal;
+use node_core::Refusal;
 use protocol::{Step, Timeout};
 use std::process::Abort;
 use std::test::Fail;

@@ -1,7 +1,7 @@
 //! Validator 0 of two of equal power, neither of which is a quorum, proposes first.
 
 use super::{powers_of, ring_of};
-use crate::{Config, NodeCore};
+use node_core::{Config, NodeCore};
 use std::process::Abort;
 use std::test::Fail;
 

@@ -1,8 +1,8 @@
 //! The numbers of the refusals.
 
-use crate::Refusal;
 use height_catchup::JudgeFault;
 use mempool::SubmitFault;
+use node_core::Refusal;
 use std::process::Abort;
 
 /// Each refusal with its number, and its inner fault's.

@@ -1,10 +1,10 @@
 //! Decisions by bundles, and asks for them.
 
 use super::{Answer, Node, on_node, vote};
-use crate::Refusal;
 use authenticators::hmac;
 use height_catchup::JudgeFault;
 use messages::{Ask, Body, Bundle, Precommit, Step, frame_of, spell_body};
+use node_core::Refusal;
 use std::alloc::Global;
 use std::process::Abort;
 use std::test::Fail;
