@@ -33,6 +33,3 @@ pub fn given_law()
 pub fn fault_law()
     ensures { FaultLaw }
 {}
-
-#[cfg(test)]
-mod tests;

@@ -22,6 +22,3 @@ pub use tags::is_genuine;
 pub fn gate_law()
     ensures { GateLaw }
 {}
-
-#[cfg(test)]
-mod tests;

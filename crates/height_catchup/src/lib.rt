@@ -11,6 +11,3 @@ mod vouching;
 pub use decisions::Decisions;
 pub use judging::{JudgeFault, judge};
 pub use vouching::certified;
-
-#[cfg(test)]
-mod tests;

@@ -238,6 +238,3 @@ fn is_close_of(client: u16, tx: &Tx) -> bool
 {
     tx.client == client && matches!(tx.op, Op::Close)
 }
-
-#[cfg(test)]
-mod tests;

@@ -210,6 +210,3 @@ pub fn quorums_share()
 pub fn quorums_share_honest()
     ensures { QuorumsShareHonest }
 {}
-
-#[cfg(test)]
-mod tests;

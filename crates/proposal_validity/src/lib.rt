@@ -145,6 +145,3 @@ pub fn valid_law()
 pub fn frontier_law()
     ensures { FrontierLaw }
 {}
-
-#[cfg(test)]
-mod tests;

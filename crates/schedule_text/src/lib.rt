@@ -53,6 +53,3 @@ mod world;
 
 pub use fault::{EventFault, Failure};
 pub use program::{HELP, simulate};
-
-#[cfg(test)]
-mod tests;

@@ -152,6 +152,3 @@ impl Plan {
 pub fn account_law()
     ensures { AccountLaw }
 {}
-
-#[cfg(test)]
-mod tests;

@@ -1,6 +1,8 @@
-use super::*;
-use protocol::Step;
+//! Plans of timeouts.
+
+use protocol::{Step, Timeout};
 use std::test::Fail;
+use timeouts::{Plan, PlanFault, account_law};
 
 fn timeout(kind: Step, height: u64, round: u32) -> Timeout {
     Timeout {

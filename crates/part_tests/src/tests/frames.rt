@@ -3,8 +3,8 @@
 ghost use Rattle.std.specs.Prelude.{◌≡◌};
 ghost use Rattle.protocol.specs.Messages.{sender_of};
 
-use super::*;
 use authenticators::{KeyRing, Party, hmac};
+use frame_admission::{Inadmissible, admit, frame_for, is_genuine, own_tags};
 use messages::{Body, frame_of, read_body, spell_body};
 use std::alloc::{AllocError, Global};
 use std::process::Abort;

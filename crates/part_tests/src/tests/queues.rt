@@ -1,11 +1,13 @@
 //! Clients 1 to 9 send transactions to the first of some validators.
 
-use super::*;
-use authenticators::{Party, hmac};
+use authenticators::{KeyRing, Party, hmac};
+use mempool::{Mempool, SubmitFault};
+use proposal_validity::Frontier;
+use std::alloc::{AllocError, Global};
 use std::fmt::Write;
 use std::process::Abort;
 use std::test::Fail;
-use transactions::{Seq, len_of_tx_body, len_of_value, put_tx_body, spell_value};
+use transactions::{Op, Seq, Tx, Value, len_of_tx_body, len_of_value, put_tx_body, spell_value};
 
 /// The key of all that is sent.
 const KEY: &str = "1111111111111111111111111111111111111111111111111111111111111111";

@@ -4,8 +4,8 @@
 ghost use Rattle.std.specs.Prelude.{◌≡◌, ◌+◌, length, IfOk};
 ghost use Rattle.transactions.specs.Grammar.{IsValue};
 
-use super::*;
 use authenticators::{KeyRing, Party, hmac};
+use height_catchup::{Decisions, JudgeFault, certified, judge};
 use messages::{Body, Bundle, Precommit, Step, Vote, spell_body};
 use powers::Powers;
 use proposal_validity::Frontier;

@@ -1,4 +1,7 @@
-use super::*;
+//! Powers, quorums and proposers.
+
+use powers::{MOST_VALIDATORS, Powers, PowersFault};
+use std::alloc::{AllocError, Global};
 use std::process::Abort;
 use std::test::Fail;
 

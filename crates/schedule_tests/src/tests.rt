@@ -7,7 +7,7 @@ mod running;
 mod streams;
 mod worked;
 
-use crate::simulate;
+use schedule_text::simulate;
 use std::alloc::{AllocError, Global};
 use std::process::Abort;
 use std::test::Fail;

@@ -1,5 +1,5 @@
 use super::world;
-use crate::{Failure, HELP, simulate};
+use schedule_text::{Failure, HELP, simulate};
 use std::alloc::Global;
 use std::io;
 use std::io::{BufRead, ErrorKind, Read, Write};

@@ -1,6 +1,6 @@
 //! Tags, with the values of RFC 4231 (test cases 1 to 4, 6 and 7).
 
-use crate::{Key, check, hmac, is_right};
+use authenticators::{Key, check, hmac, is_right};
 use hex::FromHex;
 use std::alloc::{AllocError, Global};
 use std::process::Abort;

@@ -1,6 +1,6 @@
 //! Key files and the rings that they give.
 
-use crate::{Key, KeyRing, KeysFault, Party, hmac, is_right, tag_all};
+use authenticators::{Key, KeyRing, KeysFault, Party, hmac, is_right, tag_all};
 use std::alloc::{AllocError, Global};
 use std::fmt::Display;
 use std::process::Abort;

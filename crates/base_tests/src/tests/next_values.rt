@@ -1,10 +1,13 @@
+//! Which value may be delivered next.
+
 ghost use Rattle.std.specs.Prelude.{IfOk};
 ghost use Rattle.transactions.specs.Grammar.{IsValue};
 
-use super::*;
+use proposal_validity::{Frontier, frontier_law, valid_law};
+use std::alloc::Global;
 use std::process::Abort;
 use std::test::Fail;
-use transactions::{Op, Seq, Shared, spell_value};
+use transactions::{Op, Seq, Shared, Tx, Value, spell_value};
 
 /// A transaction of this client and number, which closes or asks for two bytes.
 fn tx(alloc: Global, client: u16, number: u64, closes: bool) -> Result<Tx, Fail> {

@@ -1,2 +1,0 @@
-mod key_files;
-mod tags;
