@@ -3,9 +3,10 @@
 
 usage: gate/whole.py
 
-Its stages run in turn, each of which says 'N passed, M failed' on its last line: what must not compile; `rt ci`, which
-proves and tests each crate and runs each program; the schedules, by the program as both compilers made it; and the
-wrong bodies. Then come the processor seconds of each crate, and a last line that counts everything.
+Its stages run in turn, each of which says 'N passed, M failed' on its last line: the files' layout; what must not
+compile; `rt ci`, which proves and tests each crate and runs each program; the schedules, by the program as both
+compilers made it; and the wrong bodies. Then come the processor seconds of each crate, and a last line that counts
+everything. Where the layout or `rt ci` fails, nothing behind it is tried.
 """
 import os
 import re
@@ -20,14 +21,20 @@ import time
 
 TOP = os.path.dirname(os.path.dirname(os.path.realpath(__file__)))
 STAGES = {
+    "layout": ["gate/layout.py"],
     "what must not compile": ["must-not-compile/run.sh"],
     "proofs, tests and programs": ["rt", "ci"],
     "schedules, as LLVM builds the program": ["schedules/check.sh", "--with", "crates/tmsim/out/tmsim"],
     "schedules, as Rattle's compiler builds it": ["schedules/check.sh", "--with", "crates/tmsim/out/tmsim.by-rattle"],
     "wrong bodies": ["gate/wrong_bodies.py", "--built"],
 }
+# What is said where a stage fails behind which nothing is tried.
+ENDS = {
+    "layout": "`rt fmt` in a crate's folder lays its files out. Until then nothing else is tried.",
+    "proofs, tests and programs": "The stages behind stand on these proofs, so they are left out.",
+}
 # About what a whole run takes, in processor seconds; its table says what it took.
-USUAL = 13_800
+USUAL = 11_000
 # The part of a crate's time that a check belongs to.
 PARTS = ("proof", "tests", "edits")
 TICKS = os.sysconf("SC_CLK_TCK")
@@ -140,8 +147,8 @@ def main():
                 continue
             well, badly = run_stage(name, words)
             passed, failed = passed + well, failed + badly
-            if badly and words[0] == "rt":
-                print("The stages behind stand on these proofs, so they are left out.")
+            if badly and name in ENDS:
+                print(ENDS[name])
                 break
         os.chdir(TOP)
     meter.ended.set()
