@@ -1,0 +1,5 @@
+pub mod Seen
+pub mod Rule
+pub mod Plays
+pub mod Steps
+pub mod Ends
