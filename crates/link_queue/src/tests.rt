@@ -117,7 +117,8 @@ fn what_waits_at_the_end_is_taken(rt: HostRuntime) -> Result<(), Fail> {
     Ok(())
 }
 
-/// Offers the numbers below this one, each until there is room, and closes the queue: how many were taken in.
+/// Offers the numbers below this one, each until there is room, and closes the queue: how many were
+/// taken in.
 fn offer_all<R: Wait>(rt: &R, alloc: Global, queue: &Queue, count: u32) -> u32 {
     let mut next = 0;
     for _ in rt.forever() {

@@ -71,7 +71,8 @@ fn publish_all<J: Node>(
     }
 }
 
-/// Whether an answer is of words that `publish_all` publishes: the height first, and no part less than before.
+/// Whether an answer is of words that `publish_all` publishes, the height first, and no part is
+/// less than before.
 fn is_lawful(before: Status, now: Status) -> bool {
     now.delivered % 3 == 0
         && now.delivered / 3 + 1 >= now.height
@@ -79,7 +80,8 @@ fn is_lawful(before: Status, now: Status) -> bool {
         && now.delivered >= before.delivered
 }
 
-/// Looks until the height is reached, a hundred thousand times at most: whether each answer was lawful.
+/// Looks until the height is reached, a hundred thousand times at most: whether each answer was
+/// lawful.
 fn watch<J: Node>(words: &Words<J>, mut seat: Seat<J>, heights: u64) -> bool {
     let mut before = Status {
         height: 0,
