@@ -17,7 +17,7 @@ from pathlib import Path
 from typing import NamedTuple
 
 TOP = Path(__file__).resolve().parent.parent
-LAW = re.compile(r"((?:^///[^\n]*\n)*)^pub fn (\w+)\(\)\n\s+ensures \{ (\w+) \}\n\{\}", re.M)
+LAW = re.compile(r"((?:^///[^\n]*\n)*)^pub fn (\w+)(?:<[^>]*>)?\(\)\n\s+ensures \{ (\w+)[^}]*\}\n\{\}", re.M)
 LEMMA = re.compile(r"^pub (?:unfoldable |abbrev )?([^\s:]+) :(?! goal\.)", re.M)
 NAMES = re.compile(r"^(?:pub )?use Rattle\.(\w+)\.proofs\.([\w.]*\w)\.\{([^}]*)\}", re.M)
 LEMMAS = re.compile(r"^(?:pub )?use Rattle\.(\w+)\.proofs\.([\w.]*\w)", re.M)

@@ -3,7 +3,8 @@
 
 usage: gate/lines_to_believe.py [--list] [LAW..]
 
-With no LAW: what `BeginsLaw` reaches, and what all laws of crates/protocol/specs/Laws.antt and Order.antt reach. A line
+With no LAW: what `BeginsLaw` reaches, what all laws of crates/protocol/specs/Laws.antt and Order.antt reach, and what
+the headline over stores does, `StoppedHeadlineLaw` of crates/vote_journal/specs/Stopping.antt. A line
 is one of a definition of this repository, without comments and blank lines; the kit's library, its SHA-256 and the
 types that are declared in code aren't counted. Nor is the computed run of `PremisesMetLaw`, which shows that the
 headline's premises can hold: name that law to count it.
@@ -22,6 +23,7 @@ CRATES = f"{TOP}/crates"
 PROTOCOL = "Rattle.protocol.specs"
 LAWS, ORDER = f"{PROTOCOL}.Laws", f"{PROTOCOL}.Order"
 HEAD = re.compile(r"(?:(?:pub|abbrev|unfoldable|opaque)\s+)*(?:(data|record)\s+)?([^\s:({]+)\s*(?:[({].*)?:(?=\s)")
+BLOCK = re.compile(r"module _ .* where$")
 WORD = re.compile(r"[^\s(){}\[\],;.\"]+")
 
 
@@ -76,14 +78,24 @@ class Module:
     def __init__(self, path, name):
         self.path, self.name = path, name
         self.definitions, self.owners, self.imports, self.aliases = {}, {}, {}, {}
+        # (what stands in a block of parameters needs its head, which counts as a definition of its own)
+        self.blocks = {}
         with open(path, encoding="utf-8") as it:
             text = it.read()
         # (a use may go over several lines)
         self.read(re.sub(r"(?m)^((?:pub\s+)?use\s[^\n]*)\n[ \t}]+", r"\1 ", text).split("\n"))
 
     def read(self, lines):
-        name, found = None, {}
+        name, found, block = None, {}, None
         for number, line in enumerate(lines, 1):
+            if line and not line[0].isspace():
+                block = None
+            if BLOCK.match(line):
+                name = block = f"block {number}"
+                found[name] = (number, [line])
+                continue
+            if block:
+                line = line.removeprefix("  ")
             if re.match(r"(pub\s+)?use\s", line):
                 self.read_use(line)
             elif not line.strip() or line.lstrip().startswith("--") or re.match(r"(pub )?mod |infix", line):
@@ -93,6 +105,7 @@ class Module:
                 if head and not line[0].isspace():
                     name = head[2]
                     found[name] = (number, [])
+                    self.blocks[name] = block
                 found[name][1].append(line)
         for name, (first, own) in found.items():
             self.definitions[name] = Definition(self.name, name, first, tuple(own))
@@ -114,6 +127,8 @@ class Module:
     def uses(self, definition):
         """The places (module, name) of what the definition's text names."""
         text = "\n".join(definition.lines)
+        if self.blocks.get(definition.name):
+            yield self.name, self.blocks[definition.name]
         words = {word for clause in clauses(definition) for word in free_words(clause)}
         for it, place in [*((n, (self.name, n)) for n in self.owners), *self.imports.items()]:
             parts = [part for part in it.split("◌") if part]
@@ -215,13 +230,16 @@ def main(words):
         print(__doc__, file=sys.stderr)
         return 2
     known = modules()
-    laws = {name: (module, name) for module in known if module.startswith(f"{PROTOCOL}.") for name in known[module].definitions if name.endswith("Law")}
+    # (of two laws of one name that of the protocol is meant)
+    ranked = sorted(known, key=lambda it: it.startswith(f"{PROTOCOL}."))
+    laws = {name: (module, name) for module in ranked for name in known[module].definitions if name.endswith("Law")}
     for name in names:
         if name not in laws:
             print(f"no law {name}", file=sys.stderr)
             return 2
     all_laws = [it for it in laws if laws[it][0] in (LAWS, ORDER)]
-    asked = {" ".join(names): names} if names else {"BeginsLaw": ["BeginsLaw"], "all laws": all_laws}
+    each = {"BeginsLaw": ["BeginsLaw"], "all laws": all_laws, "StoppedHeadlineLaw": ["StoppedHeadlineLaw"]}
+    asked = {" ".join(names): names} if names else each
     for label, chosen in asked.items():
         found, pinned = reached(known, [laws[it] for it in chosen])
         if "--list" in words:

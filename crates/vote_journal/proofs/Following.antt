@@ -23,6 +23,8 @@ use Rattle.protocol.proofs.Arrivals.{IsTaken, come_cases, try_cases, cut_cases}
 use Rattle.protocol.proofs.Local.{fired_tied, kept_tied, restart_tied}
 use Rattle.protocol.proofs.Certificates.{OptionCertified, saved_certified, taken_stamped, fired_keeps, opened_keeps}
 use Rattle.vote_journal.specs.Order.{may_follow, is_after}
+use Rattle.vote_journal.specs.Grammar.{IsRecord}
+use Rattle.vote_journal.specs.Stopping.{Fits}
 use Rattle.vote_journal.specs.Laws.{EachFollows, IsMade, EachMade, IsLawful, FollowsLaw}
 use Rattle.vote_journal.proofs.Deciding.{certificate_rising, certified_rising}
 
@@ -176,6 +178,22 @@ each_grows powers (Decided b ∷ rest) f = let a = and_parts _ _ f.0 in let d = 
 
 pub opened_lawful : (c : Setting) (p : ℕ) (j : List Record) → EachFollows c.powers j → EachMade p j → IsLawful c p (opened p j)
 opened_lawful c p j f m = record { tied = restart_tied p j (each_grows c.powers j f); keeps = opened_keeps c p j; follows = f; made = m }
+
+-- ---- for those who save
+
+-- what a rule that holds saves may follow what its node saved before, and is made as its record has to be
+pub rule_saves : (c : Setting) (p : ℕ) (n : Node) (k : Rule) (r : Record) → IsLawful c p n → holds (context c p) n.state k ≡ true → saved (context c p) (pick n.queues) n.state k ≡ Some r
+    → EachFollows c.powers (r ∷ n.journal) × EachMade p (r ∷ n.journal)
+rule_saves c p n k r l h e =
+    let next = fired_lawful c p n k l h in (
+      subst (λ (o : Option Record). EachFollows c.powers (option_to_list o ++ n.journal)) e next.follows,
+      subst (λ (o : Option Record). EachMade p (option_to_list o ++ n.journal)) e next.made,
+    )
+
+-- a record that is made so has a spelling where its fields are within their ranges
+pub record_fits : (p : ℕ) (r : Record) (j : List Record) → Fits p r → EachMade p (r ∷ j) → IsRecord p r
+record_fits p (Own h round act) j f m = f
+record_fits p (Decided b) j f m = record { fits = f; sender = m.0.sender; name = m.0.name; order = m.0.order }
 
 -- ---- in any run
 

@@ -1,6 +1,6 @@
 -- A journal is the journal of one list of records.
 use Rattle.std.proofs.Common.{◌≡◌, inl, inr, ℕ, ◌+◌, ◌<◌, ◌≤◌, Bool, true, false, leb, ◌&&◌, List, [], ◌∷◌, ◌++◌, length, take, drop, reverse, Some, None, Ok, Err, refl, sym, ap, subst, ◌∙◌, arith, append_assoc, length-append}
-use Rattle.std.proofs.lemmas.List.{append-nil, take_at, drop_at, take-append-drop, length-take-le, map-append, reverse-append}
+use Rattle.std.proofs.lemmas.List.{append-nil, take_at, drop_at, take-append-drop, length-take-le, reverse-append}
 use Rattle.std.proofs.lemmas.Bool.{le-ltb, le-leb, leb-true, and_from, and_parts}
 use Rattle.byteorder.specs.Endian.{big_number}
 use Rattle.byteorder.specs.Numbers.{big_number-reads_back}
@@ -12,14 +12,13 @@ use Rattle.messages.proofs.Sizes.{body_short}
 use Rattle.messages.proofs.Lengths.{vote_length}
 use Rattle.protocol.specs.Values.{id}
 use Rattle.protocol.specs.Messages.{OfVote, OfBundle, Proposing, Prevoting, Precommitting, Record, Own, Decided, precommit, body_of}
-use Rattle.protocol.specs.Records.{record_of}
-use Rattle.protocol.specs.declared.records.Record.{Record as Held}
 use Rattle.vote_journal.specs.Grammar.{content_spelling, framed, record_spelling, records_spelling, IsRecord, Spells}
 use Rattle.vote_journal.specs.declared.standing.Standing.{Standing}
 use Rattle.vote_journal.specs.declared.fault.JournalFault.{JournalFault}
 use Rattle.vote_journal.specs.declared.fault.JournalFault.TheVariants.{Failed, OutOfMemory, BadRecord}
 use Rattle.vote_journal.specs.Order.{may_follow, AreLawful, IsTaken}
-use Rattle.vote_journal.specs.Layout.{IsContent, IsTorn, Splits, IsScan, records_of}
+use Rattle.vote_journal.specs.Layout.{IsContent, IsTorn, Splits}
+use Rattle.vote_journal.specs.Planning.{IsScan}
 use Rattle.vote_journal.proofs.RecordFormats.{same_record}
 
 -- ---- the front of a framed content
@@ -145,7 +144,7 @@ pub record Goes (powers : List ℕ) (me : ℕ) (before : List Record) (left : Li
   pub whole : left ≡ records_spelling me others ++ rest
   pub lawful : AreLawful powers me before others
 
-reverse_onto : (r : Record) (rs before : List Record) → reverse rs ++ (r ∷ before) ≡ reverse (r ∷ rs) ++ before
+pub reverse_onto : (r : Record) (rs before : List Record) → reverse rs ++ (r ∷ before) ≡ reverse (r ∷ rs) ++ before
 reverse_onto r rs before = sym (ap (λ (x : List Record). x ++ before) (reverse-append (r ∷ []) rs) ∙ append_assoc (reverse rs) (r ∷ []) before)
 
 pub goes_on : (powers : List ℕ) (me : ℕ) (before done : List Record) (left : List ℕ) (rs : List Record) (rest : List ℕ) → AreLawful powers me before done → AreLawful powers me before rs → IsTorn rest
@@ -172,29 +171,17 @@ pub spelling_push : (me : ℕ) (rs : List Record) (r : Record) → records_spell
 spelling_push me [] r = append-nil (record_spelling me r)
 spelling_push me (q ∷ rs) r = ap (λ (x : List ℕ). record_spelling me q ++ x) (spelling_push me rs r) ∙ sym (append_assoc (record_spelling me q) (records_spelling me rs) (record_spelling me r))
 
--- ---- the records that the reader holds
-
-pub records_push : (rs : List Held) (r : Held) → records_of (rs ++ r ∷ []) ≡ records_of rs ++ record_of r ∷ []
-records_push rs r = map-append record_of rs (r ∷ [])
-
-pub newest_push : (rs : List Held) (r : Held) → reverse (records_of (rs ++ r ∷ [])) ≡ record_of r ∷ reverse (records_of rs)
-newest_push rs r = ap reverse (records_push rs r) ∙ reverse-append (records_of rs) (record_of r ∷ [])
-
 -- ---- reading on behind what was read
 
 -- a record more was read
-pub scan_step : (powers : List ℕ) (me : ℕ) (bytes : List ℕ) (items : List Held) (r : Held) (left content after : List ℕ) → bytes ≡ records_spelling me (records_of items) ++ left → AreLawful powers me [] (records_of items)
-    → left ≡ framed content ++ after → Spells me content (record_of r) → may_follow powers (reverse (records_of items)) (record_of r) ≡ true
-    → (bytes ≡ records_spelling me (records_of (items ++ r ∷ [])) ++ after) × AreLawful powers me [] (records_of (items ++ r ∷ []))
-scan_step powers me bytes items r left content after whole lawful front s f =
-    let done = records_of items in
-    let pushed : records_of (items ++ r ∷ []) ≡ done ++ record_of r ∷ [] = records_push items r in
-    let text : framed content ≡ record_spelling me (record_of r) = ap framed s.same ∙ sym (is_framed me (record_of r)) in
-    let all : bytes ≡ records_spelling me (done ++ record_of r ∷ []) ++ after = whole ∙ ap (λ (x : List ℕ). records_spelling me done ++ x) (front ∙ ap (λ (x : List ℕ). x ++ after) text)
-    ∙ sym (append_assoc (records_spelling me done) (record_spelling me (record_of r)) after) ∙ ap (λ (x : List ℕ). x ++ after) (sym (spelling_push me done (record_of r))) in
-    let more : AreLawful powers me [] (done ++ record_of r ∷ []) = lawful_push powers me [] done (record_of r) lawful s.lawful (ap (λ (x : List Record). may_follow powers x (record_of r)) (append-nil (reverse done)) ∙ f) in (
-      all ∙ ap (λ (x : List Record). records_spelling me x ++ after) (sym pushed),
-      subst (AreLawful powers me []) (sym pushed) more,
+pub scan_step : (powers : List ℕ) (me : ℕ) (bytes : List ℕ) (done : List Record) (r : Record) (left content after : List ℕ) → bytes ≡ records_spelling me done ++ left → AreLawful powers me [] done
+    → left ≡ framed content ++ after → Spells me content r → may_follow powers (reverse done) r ≡ true
+    → (bytes ≡ records_spelling me (done ++ r ∷ []) ++ after) × AreLawful powers me [] (done ++ r ∷ [])
+scan_step powers me bytes done r left content after whole lawful front s f =
+    let text : framed content ≡ record_spelling me r = ap framed s.same ∙ sym (is_framed me r) in (
+      whole ∙ ap (λ (x : List ℕ). records_spelling me done ++ x) (front ∙ ap (λ (x : List ℕ). x ++ after) text)
+          ∙ sym (append_assoc (records_spelling me done) (record_spelling me r) after) ∙ ap (λ (x : List ℕ). x ++ after) (sym (spelling_push me done r)),
+      lawful_push powers me [] done r lawful s.lawful (ap (λ (x : List Record). may_follow powers x r) (append-nil (reverse done)) ∙ f),
     )
 
 bad_left : (powers : List ℕ) (me : ℕ) (before : List Record) (left : List ℕ) (others : List Record) (rest : List ℕ) → (IsTorn left → ⊥) × ((content after : List ℕ) → IsContent content → left ≡ framed content ++ after → ⊥)

@@ -2,6 +2,9 @@ pub mod RecordFormats
 pub mod Layouts
 pub mod Taking
 pub mod Stops
-mod Deciding
-mod Following
-mod History
+pub mod Kept
+pub mod Deciding
+pub mod Following
+pub mod History
+pub mod Stopping
+pub mod Serving

@@ -12,14 +12,14 @@ use Rattle.vote_journal.specs.Grammar.{header, content_spelling, framed, record_
 use Rattle.vote_journal.specs.Order.{may_follow, AreLawful}
 use Rattle.vote_journal.specs.Layout.{IsContent, IsTorn, IsBegunHeader, Splits, IsJournal, IsWhole}
 use Rattle.vote_journal.specs.Store.{Begun, Shortened, Only, NoMore}
+use Rattle.vote_journal.specs.declared.keeping.Kept.{Kept}
 use Rattle.vote_journal.specs.declared.opening.Plan.{Plan}
 use Rattle.std.proofs.Common.{Ok, Err}
-use Rattle.std.specs.Global.{Vec}
-use Rattle.protocol.specs.declared.records.Record.{Record as Held}
 use Rattle.vote_journal.specs.declared.fault.JournalFault.{JournalFault}
 use Rattle.vote_journal.specs.declared.fault.JournalFault.TheVariants.{Failed, OutOfMemory, BadRecord}
-use Rattle.vote_journal.specs.Layout.{IsScan, records_of}
-use Rattle.vote_journal.specs.Saving.{KeepsRecords, BegunOpening, PlanFor, IsPlan, added}
+use Rattle.vote_journal.specs.Saving.{KeepsRecords, BegunOpening, added}
+use Rattle.vote_journal.specs.Kept.{IsOpened}
+use Rattle.vote_journal.specs.Planning.{Scans, IsScan, PlanFor, IsPlan}
 use Rattle.vote_journal.specs.Laws.{StopLaw}
 use Rattle.vote_journal.proofs.Layouts.{number_back, fits, is_framed, same_records, lawful_push, spelling_push}
 
@@ -202,40 +202,50 @@ no_header keep stood c (inl s) = s
 no_header keep stood c (inr b) = absurd (false≢true b.0)
 
 -- Opening keeps the records of what it read.
-pub opening_keeps : (powers : List ℕ) (me : ℕ) (bytes c : List ℕ) (p : Plan) (fresh : Bool) → PlanFor fresh powers me bytes p → BegunOpening p.keep fresh bytes c → KeepsRecords powers me bytes c
-opening_keeps powers me bytes c p true plan b = λ rs j.
-    let none : [] ≡ rs = one_journal powers me bytes [] rs (inl (plan.0, refl)) j in
+pub opening_keeps : (powers : List ℕ) (me : ℕ) (bytes c : List ℕ) (rs : List Record) (keep : ℕ) (fresh : Bool) → PlanFor fresh powers me bytes rs keep → BegunOpening keep fresh bytes c → KeepsRecords powers me bytes c
+opening_keeps powers me bytes c rs keep true plan b = λ others j.
+    let none : [] ≡ others = one_journal powers me bytes [] others (inl (plan.0, refl)) j in
     let here : BegunOpening 0 true bytes c = subst (λ (k : ℕ). BegunOpening k true bytes c) plan.2 b in
     subst (IsJournal powers me c) none (fresh_leaves powers me bytes c plan.0 here)
-opening_keeps powers me bytes c p false plan b = λ rs j.
-    let s = no_header p.keep bytes c b in
-    let one : records_of p.records.items ≡ rs = one_journal powers me bytes (records_of p.records.items) rs (inr (plan.0, plan.1, plan.2)) j in
-    let kept : IsJournal powers me (take s.0 bytes) (records_of p.records.items) = cut_leaves powers me p.keep s.0 bytes plan.0 (records_of p.records.items) plan.1 plan.2 plan.3 s.1 in
-    subst (IsJournal powers me c) one (subst (λ (x : List ℕ). IsJournal powers me x (records_of p.records.items)) (sym s.2) kept)
+opening_keeps powers me bytes c rs keep false plan b = λ others j.
+    let s = no_header keep bytes c b in
+    let one : rs ≡ others = one_journal powers me bytes rs others (inr (plan.0, plan.1, plan.2)) j in
+    let kept : IsJournal powers me (take s.0 bytes) rs = cut_leaves powers me keep s.0 bytes plan.0 rs plan.1 plan.2 plan.3 s.1 in
+    subst (IsJournal powers me c) one (subst (λ (x : List ℕ). IsJournal powers me x rs) (sym s.2) kept)
 
--- what opening read is a journal of the records that it answers
-pub plan_holds : (powers : List ℕ) (me : ℕ) (bytes : List ℕ) (p : Plan) (fresh : Bool) → PlanFor fresh powers me bytes p → IsJournal powers me bytes (records_of p.records.items)
-plan_holds powers me bytes p true plan = inl (plan.0, ap records_of plan.1)
-plan_holds powers me bytes p false plan = inr (plan.0, plan.1, plan.2)
+-- what opening read is a journal of the records that are planned for
+pub plan_holds : (powers : List ℕ) (me : ℕ) (bytes : List ℕ) (rs : List Record) (keep : ℕ) (fresh : Bool) → PlanFor fresh powers me bytes rs keep → IsJournal powers me bytes rs
+plan_holds powers me bytes rs keep true plan = inl (plan.0, plan.1)
+plan_holds powers me bytes rs keep false plan = inr (plan.0, plan.1, plan.2)
 
 -- and what then stands is whole
-pub plan_whole : (powers : List ℕ) (me : ℕ) (bytes now : List ℕ) (p : Plan) (fresh : Bool) → PlanFor fresh powers me bytes p → now ≡ take p.keep bytes ++ added fresh → IsWhole powers me now (records_of p.records.items)
-plan_whole powers me bytes now p true plan e =
-    let none : records_of p.records.items ≡ [] = ap records_of plan.1 in
+pub plan_whole : (powers : List ℕ) (me : ℕ) (bytes now : List ℕ) (rs : List Record) (keep : ℕ) (fresh : Bool) → PlanFor fresh powers me bytes rs keep → now ≡ take keep bytes ++ added fresh → IsWhole powers me now rs
+plan_whole powers me bytes now rs keep true plan e =
     let all : now ≡ header = e ∙ ap (λ (k : ℕ). take k bytes ++ header) plan.2 ∙ ap (λ (x : List ℕ). x ++ header) (nil_take bytes) in
-    subst (IsWhole powers me now) (sym none) (record { same = all; lawful = tt })
-plan_whole powers me bytes now p false plan e =
-    subst (λ (x : List ℕ). IsWhole powers me x (records_of p.records.items)) (sym (e ∙ append-nil (take p.keep bytes))) (cut_whole powers me p.keep bytes plan.0 (records_of p.records.items) plan.1 plan.2 plan.3)
+    subst (IsWhole powers me now) (sym plan.1) (record { same = all; lawful = tt })
+plan_whole powers me bytes now rs keep false plan e =
+    subst (λ (x : List ℕ). IsWhole powers me x rs) (sym (e ∙ append-nil (take keep bytes))) (cut_whole powers me keep bytes plan.0 rs plan.1 plan.2 plan.3)
 
-pub plan_keep : (powers : List ℕ) (me : ℕ) (bytes : List ℕ) (p : Plan) (fresh : Bool) → PlanFor fresh powers me bytes p → p.keep ≤ length bytes
-plan_keep powers me bytes p true plan = omega (arith, plan.2)
-plan_keep powers me bytes p false plan = omega (arith, plan.3)
+pub plan_keep : (powers : List ℕ) (me : ℕ) (bytes : List ℕ) (rs : List Record) (keep : ℕ) (fresh : Bool) → PlanFor fresh powers me bytes rs keep → keep ≤ length bytes
+plan_keep powers me bytes rs keep true plan = omega (arith, plan.2)
+plan_keep powers me bytes rs keep false plan = omega (arith, plan.3)
+
+-- what is kept of a plan's records is what was opened
+pub plan_opened : (powers : List ℕ) (me : ℕ) (bytes now : List ℕ) (old : List ℕ → Type 0) (p : Plan) → IsPlan powers me bytes (Ok p) → old bytes → now ≡ take p.keep bytes ++ added p.fresh
+    → IsOpened powers me old now p.kept.decisions.items p.kept.own.items
+plan_opened powers me bytes now old p plan here e = record {
+  rs = plan.0;
+  found = (bytes, here, plan_holds powers me bytes plan.0 p.keep p.fresh plan.1);
+  whole = plan_whole powers me bytes now plan.0 p.keep p.fresh plan.1 e;
+  keeps = plan.2;
+}
 
 -- whatever stands or is left has the records of what was read, or is something that stood
-pub opening_leaves : (powers : List ℕ) (me : ℕ) (bytes seen x : List ℕ) (p : Plan) (old mid : List ℕ → Type 0) → seen ≡ bytes → PlanFor p.fresh powers me bytes p → old bytes → NoMore old mid
+pub opening_leaves : (powers : List ℕ) (me : ℕ) (bytes seen x : List ℕ) (p : Plan) (old mid : List ℕ → Type 0) → seen ≡ bytes → IsPlan powers me bytes (Ok p) → old bytes → NoMore old mid
     → mid x ⊎ BegunOpening p.keep p.fresh seen x → (d : List ℕ) × old d × KeepsRecords powers me d x
 opening_leaves powers me bytes seen x p old mid is plan here fewer (inl h) = (x, fewer x h, λ rs j. j)
-opening_leaves powers me bytes seen x p old mid is plan here fewer (inr b) = (bytes, here, opening_keeps powers me bytes x p p.fresh plan (subst (λ (s : List ℕ). BegunOpening p.keep p.fresh s x) is b))
+opening_leaves powers me bytes seen x p old mid is plan here fewer (inr b) =
+    (bytes, here, opening_keeps powers me bytes x plan.0 p.keep p.fresh plan.1 (subst (λ (s : List ℕ). BegunOpening p.keep p.fresh s x) is b))
 
 -- ---- which bytes have no header
 
@@ -257,18 +267,18 @@ pub behind_is : (powers : List ℕ) (me : ℕ) (bytes : List ℕ) → take 4 byt
 behind_is powers me bytes e rs (inl h) = absurd (omega (arith, short_header bytes h.0, ap length e, short_take bytes 4))
 behind_is powers me bytes e rs (inr h) = subst (λ (x : List ℕ). Splits powers me x rs) (sym (ap (drop 4) h.1 ∙ drop_at header h.0 4 refl)) h.2
 
-pub plan_of_scan : (powers : List ℕ) (me : ℕ) (bytes : List ℕ) (found : Vec Held) (torn : ℕ) → take 4 bytes ≡ header → (s : Splits powers me (drop 4 bytes) (records_of found.items)) → length s.rest ≡ torn
-    → PlanFor false powers me bytes (record { records = found; keep = length bytes - torn; fresh = false })
-plan_of_scan powers me bytes found torn e s len =
+pub plan_of_scan : (powers : List ℕ) (me : ℕ) (bytes : List ℕ) (kept : Kept) (torn : ℕ) → take 4 bytes ≡ header → Scans powers me (drop 4 bytes) kept torn
+    → IsPlan powers me bytes (Ok (record { kept = kept; keep = length bytes - torn; fresh = false }))
+plan_of_scan powers me bytes kept torn e s =
     let whole : bytes ≡ header ++ drop 4 bytes = sym (take-append-drop 4 bytes) ∙ ap (λ (x : List ℕ). x ++ drop 4 bytes) e in
-    let room : torn ≤ length bytes = omega (arith, len, ap length whole, length-append header (drop 4 bytes), ap length s.whole, length-append (records_spelling me (records_of found.items)) s.rest) in
-    (drop 4 bytes, whole, s, omega (arith, len, room))
+    let room : torn ≤ length bytes = omega (arith, s.left, ap length whole, length-append header (drop 4 bytes), ap length s.splits.whole, length-append (records_spelling me s.rs) s.splits.rest) in
+    (s.rs, (drop 4 bytes, whole, s.splits, omega (arith, s.left, room)), s.keeps)
 
 pub scan_err : (powers : List ℕ) (me : ℕ) (bytes : List ℕ) (e : JournalFault) → take 4 bytes ≡ header → IsScan powers me (drop 4 bytes) (Err e) → IsPlan powers me bytes (Err e)
 scan_err powers me bytes Failed h s = s
 scan_err powers me bytes OutOfMemory h s = tt
 scan_err powers me bytes BadRecord h s = λ rs j. s rs (behind_is powers me bytes h rs j)
 
-pub scan_room : (powers : List ℕ) (me : ℕ) (bytes : List ℕ) (found : Vec Held) (torn : ℕ) → IsScan powers me (drop 4 bytes) (Ok (found, torn)) → torn ≤ length bytes
-scan_room powers me bytes found torn s =
-    omega (arith, s.1, ap length s.0.whole, length-append (records_spelling me (records_of found.items)) s.0.rest, ap length (sym (take-append-drop 4 bytes)), length-append (take 4 bytes) (drop 4 bytes))
+pub scan_room : (powers : List ℕ) (me : ℕ) (bytes : List ℕ) (kept : Kept) (torn : ℕ) → Scans powers me (drop 4 bytes) kept torn → torn ≤ length bytes
+scan_room powers me bytes kept torn s =
+    omega (arith, s.left, ap length s.splits.whole, length-append (records_spelling me s.rs) s.splits.rest, ap length (sym (take-append-drop 4 bytes)), length-append (take 4 bytes) (drop 4 bytes))

@@ -64,13 +64,23 @@ module _ {S : Type 0} (seen : S → List ℕ) (may_leave : S → List ℕ → Ty
   abbrev pub MaySave : List Record → List Call → Record → Type 0
   MaySave first calls r = (is_open calls ≡ true) × IsRecord me r × (may_follow powers (reverse (known first calls)) r ≡ true)
 
+  -- what a call does to its store
+  abbrev pub Does : Call → S → S → Type 0
+  Does (Opened rs) old new = HasOpened old new rs
+  Does (NotOpened fault) old new = KeepsEach powers me (may_leave old) (may_leave new) × (fault ≡ BadRecord → HasNoJournal powers me (may_leave old))
+  Does (Saved r) old new = WhereSaved me (seen old) r (λ powers rs. IsWhole powers me (seen new) (rs ++ r ∷ [])) × Only (seen new) (may_leave new)
+  Does (NotSaved r) old new = (seen new ≡ seen old) × NoMore (may_leave old) (may_leave new)
+  Does (Broken r) old new = WhereSaved me (seen old) r (λ powers rs. LeavesBeforeOrAfter powers me (may_leave new) rs r)
+  Does Left old new = NoMore (may_leave old) (may_leave new)
+
+  -- what a call wants of its caller
+  abbrev pub IsAsked : List Record → List Call → Call → Type 0
+  IsAsked first calls (Saved r) = MaySave first calls r
+  IsAsked first calls (Broken r) = MaySave first calls r
+  IsAsked first calls call = Unit {0}
+
   abbrev pub IsStep : List Record → List Call → Call → S → S → Type 0
-  IsStep first calls (Opened rs) old new = HasOpened old new rs
-  IsStep first calls (NotOpened fault) old new = KeepsEach powers me (may_leave old) (may_leave new) × (fault ≡ BadRecord → HasNoJournal powers me (may_leave old))
-  IsStep first calls (Saved r) old new = MaySave first calls r × WhereSaved me (seen old) r (λ powers rs. IsWhole powers me (seen new) (rs ++ r ∷ [])) × Only (seen new) (may_leave new)
-  IsStep first calls (NotSaved r) old new = (seen new ≡ seen old) × NoMore (may_leave old) (may_leave new)
-  IsStep first calls (Broken r) old new = MaySave first calls r × WhereSaved me (seen old) r (λ powers rs. LeavesBeforeOrAfter powers me (may_leave new) rs r)
-  IsStep first calls Left old new = NoMore (may_leave old) (may_leave new)
+  IsStep first calls call old new = IsAsked first calls call × Does call old new
 
   abbrev pub Happened : List Record → S → List (Call × S) → Type 0
   Happened first start [] = Unit {0}

@@ -1,14 +1,9 @@
 -- Which bytes are a journal of which records.
-use Rattle.std.specs.Prelude.{◌≡◌, ◌⊎◌, ℕ, ◌<◌, ◌≤◌, List, [], ◌++◌, length, take, drop, map, Result, Ok, Err}
-use Rattle.std.specs.Global.{Vec}
+use Rattle.std.specs.Prelude.{◌≡◌, ◌⊎◌, ℕ, ◌<◌, ◌≤◌, List, [], ◌++◌, length, take, drop}
 use Rattle.byteorder.specs.Endian.{big_number}
 use Rattle.protocol.specs.Messages.{Record}
-use Rattle.vote_journal.specs.declared.fault.JournalFault.{JournalFault}
-use Rattle.vote_journal.specs.declared.fault.JournalFault.TheVariants.{Failed, OutOfMemory, BadRecord}
-use Rattle.protocol.specs.declared.records.Record.{Record as Held}
 use Rattle.vote_journal.specs.declared.scanning.Front.{Front}
 use Rattle.vote_journal.specs.declared.scanning.Front.TheVariants as fronts
-use Rattle.protocol.specs.Records.{record_of}
 use Rattle.vote_journal.specs.Grammar.{header, framed, records_spelling}
 use Rattle.vote_journal.specs.Order.{AreLawful}
 
@@ -40,9 +35,6 @@ pub record IsWhole (powers : List ℕ) (me : ℕ) (bytes : List ℕ) (rs : List 
   pub same : bytes ≡ header ++ records_spelling me rs
   pub lawful : AreLawful powers me [] rs
 
-abbrev pub records_of : List Held → List Record
-records_of rs = map record_of rs
-
 -- ---- what the reader finds
 
 -- the record at the front, or that there is less than one, or that there can't be one
@@ -50,10 +42,3 @@ abbrev pub IsFront : List ℕ → Front → Type 0
 IsFront bytes fronts.Torn = IsTorn bytes
 IsFront bytes fronts.Bad = (IsTorn bytes → ⊥) × ((content after : List ℕ) → IsContent content → bytes ≡ framed content ++ after → ⊥)
 IsFront bytes (fronts.Whole content after) = IsContent content.now × (bytes ≡ framed content.now ++ after.now)
-
--- all records behind a header, and the length of the rest; or nothing that is told by these bytes
-abbrev pub IsScan : List ℕ → ℕ → List ℕ → Result (Vec Held × ℕ) JournalFault → Type 0
-IsScan powers me bytes (Ok found) = (s : Splits powers me bytes (records_of found.0.items)) × (length s.rest ≡ found.1)
-IsScan powers me bytes (Err BadRecord) = (rs : List Record) → Splits powers me bytes rs → ⊥
-IsScan powers me bytes (Err OutOfMemory) = Unit {0}
-IsScan powers me bytes (Err Failed) = ⊥

@@ -4,5 +4,9 @@ pub mod Order
 pub mod Layout
 pub mod Store
 pub mod Saving
+pub mod Kept
+pub mod Planning
 pub mod History
 pub mod Laws
+pub mod Stopping
+pub mod Serving

@@ -1,12 +1,11 @@
 -- What saving and opening leave.
-use Rattle.std.specs.Prelude.{◌≡◌, ◌⊎◌, ℕ, ◌+◌, Bool, true, false, List, [], ◌∷◌, ◌++◌, length, take, reverse, Result, Ok, Err}
+use Rattle.std.specs.Prelude.{◌≡◌, ◌⊎◌, ℕ, Bool, true, false, List, [], ◌∷◌, ◌++◌, take, reverse, Result, Ok, Err}
 use Rattle.protocol.specs.Messages.{Record}
 use Rattle.vote_journal.specs.declared.fault.JournalFault.{JournalFault}
 use Rattle.vote_journal.specs.declared.fault.JournalFault.TheVariants.{Failed, OutOfMemory, BadRecord}
-use Rattle.vote_journal.specs.declared.opening.Plan.{Plan}
 use Rattle.vote_journal.specs.Grammar.{header, IsRecord}
 use Rattle.vote_journal.specs.Order.{may_follow}
-use Rattle.vote_journal.specs.Layout.{IsBegunHeader, Splits, IsJournal, IsWhole, records_of}
+use Rattle.vote_journal.specs.Layout.{IsJournal, IsWhole}
 use Rattle.vote_journal.specs.Store.{Shortened, Begun, Grew}
 
 -- why a record is not saved: the device failed, and this holds; or memory was short, and that does
@@ -55,14 +54,3 @@ added false = []
 -- what opening may leave beside what stood: a shorter torn rest, or a beginning of the header
 abbrev pub BegunOpening : ℕ → Bool → List ℕ → List ℕ → Type 0
 BegunOpening keep fresh stood c = Shortened keep stood c ⊎ ((fresh ≡ true) × Begun (take keep stood) header c)
-
--- what is kept of the bytes, and that the header is missing
-abbrev pub PlanFor : Bool → List ℕ → ℕ → List ℕ → Plan → Type 0
-PlanFor true powers me bytes p = IsBegunHeader bytes × (p.records.items ≡ []) × (p.keep ≡ 0)
-PlanFor false powers me bytes p = (behind : List ℕ) × (bytes ≡ header ++ behind) × (s : Splits powers me behind (records_of p.records.items)) × (p.keep + length s.rest ≡ length bytes)
-
-abbrev pub IsPlan : List ℕ → ℕ → List ℕ → Result Plan JournalFault → Type 0
-IsPlan powers me bytes (Ok p) = PlanFor p.fresh powers me bytes p
-IsPlan powers me bytes (Err BadRecord) = (rs : List Record) → IsJournal powers me bytes rs → ⊥
-IsPlan powers me bytes (Err OutOfMemory) = Unit {0}
-IsPlan powers me bytes (Err Failed) = ⊥

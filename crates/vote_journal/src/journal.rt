@@ -80,9 +80,10 @@ impl<S: Store + Drop> Journal<S> {
         *failed
     }
 
-    /// The store, which can be opened again.
+    /// The store, which can be opened again. Unless the journal has failed, a stop leaves just what the store holds.
     pub fn close(self) -> S
-        ensures { result ≡ self.store }
+        ensures store { result ≡ self.store }
+        ensures synced { self.failed ≡ false → Only (S.seen result) (S.may_leave result) }
     {
         let Journal {
             alloc: _,

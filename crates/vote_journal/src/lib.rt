@@ -16,6 +16,7 @@
 
 mod fault;
 mod journal;
+mod keeping;
 mod laws;
 mod memory;
 mod opening;
@@ -27,7 +28,10 @@ mod store;
 
 pub use fault::JournalFault;
 pub use journal::Journal;
-pub use laws::{follows_law, journal_law, one_journal_law, stop_law, torn_law};
+pub use laws::{
+    follows_law, journal_law, kept_law, one_journal_law, served_law, stop_law,
+    stopped_headline_law, stopped_law, torn_law,
+};
 pub use memory::MemoryStore;
 pub use opening::{NotOpened, Opened};
 pub use reading::read_record;

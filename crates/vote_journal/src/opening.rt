@@ -1,27 +1,35 @@
 //! Opening a journal that a stop may have cut short.
 
-ghost use Rattle.std.specs.Prelude.{◌≡◌, ◌<◌, ◌≤◌, ◌++◌, ℕ, List, length, take, OnOk, IfOk, IfErr, IsErrOf, false};
+ghost use Rattle.std.specs.Prelude.{◌≡◌, ◌<◌, ◌≤◌, ◌++◌, ℕ, List, [], length, take, OnOk, IfOk, IfErr, IsErrOf, false};
 ghost use Rattle.std.specs.Str.{bytes_eq};
-ghost use Rattle.vote_journal.specs.Layout.{IsWhole, records_of};
+ghost use Rattle.protocol.specs.Messages.{Record as AnyRecord};
+ghost use Rattle.vote_journal.specs.Layout.{IsWhole};
 ghost use Rattle.vote_journal.specs.Store.{Only, Adds, Shortened, Grew, Counts, FailsBy};
-ghost use Rattle.vote_journal.specs.Saving.{added, BegunOpening, IsPlan, IsFoundIn, HasNoJournal, KeepsEach};
+ghost use Rattle.vote_journal.specs.Saving.{added, BegunOpening, HasNoJournal, KeepsEach};
+ghost use Rattle.vote_journal.specs.Kept.{Keeps, IsOpened};
+ghost use Rattle.vote_journal.specs.Planning.{IsPlan};
 
 use crate::fault::JournalFault;
 use crate::journal::Journal;
+use crate::keeping::Kept;
 use crate::scanning::read_records;
 use crate::store::{Store, StoreFault};
+use messages::Bundle;
 use powers::Powers;
-use protocol::Record;
+use protocol::OwnMessage;
 use std::alloc::Global;
 
 /// What a journal begins with: the ASCII text TMJ1.
 const HEADER: [u8; 4] = [0x54, 0x4d, 0x4a, 0x31];
 
-/// A journal that was opened, and its records, the oldest first.
+/// A journal that was opened, and what a restart needs of its records.
 #[derive(Drop)]
 pub struct Opened<S: Store + Drop> {
     pub journal: Journal<S>,
-    pub records: Vec<Record>,
+    /// All decisions, the oldest first: that of each height at the height's place.
+    pub decisions: Vec<Bundle>,
+    /// The own messages since the last decision, the oldest first.
+    pub own: Vec<OwnMessage>,
 }
 
 /// A store that was not opened, and why.
@@ -34,21 +42,21 @@ pub struct NotOpened<S: Drop> {
 /// What opening keeps of the bytes that it found.
 #[derive(Drop)]
 struct Plan {
-    records: Vec<Record>,
+    kept: Kept,
     keep: usize,
     fresh: bool,
 }
 
 impl Plan {
-    fn into_records(self) -> Vec<Record>
-        ensures { result ≡ self.records }
+    fn into_kept(self) -> Kept
+        ensures { result ≡ self.kept }
     {
         let Plan {
-            records,
+            kept,
             keep: _,
             fresh: _,
         } = self;
-        records
+        kept
     }
 }
 
@@ -68,7 +76,7 @@ fn short_plan(alloc: Global, bytes: &[u8]) -> Result<Plan, JournalFault>
         return Err(JournalFault::BadRecord);
     }
     Ok(Plan {
-        records: Vec::new(alloc),
+        kept: Kept::new(alloc),
         keep: 0,
         fresh: true,
     })
@@ -84,9 +92,9 @@ fn plan_of(alloc: Global, me: u16, powers: &Powers, bytes: &[u8]) -> Result<Plan
     if !same_bytes(front, &HEADER) {
         return Err(JournalFault::BadRecord);
     }
-    let (records, torn) = read_records(alloc, me, powers, behind)?;
+    let (kept, torn) = read_records(alloc, me, powers, behind)?;
     Ok(Plan {
-        records,
+        kept,
         keep: bytes.len() - torn,
         fresh: false,
     })
@@ -129,9 +137,8 @@ fn prepare<S: Store>(
     store: &mut S,
     me: u16,
     powers: &Powers,
-) -> Result<Vec<Record>, JournalFault>
-    ensures found { IfOk result (λ records. IsFoundIn powers.now me (S.may_leave store.old) (records_of records.items)) }
-    ensures whole { IfOk result (λ records. IsWhole powers.now me (S.seen store.new) (records_of records.items)) }
+) -> Result<Kept, JournalFault>
+    ensures opened { IfOk result (λ kept. IsOpened powers.now me (S.may_leave store.old) (S.seen store.new) kept.decisions.items kept.own.items) }
     ensures synced { OnOk result (Only (S.seen store.new) (S.may_leave store.new)) }
     ensures stop { KeepsEach powers.now me (S.may_leave store.old) (S.may_leave store.new) }
     ensures bad { IsErrOf result JournalFault.BadRecord → HasNoJournal powers.now me (S.may_leave store.old) }
@@ -144,7 +151,7 @@ fn prepare<S: Store>(
     };
     let plan = plan_of(alloc, me, powers, &bytes)?;
     match settle(store, bytes.len(), plan.keep, plan.fresh) {
-        Ok(()) => Ok(plan.into_records()),
+        Ok(()) => Ok(plan.into_kept()),
         Err(StoreFault::Device) => Err(JournalFault::Failed),
         Err(StoreFault::OutOfMemory) => Err(JournalFault::OutOfMemory),
     }
@@ -154,7 +161,7 @@ impl<S: Store + Drop> Journal<S> {
     /// Opens the journal of validator `me` on a store, as a stop or a `close` left it.
     ///
     /// What a stop left of a record that was cut short is cut away, a header that is missing or cut short is written,
-    /// and all is synced, whatever was done. Its records are those that its bytes spell.
+    /// and all is synced, whatever was done. What is kept is of the records that its bytes spell.
     ///
     /// Faults, with the store: `Failed` (1) where its device failed; `OutOfMemory` (2); `BadRecord` (3) where the bytes
     /// are no journal of this validator under these powers, cut short or not: another header, or a fault of a record as
@@ -166,8 +173,7 @@ impl<S: Store + Drop> Journal<S> {
         me: u16,
         powers: &Powers,
     ) -> Result<Opened<S>, NotOpened<S>>
-        ensures found { IfOk result (λ o. IsFoundIn powers.now me (S.may_leave store) (records_of o.records.items)) }
-        ensures whole { IfOk result (λ o. IsWhole powers.now me (S.seen o.journal.store) (records_of o.records.items)) }
+        ensures opened { IfOk result (λ o. IsOpened powers.now me (S.may_leave store) (S.seen o.journal.store) o.decisions.items o.own.items) }
         ensures state { IfOk result (λ o. (o.journal.me ≡ me) × (o.journal.failed ≡ false)) }
         ensures synced { IfOk result (λ o. Only (S.seen o.journal.store) (S.may_leave o.journal.store)) }
         // A stop leaves a journal of the same records, at whichever call it comes.
@@ -176,16 +182,38 @@ impl<S: Store + Drop> Journal<S> {
         ensures failed { IfErr result (λ e. e.fault ≡ JournalFault.Failed → Grew (S.failures store) (S.failures e.store)) }
     {
         match prepare(alloc, &mut store, me, powers) {
-            Ok(records) => Ok(Opened {
+            Ok(Kept { decisions, own }) => Ok(Opened {
                 journal: Journal {
                     alloc,
                     store,
                     me,
                     failed: false,
                 },
-                records,
+                decisions,
+                own,
             }),
             Err(fault) => Err(NotOpened { fault, store }),
         }
+    }
+}
+
+impl<S: Store + Drop> Opened<S> {
+    /// The journal, where there are no records at all: that of a validator which has said and decided nothing.
+    pub fn without_records(self) -> Result<Journal<S>, Opened<S>>
+        ensures same { IfOk result (λ journal. journal ≡ self.journal) }
+        ensures none { IfOk result (λ _. (self.decisions.items ≡ []) × (self.own.items ≡ [])) }
+        // So what stands whole is the journal of no record.
+        ensures empty { IfOk result (λ journal. (powers : List ℕ) (me : ℕ) (rs : List AnyRecord) → IsWhole powers me (S.seen self.journal.store) rs → Keeps rs self.decisions.items self.own.items → IsWhole powers me (S.seen journal.store) []) }
+        ensures some { IfErr result (λ o. (o ≡ self) × ((self.decisions.items ≡ []) → (self.own.items ≡ []) → ⊥)) }
+    {
+        if !self.decisions.is_empty() || !self.own.is_empty() {
+            return Err(self);
+        }
+        let Opened {
+            journal,
+            decisions: _,
+            own: _,
+        } = self;
+        Ok(journal)
     }
 }

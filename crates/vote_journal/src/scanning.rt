@@ -1,13 +1,14 @@
 //! The records of a journal, one after the other.
 
-ghost use Rattle.std.specs.Prelude.{◌≡◌, ◌&&◌, ◌++◌, ◌∷◌, [], nat_le, MatchResult};
-ghost use Rattle.vote_journal.specs.Layout.{IsFront, IsScan};
+ghost use Rattle.std.specs.Prelude.{◌≡◌, ◌&&◌, nat_le};
+ghost use Rattle.vote_journal.specs.Layout.{IsFront};
+ghost use Rattle.vote_journal.specs.Planning.{IsScan};
 
 use crate::fault::JournalFault;
+use crate::keeping::Kept;
 use crate::standing::Standing;
 use byteorder::{BigEndian, ByteOrder};
 use powers::Powers;
-use protocol::Record;
 use std::alloc::Global;
 
 /// The most bytes that a record has behind its length.
@@ -49,16 +50,8 @@ fn front_of(bytes: &[u8]) -> Front<'_>
     Front::Whole(content, after)
 }
 
-fn keep(records: &mut Vec<Record>, entry: Record) -> Result<(), JournalFault>
-    ensures { MatchResult result (λ _. records.new.items ≡ records.old.items ++ entry ∷ []) (λ e. e ≡ JournalFault.OutOfMemory) }
-{
-    match records.push(entry) {
-        Ok(()) => Ok(()),
-        Err(_) => Err(JournalFault::OutOfMemory),
-    }
-}
-
-/// The records of validator `me` behind a header, and how many bytes of a record that was cut short follow them.
+/// What is kept of the records of validator `me` behind a header, and how many bytes of a record that was cut short
+/// follow them.
 ///
 /// Faults: `BadRecord` (3) for a length of 0 or above 1,100,000, for what is no record of the validator, and for a record
 /// that may not follow those before it; `OutOfMemory` (2).
@@ -67,19 +60,19 @@ pub(crate) fn read_records(
     me: u16,
     powers: &Powers,
     bytes: &[u8],
-) -> Result<(Vec<Record>, usize), JournalFault>
+) -> Result<(Kept, usize), JournalFault>
     ensures { IsScan powers.now me bytes.now result }
 {
     let mut standing = Standing::new(alloc);
-    let mut records = Vec::new(alloc);
+    let mut kept = Kept::new(alloc);
     let mut rest = bytes;
     loop {
         match front_of(rest) {
-            Front::Torn => return Ok((records, rest.len())),
+            Front::Torn => return Ok((kept, rest.len())),
             Front::Bad => return Err(JournalFault::BadRecord),
             Front::Whole(content, after) => {
                 let entry = standing.take(alloc, me, powers, content)?;
-                keep(&mut records, entry)?;
+                kept.keep(entry)?;
                 rest = after;
             }
         }

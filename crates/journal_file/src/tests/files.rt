@@ -33,10 +33,10 @@ fn powers(rt: &HostRuntime) -> Result<Powers, Fail> {
     Ok(Powers::new(vec![in rt.alloc(); 1, 1, 1, 1]?)?)
 }
 
-/// How many records the file's journal has, once it is opened.
+/// How many own messages the file's journal has, once it is opened.
 fn count(rt: &HostRuntime, powers: &Powers) -> Result<usize, Fail> {
     match Journal::open(rt.alloc(), FileStore::open(rt, PATH)?, 2, powers) {
-        Ok(opened) => Ok(opened.records.len()),
+        Ok(opened) => Ok(opened.own.len()),
         Err(refused) => Err(refused.fault.into()),
     }
 }

@@ -103,11 +103,14 @@ fn decided(alloc: Global) -> Result<Vec<u8>, Fail> {
     Ok(bytes)
 }
 
-/// What a call left: the number of its fault or 0, how many records there are, and the bytes.
+/// What a call left: the number of its fault or 0, how many decisions and own messages are kept, whether the journal has
+/// failed, and the bytes.
 #[derive(Drop)]
 struct Outcome {
     fault: u8,
-    records: usize,
+    decisions: usize,
+    own: usize,
+    failed: bool,
     bytes: Vec<u8>,
 }
 
@@ -121,14 +124,24 @@ fn outcome_of(
     opened: Result<Opened<MemoryStore>, NotOpened<MemoryStore>>,
 ) -> Result<Outcome, AllocError> {
     match opened {
-        Ok(Opened { journal, records }) => Ok(Outcome {
+        Ok(
+            Opened {
+                journal,
+                decisions,
+                own,
+            },
+        ) => Ok(Outcome {
             fault: 0,
-            records: records.len(),
+            decisions: decisions.len(),
+            own: own.len(),
+            failed: journal.has_failed(),
             bytes: journal.close().bytes().to_vec(alloc)?,
         }),
         Err(NotOpened { fault, store }) => Ok(Outcome {
             fault: fault as u8,
-            records: 0,
+            decisions: 0,
+            own: 0,
+            failed: false,
             bytes: store.bytes().to_vec(alloc)?,
         }),
     }
@@ -145,7 +158,7 @@ fn opened(alloc: Global, bytes: &[u8], me: u16) -> Result<Outcome, Fail> {
     open_at(alloc, bytes, me, 0)
 }
 
-/// Opens the journal of validator 2 and saves the prevote for nil: the fault of the save, and 1 where the journal has
+/// Opens the journal of validator 2 and saves the prevote for nil: the fault of the save, and whether the journal has
 /// failed.
 fn save_at(alloc: Global, bytes: &[u8], failing: u64) -> Result<Outcome, Fail> {
     let powers = Powers::new(vec![in alloc; 1, 1, 1, 1]?)?;
@@ -154,13 +167,16 @@ fn save_at(alloc: Global, bytes: &[u8], failing: u64) -> Result<Outcome, Fail> {
         Ok(
             Opened {
                 mut journal,
-                records: _,
+                decisions,
+                own,
             },
         ) => {
             let fault = saved(&mut journal);
             Ok(Outcome {
                 fault,
-                records: usize::from(journal.has_failed()),
+                decisions: decisions.len(),
+                own: own.len(),
+                failed: journal.has_failed(),
                 bytes: journal.close().bytes().to_vec(alloc)?,
             })
         }
@@ -235,18 +251,29 @@ fn sizes_are(alloc: Global, sizes: &[usize; 4]) -> Result<bool, Fail> {
     )
 }
 
-fn is_outcome(found: &Outcome, fault: u8, records: usize, bytes: &[u8]) -> bool {
-    found.fault == fault && found.records == records && found.bytes.as_slice() == bytes
+/// Whether an opening answered Ok, kept so many decisions and own messages, and left these bytes.
+fn has_opened(found: &Outcome, decisions: usize, own: usize, bytes: &[u8]) -> bool {
+    found.fault == 0
+        && found.decisions == decisions
+        && found.own == own
+        && found.bytes.as_slice() == bytes
 }
 
-/// Whether the first bytes of the journal that decided open, with so many records, and so many bytes are kept.
-fn opens_cut(alloc: Global, len: usize, records: usize, kept: usize) -> Result<bool, Fail> {
+/// Whether the first bytes of the journal that decided open, with so many decisions and own messages, and so many bytes
+/// are kept.
+fn opens_cut(
+    alloc: Global,
+    len: usize,
+    decisions: usize,
+    own: usize,
+    kept: usize,
+) -> Result<bool, Fail> {
     let bytes = decided(alloc)?;
     let found = opened(alloc, &bytes.as_slice()[..len.min(bytes.len())], 3)?;
-    Ok(is_outcome(
+    Ok(has_opened(
         &found,
-        0,
-        records,
+        decisions,
+        own,
         &bytes.as_slice()[..kept.min(bytes.len())],
     ))
 }
@@ -256,18 +283,51 @@ fn saves_behind_a_cut(alloc: Global) -> Result<bool, Fail> {
     let whole = behind_header(alloc, &PREVOTE)?;
     let torn = &whole.as_slice()[..whole.len().min(9)];
     Ok(
-        is_outcome(&opened(alloc, torn, 2)?, 0, 0, &HEADER)
-            && is_outcome(&save_at(alloc, torn, 0)?, 0, 0, &whole),
+        has_opened(&opened(alloc, torn, 2)?, 0, 0, &HEADER)
+            && has_opened(&save_at(alloc, torn, 0)?, 0, 0, &whole),
     )
 }
 
 fn opens_headers(alloc: Global) -> Result<bool, Fail> {
     for len in 0..5 {
-        if !is_outcome(&opened(alloc, &HEADER[..len], 2)?, 0, 0, &HEADER) {
+        if !has_opened(&opened(alloc, &HEADER[..len], 2)?, 0, 0, &HEADER) {
             return Ok(false);
         }
     }
     Ok(true)
+}
+
+/// Whether a decision and the prevote for nil of height 1 behind it are kept, and no own message of height 0.
+fn keeps_what_follows(alloc: Global) -> Result<bool, Fail> {
+    let mut bytes = decided(alloc)?;
+    let later = Record::Own(OwnMessage {
+        height: 1,
+        round: 0,
+        act: Act::Prevoting(None),
+    });
+    bytes.extend_from_slice(&spell_record(alloc, 3, &later)?)?;
+    Ok(has_opened(&opened(alloc, &bytes, 3)?, 1, 1, &bytes))
+}
+
+/// Whether these bytes of validator 3 open as a journal without records.
+fn has_no_records(alloc: Global, bytes: &[u8]) -> Result<bool, Fail> {
+    let powers = Powers::new(vec![in alloc; 1, 1, 1, 1]?)?;
+    match Journal::open(alloc, store(alloc, bytes, 0)?, 3, &powers) {
+        Ok(opened) => Ok(opened.without_records().is_ok()),
+        Err(_) => Err("not opened".into()),
+    }
+}
+
+/// Whether a journal without records is told from one with an own message and from one with a decision.
+fn nothing_is_told(alloc: Global) -> Result<bool, Fail> {
+    let decided = decided(alloc)?;
+    let said = &decided.as_slice()[..57.min(decided.len())];
+    Ok(
+        has_no_records(alloc, &[])?
+            && has_no_records(alloc, &HEADER)?
+            && !has_no_records(alloc, said)?
+            && !has_no_records(alloc, &decided)?,
+    )
 }
 
 /// Whether the prevote for nil twice is refused.
@@ -293,19 +353,15 @@ fn refuses_a_lock_of_nil(alloc: Global) -> Result<bool, Fail> {
 
 /// Whether what opening leaves is this, where the call of this number fails.
 fn fails_opening(alloc: Global, bytes: &[u8], failing: u64, left: &[u8]) -> Result<bool, Fail> {
-    Ok(is_outcome(&open_at(alloc, bytes, 2, failing)?, 1, 0, left))
+    let found = open_at(alloc, bytes, 2, failing)?;
+    Ok(found.fault == 1 && found.bytes.as_slice() == left)
 }
 
-/// Whether a save fails where the call of this number does, and what is left then opens with so many records.
-fn fails_saving(alloc: Global, failing: u64, len: usize, records: usize) -> Result<bool, Fail> {
+/// Whether a save fails where the call of this number does, and what is left then opens with so many own messages.
+fn fails_saving(alloc: Global, failing: u64, len: usize, own: usize) -> Result<bool, Fail> {
     let failed = save_at(alloc, &HEADER, failing)?;
     let again = opened(alloc, &failed.bytes, 2)?;
-    Ok(
-        failed.fault == 1
-            && failed.records == 1
-            && failed.bytes.len() == len
-            && again.records == records,
-    )
+    Ok(failed.fault == 1 && failed.failed && failed.bytes.len() == len && again.own == own)
 }
 
 /// Whether opening ends with this fault, where the call of this number fails.
@@ -396,13 +452,25 @@ fn worked_sizes(rt: HostRuntime) -> Result<(), Fail> {
 
 #[test]
 fn whole_journal(rt: HostRuntime) -> Result<(), Fail> {
-    assert!(rt; opens_cut(rt.alloc(), 848, 3, 848)?);
+    assert!(rt; opens_cut(rt.alloc(), 848, 1, 0, 848)?);
     Ok(())
 }
 
 #[test]
 fn decision_cut_short(rt: HostRuntime) -> Result<(), Fail> {
-    assert!(rt; opens_cut(rt.alloc(), 847, 2, 256)?);
+    assert!(rt; opens_cut(rt.alloc(), 847, 0, 2, 256)?);
+    Ok(())
+}
+
+#[test]
+fn decision_lets_go_of_messages(rt: HostRuntime) -> Result<(), Fail> {
+    assert!(rt; keeps_what_follows(rt.alloc())?);
+    Ok(())
+}
+
+#[test]
+fn nothing_saved_yet(rt: HostRuntime) -> Result<(), Fail> {
+    assert!(rt; nothing_is_told(rt.alloc())?);
     Ok(())
 }
 
