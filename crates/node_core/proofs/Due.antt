@@ -13,7 +13,8 @@ use Rattle.protocol.specs.World.{tried}
 use Rattle.protocol.specs.History.{Due}
 use Rattle.protocol.specs.Effects.{timeouts_taken, timeouts_of}
 use Rattle.node_core.specs.Core.{Core, Stands, setting_of, context_of, frame_by}
-use Rattle.node_core.specs.Calls.{IsTaken, HasFiredOnce}
+use Rattle.node_core.specs.Calls.{IsRefusal, IsTaken, HasFiredOnce}
+use Rattle.node_core.specs.Named.{of_unkept}
 use Rattle.node_core.proofs.Stepwise.{same_itself}
 
 pub due_fired : (n : Node) (t : Timeout) (old new : Core) → Stands n old → holds (context_of old) old.machine.state (TimedOut t) ≡ true → HasFiredOnce n (TimedOut t) old new → IsTaken n (Due t) old new
@@ -49,3 +50,12 @@ some_refused cause unkept.RoundLimit h = (_, h)
 some_refused cause unkept.RoundAhead h = (_, h)
 some_refused cause unkept.WrongProposer h = (_, h)
 some_refused cause unkept.OutOfMemory h = absurd h
+
+pub timeout_refused : (cause : Option Refusal) (r : Unkept) → IsTimeoutRefusal cause (Some r) → IsRefusal cause (of_unkept r)
+timeout_refused cause unkept.OtherHeight h = h
+timeout_refused cause unkept.VoterFull h = h
+timeout_refused cause unkept.Repeat h = h
+timeout_refused cause unkept.RoundLimit h = h
+timeout_refused cause unkept.RoundAhead h = h
+timeout_refused cause unkept.WrongProposer h = h
+timeout_refused cause unkept.OutOfMemory h = absurd h

@@ -1,31 +1,42 @@
 -- What a firing leaves of a state.
-use Rattle.std.proofs.Common.{◌≡◌, ℕ, zero, suc, ◌+◌, Bool, true, false, cond, not, List, [], ◌∷◌, ◌++◌, map, length, All, Option, Some, None, refl, sym, ap, subst, ◌∙◌, option_to_list, length-append, arith}
+use Rattle.std.proofs.Common.{◌≡◌, ℕ, zero, suc, ◌+◌, Bool, true, false, cond, not, List, [], ◌∷◌, ◌++◌, map, reverse, length, All, IfSome, Option, Some, None, refl, sym, ap, subst, ◌∙◌, option_to_list, length-append, arith}
 use Rattle.std.specs.Prelude.{◌==◌}
 use Rattle.std.proofs.lemmas.Bool.{cond_both}
-use Rattle.std.proofs.lemmas.List.{append-nil}
+use Rattle.std.proofs.lemmas.List.{append-nil, reverse-append, reverse-reverse}
 use Rattle.std.proofs.lemmas.List.Concat.{flat_map-append}
 use Rattle.std.proofs.lemmas.List.Elements.{All-append}
 use Rattle.powers.specs.Power.{proposer}
 use Rattle.messages.specs.declared.body.Body.{Body}
 use Rattle.messages.specs.declared.body.Body.TheVariants.{Tx as OfTx, Proposal as OfProposal, Vote as OfVote, Ask as OfAsk, Bundle as OfBundle}
 use Rattle.protocol.specs.Values.{Value, items}
-use Rattle.protocol.specs.Messages.{◌∈◌, Record, Own, Decided, Bundle, step_eq}
+use Rattle.protocol.specs.Tags.{Setting, Validator}
+use Rattle.protocol.specs.Messages.{◌∈◌, Act, Proposing, Prevoting, Precommitting, Record, Own, Decided, Bundle, step_eq, body_of, sender_of}
 use Rattle.protocol.specs.declared.types.Step.{Step}
 use Rattle.protocol.specs.declared.types.Step.TheVariants.{Propose, Prevote, Precommit}
 use Rattle.protocol.specs.declared.types.Stamp.{Stamp}
 use Rattle.protocol.specs.declared.types.ValueAt.{ValueAt}
 use Rattle.protocol.specs.declared.types.Timeout.{Timeout}
 use Rattle.protocol.specs.State.{Context, State, Node, Queue, Rule, Start, PrevoteFresh, PrevoteAgain, AwaitPrevotes, Lock, PrecommitNil, AwaitPrecommits, Decide, DecideByBundle, SkipRound, TimedOut}
-use Rattle.protocol.specs.Rules.{changed, times_out, fired, keeping_own, released_by, saved, starts, proposal_of, scheduled}
+use Rattle.protocol.specs.Rules.{changed, times_out, fired, holds, keeping_own, released_by, saved, starts, proposal_of, scheduled}
+use Rattle.protocol.specs.Restart.{own_since}
 use Rattle.protocol.specs.Queues.{pick, drop_delivered, all_waiting}
-use Rattle.protocol.specs.Arrivals.{is_decision, queues_after}
+use Rattle.protocol.specs.Arrivals.{is_decision, queues_after, firing}
 use Rattle.protocol.proofs.Waiting.{dropped_in}
-use Rattle.messages.specs.Grammar.{IsBundle}
+use Rattle.messages.specs.Grammar.{IsBody, IsBundle}
 use Rattle.round_states.specs.Machine.{Agrees}
 use Rattle.round_states.specs.Pending.{Pending, pending_of}
-use Rattle.node_core.specs.Core.{Core, Stands, IsSame, IsSound, IsOf, IsStamp, delivered_in, setting, setting_of, context_of, frame_by}
-use Rattle.node_core.specs.Calls.{HasFiredOnce}
-use Rattle.node_core.specs.Firing.{decided_by, is_empty}
+use Rattle.round_states.specs.Saving.{Wrote}
+use Rattle.vote_journal.specs.Grammar.{IsRecord}
+use Rattle.vote_journal.specs.Order.{may_follow}
+use Rattle.vote_journal.specs.Layout.{IsWhole}
+use Rattle.vote_journal.specs.Laws.{EachFollows, IsLawful}
+use Rattle.vote_journal.specs.Saving.{WhereSaved}
+use Rattle.vote_journal.proofs.Following.{fired_lawful}
+use Rattle.vote_journal.proofs.Stops.{one_journal, whole_is_journal}
+use Rattle.node_core.specs.Saving.{HasSaved, Saves}
+use Rattle.node_core.specs.Core.{Core, JournalSeen, Stands, IsSame, IsSaid, IsKept, IsSound, IsOf, IsStamp, delivered_in, setting, setting_of, context_of, frame_by}
+use Rattle.node_core.specs.Calls.{HasFiredOnce, Serves}
+use Rattle.node_core.specs.Firing.{decided_by, said_after, said_by, is_empty}
 use Rattle.node_core.proofs.Stepwise.{same_setting}
 use Rattle.protocol.specs.Effects.{bundles_in}
 
@@ -144,6 +155,65 @@ pending_decided me None = refl
 pending_decided me (Some (Own h r act)) = refl
 pending_decided me (Some (Decided b)) = refl
 
+-- ---- what is saved
+
+-- it has a spelling
+abbrev pub OptionRecord : ℕ → Option Record → Type 0
+OptionRecord me None = Unit {0}
+OptionRecord me (Some r) = IsRecord me r
+
+-- the journal has it, if there is one
+abbrev pub IsWritten : Option Record → JournalSeen → JournalSeen → Type 0
+IsWritten None old new = new ≡ old
+IsWritten (Some r) old new = HasSaved r old new
+
+pub wrote_written : (me : ℕ) (wrote : Option Record) (old new : JournalSeen) → Wrote Saves (pending_of me wrote) old new → IsWritten wrote old new
+wrote_written me None old new w = w
+wrote_written me (Some r) old new w = w
+
+pub written_me : (wrote : Option Record) (old new : JournalSeen) → IsWritten wrote old new → new.me ≡ old.me
+written_me None old new w = ap (λ (j : JournalSeen). j.me) w
+written_me (Some r) old new w = w.me
+
+pub written_serves : (wrote : Option Record) (old new : JournalSeen) → IsWritten wrote old new → Serves old new
+written_serves None old new w = record { failed = ap (λ (j : JournalSeen). j.failed) w; failures = ap (λ (j : JournalSeen). j.failures) w }
+written_serves (Some r) old new w = record { failed = w.failed; failures = w.failures }
+
+written_whole : (powers : List ℕ) (me : ℕ) (wrote : Option Record) (j : List Record) (old new : JournalSeen) → old.me ≡ me → IsWhole powers me old.bytes (reverse j) → IsWritten wrote old new → OptionRecord me wrote → EachFollows powers (option_to_list wrote ++ j)
+    → IsWhole powers me new.bytes (reverse (option_to_list wrote ++ j))
+written_whole powers me None j old new em w written r f = subst (λ (x : JournalSeen). IsWhole powers me x.bytes (reverse j)) (sym written) w
+written_whole powers me (Some r) j old new em w written fits f =
+    let more = subst (λ i. WhereSaved i old.bytes r (λ powers rs. IsWhole powers i new.bytes (rs ++ r ∷ []))) em written.whole in
+    subst (IsWhole powers me new.bytes) (sym (reverse-append (r ∷ []) j)) (more powers (reverse j) w fits (subst (λ (l : List Record). may_follow powers l r ≡ true) (sym (reverse-reverse j)) f.0))
+
+-- the own messages of the height after it
+abbrev pub said_of : ℕ → Option Record → List Body → List Body
+said_of me None said = said
+said_of me (Some r) said = said_after me r said
+
+saved_said : (me : ℕ) (wrote : Option Record) (journal : List Record) → own_since me (option_to_list wrote ++ journal) ≡ said_of me wrote (own_since me journal)
+saved_said me None journal = refl
+saved_said me (Some (Own h r act)) journal = refl
+saved_said me (Some (Decided b)) journal = refl
+
+pub pending_said : (me : ℕ) (wrote : Option Record) (said : List Body) → said_by (pending_of me wrote) said ≡ said_of me wrote said
+pending_said me None said = refl
+pending_said me (Some r) said = refl
+
+one_said : (P : Body → Type 0) (b : Body) → P b → All P (b ∷ [])
+one_said P b h zero d lt = h
+one_said P b h (suc i) d lt = absurd (omega (arith, lt))
+
+pub act_own : (me h r : ℕ) (act : Act) → sender_of (body_of me h r act) ≡ Validator me
+act_own me h r (Proposing x v) = refl
+act_own me h r (Prevoting x) = refl
+act_own me h r (Precommitting v) = refl
+
+said_all : (me : ℕ) (wrote : Option Record) (said : List Body) → IfSome (released_by me wrote) IsBody → All (IsSaid me) said → All (IsSaid me) (said_of me wrote said)
+said_all me None said b all = all
+said_all me (Some (Own h r act)) said b all = All-append (IsSaid me) said (body_of me h r act ∷ []) all (one_said (IsSaid me) (body_of me h r act) (record { spelled = b; own = act_own me h r act }))
+said_all me (Some (Decided x)) said b all = λ i d lt. absurd (omega arith)
+
 -- ---- a core after a firing
 
 -- what the firing of a rule makes of a core
@@ -155,13 +225,61 @@ pub record IsFiredTo (k : Rule) (old new : Core) : Type 0 where
   pub decisions : new.decisions ≡ old.decisions ++ decided_in (saved (context_of old) (pick old.queues) old.machine.state k)
   pub outgoing : new.outgoing ≡ old.outgoing ++ map (frame_by old) (option_to_list (released_by old.machine.me (saved (context_of old) (pick old.queues) old.machine.state k)))
   pub scheduled : new.scheduled ≡ old.scheduled ++ option_to_list (scheduled (context_of old) old.machine.state k)
+  pub said : new.said ≡ said_of old.machine.me (saved (context_of old) (pick old.queues) old.machine.state k) old.said
+  pub journal : IsWritten (saved (context_of old) (pick old.queues) old.machine.state k) old.journal new.journal
+
+-- what a core is before a rule fires that holds, whose record can be spelled
+pub record MayFire (k : Rule) (core : Core) : Type 0 where
+  pub sound : IsSound core
+  pub running : core.journal.failed ≡ false
+  pub holds : holds (context_of core) core.machine.state k ≡ true
+  pub fits : OptionRecord core.machine.me (saved (context_of core) (pick core.queues) core.machine.state k)
+
+-- ---- its journal
+
+relawful : (c : Setting) (p : ℕ) (n m : Node) → m.state ≡ n.state → m.journal ≡ n.journal → IsLawful c p n → IsLawful c p m
+relawful c p n m es ej l = record { tied = rw (es, ej) l.tied; keeps = rw es l.keeps; follows = rw ej l.follows; made = rw ej l.made }
+
+-- the node that a core's journal makes it
+abbrev pub node_of : Core → List Record → Node
+node_of core records = record { state = core.machine.state; queues = core.queues; journal = records }
+
+fired_journal : (k : Rule) (old : Core) (m : MayFire k old) → IsLawful (setting_of old) old.machine.me (firing (setting_of old) old.machine.me (node_of old (m.sound.kept m.running).records) k).node
+fired_journal k old m = fired_lawful (setting_of old) old.machine.me (node_of old (m.sound.kept m.running).records) k (m.sound.kept m.running).lawful m.holds
+
+pub same_context : (old new : Core) → IsSame old new → context_of new ≡ context_of old
+same_context old new s = rw (s.powers, s.me, s.ring) refl
+
+fired_whole : (k : Rule) (old new : Core) (f : IsFiredTo k old new) (m : MayFire k old) → IsWhole old.machine.powers old.machine.me new.journal.bytes (reverse (option_to_list (saved (context_of old) (pick old.queues) old.machine.state k) ++ (m.sound.kept m.running).records))
+unfolding setting
+fired_whole k old new f m =
+    let kept = m.sound.kept m.running in
+    written_whole old.machine.powers old.machine.me (saved (context_of old) (pick old.queues) old.machine.state k) kept.records old.journal new.journal m.sound.journal kept.whole f.journal m.fits (fired_journal k old m).follows
+
+fired_kept : (k : Rule) (old new : Core) → IsFiredTo k old new → MayFire k old → IsKept new
+fired_kept k old new f m =
+    let kept = m.sound.kept m.running in
+    let records : List Record = option_to_list (saved (context_of old) (pick old.queues) old.machine.state k) ++ kept.records in
+    record {
+      records = records;
+      whole = rw (f.same.powers, f.same.me) (fired_whole k old new f m);
+      lawful = rw (same_setting old new f.same, f.same.me) (relawful (setting_of old) old.machine.me _ (node_of new records) f.state refl (fired_journal k old m));
+    }
+
+-- the journal of a node that the core stands for
+pub same_journal : (n : Node) (core : Core) → Stands n core → core.journal.failed ≡ false → (k : IsKept core) → n.journal ≡ k.records
+same_journal n core s running k =
+    let is = one_journal core.machine.powers core.machine.me core.journal.bytes (reverse n.journal) (reverse k.records)
+    (whole_is_journal core.machine.powers core.machine.me core.journal.bytes (reverse n.journal) (s.journal running))
+    (whole_is_journal core.machine.powers core.machine.me core.journal.bytes (reverse k.records) k.whole) in
+    sym (reverse-reverse n.journal) ∙ ap reverse is ∙ reverse-reverse k.records
 
 flipped : (b : Bool) (xs ys : List Queue) → cond (not b) xs ys ≡ cond b ys xs
 flipped true xs ys = refl
 flipped false xs ys = refl
 
-pub fired_once : (n : Node) (k : Rule) (old new : Core) → IsFiredTo k old new → Stands n old → HasFiredOnce n k old new
-fired_once n k old new f s =
+pub fired_once : (n : Node) (k : Rule) (old new : Core) → IsFiredTo k old new → MayFire k old → Stands n old → HasFiredOnce n k old new
+fired_once n k old new f m s =
     let wrote : Option Record = saved (context_of old) (pick old.queues) old.machine.state k in
     let d = decides (context_of old) (pick old.queues) old.machine.state k in
     let queues : new.queues ≡ queues_after (fired (context_of old) (pick old.queues) old.machine.state k) k old.queues =
@@ -171,17 +289,18 @@ fired_once n k old new f s =
         state = rw (← s.state, ← s.queues) f.state;
         queues = rw (← s.state, ← s.queues) queues;
         decisions = f.decisions ∙ ap (λ l. l ++ decided_in wrote) s.decisions ∙ sym (saved_bundles wrote n.journal) ∙ (rw (← s.state, ← s.queues) refl);
+        said = f.said ∙ ap (said_of old.machine.me wrote) s.said ∙ sym (saved_said old.machine.me wrote n.journal) ∙ (rw (f.same.me, ← s.state, ← s.queues) refl);
+        journal = λ _. rw (f.same.powers, f.same.me, ← s.state, ← s.queues, same_journal n old s m.running (m.sound.kept m.running)) (fired_whole k old new f m);
       };
       outgoing = rw (← s.state, ← s.queues) f.outgoing;
       scheduled = rw (← s.state) f.scheduled;
       same = f.same;
     }
 
-pub same_context : (old new : Core) → IsSame old new → context_of new ≡ context_of old
-same_context old new s = rw (s.powers, s.me, s.ring) refl
-
-pub fired_sound : (k : Rule) (old new : Core) → IsFiredTo k old new → IsSound old → All IsBundle (decided_in (saved (context_of old) (pick old.queues) old.machine.state k)) → All (IsOf old.machine.me) (decided_in (saved (context_of old) (pick old.queues) old.machine.state k)) → IsSound new
-fired_sound k old new f s spelled own =
+pub fired_sound : (k : Rule) (old new : Core) → IsFiredTo k old new → MayFire k old → All IsBundle (decided_in (saved (context_of old) (pick old.queues) old.machine.state k)) → All (IsOf old.machine.me) (decided_in (saved (context_of old) (pick old.queues) old.machine.state k))
+    → IfSome (released_by old.machine.me (saved (context_of old) (pick old.queues) old.machine.state k)) IsBody → IsSound new
+fired_sound k old new f m spelled own said =
+    let s : IsSound old = m.sound in
     let wrote : Option Record = saved (context_of old) (pick old.queues) old.machine.state k in
     let d = decides (context_of old) (pick old.queues) old.machine.state k in
     let same : setting_of new ≡ setting_of old = same_setting old new f.same in
@@ -199,6 +318,9 @@ fired_sound k old new f s spelled own =
       decided = rw (f.decisions, f.state, d.height) (let e = length-append old.decisions (decided_in wrote) in omega (arith, e, s.decided));
       spelled = rw f.decisions (All-append IsBundle old.decisions (decided_in wrote) s.spelled spelled);
       own = rw (f.decisions, f.same.me) (All-append (IsOf old.machine.me) old.decisions (decided_in wrote) s.own own);
+      said = rw (f.said, f.same.me) (said_all old.machine.me wrote old.said said s.said);
+      journal = written_me wrote old.journal new.journal f.journal ∙ s.journal ∙ sym f.same.me;
+      kept = λ _. fired_kept k old new f m;
     }
 
 -- ---- from what the parts of a firing ensure
@@ -209,9 +331,10 @@ pub fired_to : (k : Rule) (old new : Core) (v : Value) (pending : Option Pending
     → pending ≡ pending_of old.machine.me (saved (context_of old) v old.machine.state k) → timeout ≡ scheduled (context_of old) old.machine.state k
     → new.queues ≡ cond (is_empty (decided_by pending)) old.queues (drop_delivered new.machine.state.delivered old.queues) → new.decisions ≡ old.decisions ++ decided_by pending
     → new.outgoing ≡ old.outgoing ++ map (frame_by old) (option_to_list (released_by old.machine.me (saved (context_of old) v old.machine.state k))) → new.scheduled ≡ old.scheduled ++ option_to_list timeout
+    → new.said ≡ said_by pending old.said → Wrote Saves (pending_of old.machine.me (saved (context_of old) v old.machine.state k)) old.journal new.journal
     → IsFiredTo k old new
 unfolding setting
-fired_to k old new v pending timeout same state agrees ring unsaved timed queues decisions outgoing scheduling =
+fired_to k old new v pending timeout same state agrees ring unsaved timed queues decisions outgoing scheduling saying wrote_it =
     let g : Context = context_of old in
     let wrote : Option Record = saved g (pick old.queues) old.machine.state k in
     let d : decided_by pending ≡ decided_in wrote = ap decided_by unsaved ∙ pending_decided old.machine.me (saved g v old.machine.state k) ∙ ap decided_in same in
@@ -223,6 +346,8 @@ fired_to k old new v pending timeout same state agrees ring unsaved timed queues
       decisions = decisions ∙ ap (λ l. old.decisions ++ l) d;
       outgoing = outgoing ∙ ap (λ w. old.outgoing ++ map (frame_by old) (option_to_list (released_by old.machine.me w))) same;
       scheduled = scheduling ∙ ap (λ o. old.scheduled ++ option_to_list o) timed;
+      said = saying ∙ ap (λ o. said_by o old.said) unsaved ∙ pending_said old.machine.me (saved g v old.machine.state k) old.said ∙ ap (λ o. said_of old.machine.me o old.said) same;
+      journal = wrote_written old.machine.me wrote old.journal new.journal (subst (λ o. Wrote Saves (pending_of old.machine.me o) old.journal new.journal) same wrote_it);
     }
 
 pub empty_nil : (bs : List Bundle) → is_empty bs ≡ true → bs ≡ []

@@ -1,5 +1,5 @@
 -- A frame that is handed in: its message is taken in, or it is refused.
-use Rattle.std.proofs.Common.{◌≡◌, ℕ, List, ◌++◌, map, inl, inr, ◌⊎◌, Option, Some, None, Result, Ok, Err, refl, sym, ap, subst, ◌∙◌}
+use Rattle.std.proofs.Common.{◌≡◌, ◌≢◌, ℕ, List, ◌++◌, map, inl, inr, ◌⊎◌, Option, Some, None, Result, Ok, Err, refl, sym, ap, subst, ◌∙◌}
 use Rattle.std.proofs.lemmas.List.{append-nil}
 use Rattle.messages.specs.Framing.{message_of}
 use Rattle.protocol.specs.Tags.{Setting}
@@ -17,7 +17,7 @@ use Rattle.height_catchup.specs.declared.judging.JudgeFault.TheVariants as judge
 use Rattle.node_core.specs.declared.refusal.Refusal.{Refusal as Answer}
 use Rattle.node_core.specs.declared.refusal.Refusal.TheVariants as answers
 use Rattle.node_core.specs.Core.{Core, Stands, setting_of, frame_by}
-use Rattle.node_core.specs.Calls.{IsRefusal, IsReceived, IsTaken, IsDone}
+use Rattle.node_core.specs.Calls.{IsRefusal, IsReceived, IsTaken, IsNotTaken, IsDone}
 use Rattle.node_core.specs.Named.{of_inadmissible}
 use Rattle.node_core.proofs.Arrivals.{comes_in, answers_by}
 use Rattle.node_core.proofs.Stepwise.{same_itself, none_fired, stands_counted, called, taken_counted}
@@ -43,39 +43,41 @@ refused_taken n frame r old s e =
     }
 
 -- an answer tells a cause, or want of memory
-told : (cause : Option Refusal) (r : Answer) → IsRefusal cause r → ((x : Refusal) × (cause ≡ Some x)) ⊎ (r ≡ answers.OutOfMemory)
-told cause answers.Truncated h = inl (_, h)
-told cause answers.TooLong h = inl (_, h)
-told cause answers.BadKind h = inl (_, h)
-told cause answers.BadSpelling h = inl (_, h)
-told cause answers.UnknownSender h = inl (_, h)
-told cause answers.BadTag h = inl (_, h)
-told cause answers.OtherHeight h = inl (_, h)
-told cause answers.VoterFull h = inl (_, h)
-told cause answers.Repeat h = inl (_, h)
-told cause answers.RoundLimit h = inl (_, h)
-told cause answers.RoundAhead h = inl (_, h)
-told cause answers.WrongProposer h = inl (_, h)
-told cause (answers.Submit submits.UnknownClient) h = inl (_, h)
-told cause (answers.Submit submits.BadTag) h = inl (_, h)
-told cause (answers.Submit submits.OldNumber) h = inl (_, h)
-told cause (answers.Submit submits.Gap) h = inl (_, h)
-told cause (answers.Submit submits.Closed) h = inl (_, h)
-told cause (answers.Submit submits.QueueFull) h = inl (_, h)
-told cause (answers.Submit submits.TooLong) h = inl (_, h)
-told cause (answers.Submit submits.OutOfMemory) h = absurd h
-told cause (answers.Bundle judges.NoQuorum) h = inl (_, h)
-told cause (answers.Bundle judges.WrongDigest) h = inl (_, h)
-told cause (answers.Bundle judges.BadTag) h = inl (_, h)
-told cause (answers.Bundle judges.NotValid) h = inl (_, h)
-told cause (answers.Bundle judges.OutOfMemory) h = absurd h
-told cause answers.OutOfMemory h = inr refl
+told : (cause : Option Refusal) (r : Answer) → IsRefusal cause r → (r ≢ answers.JournalFailed) → ((x : Refusal) × (cause ≡ Some x)) ⊎ (r ≡ answers.OutOfMemory)
+told cause answers.Truncated h other = inl (_, h)
+told cause answers.TooLong h other = inl (_, h)
+told cause answers.BadKind h other = inl (_, h)
+told cause answers.BadSpelling h other = inl (_, h)
+told cause answers.UnknownSender h other = inl (_, h)
+told cause answers.BadTag h other = inl (_, h)
+told cause answers.OtherHeight h other = inl (_, h)
+told cause answers.VoterFull h other = inl (_, h)
+told cause answers.Repeat h other = inl (_, h)
+told cause answers.RoundLimit h other = inl (_, h)
+told cause answers.RoundAhead h other = inl (_, h)
+told cause answers.WrongProposer h other = inl (_, h)
+told cause (answers.Submit submits.UnknownClient) h other = inl (_, h)
+told cause (answers.Submit submits.BadTag) h other = inl (_, h)
+told cause (answers.Submit submits.OldNumber) h other = inl (_, h)
+told cause (answers.Submit submits.Gap) h other = inl (_, h)
+told cause (answers.Submit submits.Closed) h other = inl (_, h)
+told cause (answers.Submit submits.QueueFull) h other = inl (_, h)
+told cause (answers.Submit submits.TooLong) h other = inl (_, h)
+told cause (answers.Submit submits.OutOfMemory) h other = absurd h
+told cause (answers.Bundle judges.NoQuorum) h other = inl (_, h)
+told cause (answers.Bundle judges.WrongDigest) h other = inl (_, h)
+told cause (answers.Bundle judges.BadTag) h other = inl (_, h)
+told cause (answers.Bundle judges.NotValid) h other = inl (_, h)
+told cause (answers.Bundle judges.OutOfMemory) h other = absurd h
+told cause answers.Halted h other = absurd h
+told cause answers.OutOfMemory h other = inr refl
+told cause answers.JournalFailed h other = absurd (other refl)
 
 -- what was refused is done: nothing but that no rule was fired
-pub refused_done : (n : Node) (frame : List ℕ) (r : Answer) (old : Core) → Stands n old → IsRefusal (answer (setting_of old) old.machine.me n frame) r → IsDone n (Given frame) (Err r) old (record old { fired = 0 })
-refused_done n frame r old s h = elim (told (answer (setting_of old) old.machine.me n frame) r h) [
+pub refused_done : (n : Node) (frame : List ℕ) (r : Answer) (old : Core) → Stands n old → IsRefusal (answer (setting_of old) old.machine.me n frame) r → r ≢ answers.JournalFailed → IsDone n (Given frame) (Err r) old (record old { fired = 0 })
+refused_done n frame r old s h other = elim (told (answer (setting_of old) old.machine.me n frame) r h other) [
   | inl e ↦ (let t = refused_taken n frame e.0 old s e.1 in inl (0, called n (Given frame) 0 old (record old { fired = 0 }) (record old { fired = 0 }) (taken_counted n (Given frame) old 0 t) (none_fired _ (record old { fired = 0 }) (stands_counted _ old 0 t.stands)) refl))
-  | inr e ↦ inr (ap Err e, refl)
+  | inr e ↦ inr (subst (λ x. IsNotTaken (Err x) old (record old { fired = 0 })) (sym e) refl)
 ]
 
 -- the gate's refusal is the node's

@@ -13,3 +13,7 @@ pub mod Due
 pub mod Given
 pub mod Judged
 pub mod Asks
+pub mod Recorded
+pub mod Unsaid
+pub mod Telling
+pub mod Called

@@ -1,11 +1,14 @@
 -- What stays sound as a transaction is queued.
-use Rattle.std.proofs.Common.{◌≡◌, ℕ, zero, suc, true, List, inl, inr, None, refl, sym, ap, subst, ◌∙◌}
+use Rattle.std.proofs.Common.{◌≡◌, ℕ, zero, suc, true, false, List, inl, inr, None, refl, sym, ap, subst, ◌∙◌}
 use Rattle.std.specs.Prelude.{is_none}
 use Rattle.std.proofs.lemmas.Bool.{not-false}
 use Rattle.transactions.specs.Grammar.{IsTx}
 use Rattle.protocol.specs.Values.{Tx, Item}
 use Rattle.protocol.specs.Tags.{Setting, tx_is_right}
-use Rattle.protocol.specs.State.{Queue}
+use Rattle.protocol.specs.State.{State, Queue}
+use Rattle.protocol.specs.Messages.{Message}
+use Rattle.protocol.specs.Lawful.{Tied, KeepsStamps}
+use Rattle.protocol.proofs.Local.{kept_tied}
 use Rattle.protocol.specs.Queues.{queued}
 use Rattle.protocol.specs.Refusals.{tx_causes, first_cause}
 use Rattle.protocol.proofs.Arrivals.{none_stand}
@@ -15,7 +18,7 @@ use Rattle.transactions.specs.Grammar.{AreTags}
 use Rattle.protocol.specs.Values.{Id}
 use Rattle.protocol.specs.declared.types.Step.{Step}
 use Rattle.protocol.specs.declared.types.Step.TheVariants.{Propose, Prevote, Precommit}
-use Rattle.protocol.specs.Arrivals.{stamp_of}
+use Rattle.protocol.specs.Arrivals.{stamp_of, kept_message}
 use Rattle.round_states.specs.Machine.{Machine, Agrees}
 use Rattle.node_core.proofs.Firings.{same_context}
 use Rattle.node_core.specs.Core.{Core, IsSound, IsGood, IsStamp, IsSame, setting, setting_of, context_of}
@@ -40,6 +43,9 @@ sound_queued core t d s lawful none = record {
   joined = s.joined;
   spelled = s.spelled;
   own = s.own;
+  said = s.said;
+  journal = s.journal;
+  kept = λ running. let k = s.kept running in record { records = k.records; whole = k.whole; lawful = record { tied = k.lawful.tied; keeps = k.lawful.keeps; follows = k.lawful.follows; made = k.lawful.made } };
 }
 
 pub stamps_kept : (step : Step) (round sender : ℕ) (content : Option Id) (tags : List (List ℕ)) → AreTags tags → All IsStamp (stamp_of step round sender content tags)
@@ -53,9 +59,13 @@ pub same_agreed : (core : Core) (m : Machine) → Agrees (context_of core) m →
 unfolding setting
 same_agreed core m a = record { powers = a.powers; me = a.me; ring = refl }
 
-pub sound_kept : (core : Core) (m : Machine) → IsSound core → Agrees (context_of core) m → All IsStamp m.state.stamps → m.state.height ≡ core.machine.state.height → m.state.delivered ≡ core.machine.state.delivered → IsSound (record core { machine = m })
+-- a message was kept, and the journal tells of the variables as before
+pub sound_kept : (core : Core) (m : Machine) (message : Message) → IsSound core → Agrees (context_of core) m → All IsStamp m.state.stamps → m.state ≡ kept_message core.machine.state message message.body
+    → m.state.height ≡ core.machine.state.height → m.state.delivered ≡ core.machine.state.delivered
+    → (core.journal.failed ≡ false → KeepsStamps (setting_of core) core.machine.me m.state.height m.state.votes m.state.stamps)
+    → IsSound (record core { machine = m })
 unfolding setting
-sound_kept core m s a stamps height delivered = record {
+sound_kept core m message s a stamps state height delivered keeps = record {
   owner = rw a.me s.owner;
   count = rw a.powers s.count;
   me = rw (a.me, a.powers) s.me;
@@ -68,4 +78,13 @@ sound_kept core m s a stamps height delivered = record {
   joined = delivered ∙ s.joined;
   spelled = s.spelled;
   own = rw a.me s.own;
+  said = rw a.me s.said;
+  journal = s.journal ∙ sym a.me;
+  kept = λ running.
+      let k = s.kept running in
+      record {
+        records = k.records;
+        whole = rw (a.powers, a.me) k.whole;
+        lawful = record { tied = subst (λ (x : State). Tied x k.records) (sym state) (kept_tied core.machine.state k.records message message.body k.lawful.tied); keeps = rw (a.powers, a.me) (keeps running); follows = rw a.powers k.lawful.follows; made = rw a.me k.lawful.made };
+      };
 }

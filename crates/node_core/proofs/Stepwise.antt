@@ -1,5 +1,5 @@
 -- Calls step by step: a firing and those after it, and what is handed in and the firings after it.
-use Rattle.std.proofs.Common.{◌≡◌, ℕ, zero, suc, true, List, [], ◌∷◌, ◌++◌, map, Option, Some, is_some, min, ◌-◌, ◌^◌, refl, sym, ap, subst, ◌∙◌, arith, below_more}
+use Rattle.std.proofs.Common.{◌≡◌, ℕ, zero, suc, true, false, List, [], ◌∷◌, ◌++◌, map, Option, Some, is_some, min, ◌-◌, ◌^◌, refl, sym, ap, subst, ◌∙◌, arith, below_more}
 use Rattle.std.proofs.lemmas.List.{append-nil, append_assoc}
 use Rattle.protocol.specs.Messages.{Body}
 use Rattle.protocol.specs.Tags.{Setting}
@@ -10,7 +10,7 @@ use Rattle.protocol.specs.Arrivals.{firing}
 use Rattle.protocol.specs.History.{Input, Settle, first, firsts, taken}
 use Rattle.protocol.specs.Effects.{bodies_of, timeouts_of, along, bodies_taken, timeouts_taken}
 use Rattle.protocol.proofs.Replays.{by_rule}
-use Rattle.node_core.specs.Core.{Core, Stands, IsSame, setting, setting_of, frame_by}
+use Rattle.node_core.specs.Core.{Core, JournalSeen, Stands, IsSame, setting, setting_of, frame_by}
 use Rattle.node_core.specs.Calls.{EachIsNamed, HasFired, HasFiredOnce, IsTaken, IsCalled}
 use Rattle.node_core.specs.Running.{HasRun}
 
@@ -23,7 +23,7 @@ same_then a b c x y = record { powers = y.powers ∙ x.powers; me = y.me ∙ x.m
 pub same_itself : (a : Core) → IsSame a a
 same_itself a = record { powers = refl; me = refl; ring = refl }
 
-map_append : {X Y : Type 0} (f : X → Y) (xs ys : List X) → map f (xs ++ ys) ≡ map f xs ++ map f ys
+pub map_append : {X Y : Type 0} (f : X → Y) (xs ys : List X) → map f (xs ++ ys) ≡ map f xs ++ map f ys
 map_append f [] ys = refl
 map_append f (x ∷ xs) ys = ap (λ l. f x ∷ l) (map_append f xs ys)
 
@@ -98,10 +98,24 @@ called n input times old mid new first rest count =
 pub settled : (n : Node) (core : Core) → Stands n core → IsTaken n Settle core core
 settled n core s = record { stands = s; outgoing = sym (append-nil core.outgoing); scheduled = sym (append-nil core.scheduled); same = same_itself core }
 
+-- a core whose journal failed stands for the same node
+pub stands_failed : (n : Node) (core : Core) (journal : JournalSeen) → journal.failed ≡ true → Stands n core → Stands n (record core { journal = journal })
+stands_failed n core journal failed s = record { state = s.state; queues = s.queues; decisions = s.decisions; said = s.said; journal = λ still. absurd (let e : true ≡ false = sym failed ∙ still in cc) }
+
+same_failed : (old new : Core) (journal : JournalSeen) → IsSame old new → IsSame old (record new { journal = journal })
+same_failed old new journal s = record { powers = s.powers; me = s.me; ring = s.ring }
+
+-- and so does one that fired rules before
+pub fired_failed : (n : Node) (times : ℕ) (old mid : Core) (journal : JournalSeen) → journal.failed ≡ true → HasFired n times old mid → HasFired n times old (record mid { journal = journal })
+fired_failed n times old mid journal failed h = record { named = h.named; stands = stands_failed _ mid journal failed h.stands; outgoing = h.outgoing; scheduled = h.scheduled; same = same_failed old mid journal h.same }
+
+pub run_failed : (old mid : Core) (journal : JournalSeen) → journal.failed ≡ true → HasRun old mid → HasRun old (record mid { journal = journal })
+run_failed old mid journal failed r = record { times = r.times; count = r.count; ran = λ n s. fired_failed n r.times old mid journal failed (r.ran n s) }
+
 -- ---- the count of firings stands apart
 
 pub stands_counted : (n : Node) (core : Core) (count : ℕ) → Stands n core → Stands n (record core { fired = count })
-stands_counted n core count s = record { state = s.state; queues = s.queues; decisions = s.decisions }
+stands_counted n core count s = record { state = s.state; queues = s.queues; decisions = s.decisions; said = s.said; journal = s.journal }
 
 same_counted : (old new : Core) (count : ℕ) → IsSame old new → IsSame old (record new { fired = count })
 same_counted old new count s = record { powers = s.powers; me = s.me; ring = s.ring }

@@ -1,5 +1,5 @@
 -- What a call answers, and what it leaves.
-use Rattle.std.specs.Prelude.{◌≡◌, ℕ, ◌<◌, ◌-◌, ◌^◌, ◌⊎◌, ◌++◌, map, min, true, Option, Some, None, is_some, Result, Ok, Err}
+use Rattle.std.specs.Prelude.{◌≡◌, ℕ, ◌<◌, ◌-◌, ◌^◌, ◌⊎◌, ◌++◌, map, min, Bool, true, false, Option, Some, None, is_some, Result, Ok, Err}
 use Rattle.transactions.specs.declared.fault.Fault.TheVariants as faults
 use Rattle.protocol.specs.Messages.{Message}
 use Rattle.protocol.specs.Tags.{Setting}
@@ -16,11 +16,12 @@ use Rattle.height_catchup.specs.declared.judging.JudgeFault.{JudgeFault}
 use Rattle.height_catchup.specs.declared.judging.JudgeFault.TheVariants as judges
 use Rattle.node_core.specs.declared.refusal.Refusal.{Refusal as Answer}
 use Rattle.node_core.specs.declared.refusal.Refusal.TheVariants as answers
-use Rattle.node_core.specs.Core.{Core, Stands, IsSame, setting_of, frame_by}
+use Rattle.vote_journal.specs.Store.{Grew}
+use Rattle.node_core.specs.Core.{Core, JournalSeen, Stands, IsSame, setting_of, frame_by}
 
 -- ---- answers
 
--- The answer is this cause, unless memory ran out.
+-- The answer is this cause, unless memory ran out or the journal failed.
 abbrev pub IsSubmit : Option Refusal → SubmitFault → Type 0
 IsSubmit cause submits.UnknownClient = cause ≡ Some (causes.NotQueued causes.UnknownClient)
 IsSubmit cause submits.BadTag = cause ≡ Some (causes.NotQueued causes.BadTxTag)
@@ -53,15 +54,40 @@ IsRefusal cause answers.RoundAhead = cause ≡ Some causes.RoundAhead
 IsRefusal cause answers.WrongProposer = cause ≡ Some causes.WrongProposer
 IsRefusal cause (answers.Submit fault) = IsSubmit cause fault
 IsRefusal cause (answers.Bundle fault) = IsJudgement cause fault
+IsRefusal cause answers.Halted = ⊥
 IsRefusal cause answers.OutOfMemory = Unit {0}
+IsRefusal cause answers.JournalFailed = Unit {0}
 
 abbrev pub IsAnswer : Option Refusal → Result (Unit {0}) Answer → Type 0
 IsAnswer cause (Ok done) = cause ≡ None
 IsAnswer cause (Err answer) = IsRefusal cause answer
 
+-- A node that has halted says so to everything.
+abbrev pub Answers : Bool → Option Refusal → Result (Unit {0}) Answer → Type 0
+Answers true cause result = result ≡ Err answers.Halted
+Answers false cause result = IsAnswer cause result
+
 -- A refusal changes nothing, but that no rule was fired by it.
 abbrev pub IsUnchanged : Core → Core → Type 0
 IsUnchanged old new = new ≡ record old { fired = 0 }
+
+-- ---- what a call makes of the journal
+
+-- a save failed for the device, and the journal with it
+pub record HasFailed (old new : JournalSeen) : Type 0 where
+  pub before : old.failed ≡ false
+  pub now : new.failed ≡ true
+  pub grew : Grew old.failures new.failures
+
+-- whether it has failed is as it was, and no failure of the device was counted
+pub record Serves (old new : JournalSeen) : Type 0 where
+  pub failed : new.failed ≡ old.failed
+  pub failures : new.failures ≡ old.failures
+
+-- The node halts where the device failed, and answers so, and nowhere else.
+abbrev pub TellsJournal : Result (Unit {0}) Answer → JournalSeen → JournalSeen → Type 0
+TellsJournal (Err answers.JournalFailed) old new = HasFailed old new
+TellsJournal result old new = Serves old new
 
 -- ---- what a call leaves
 
@@ -91,11 +117,23 @@ pub record IsReceived (n : Node) (m : Message) (old new : Core) : Type 0 where
   pub scheduled : new.scheduled ≡ old.scheduled
   pub same : IsSame old new
 
+-- A rule did not fire: nothing changed, or its record was not saved, and the journal failed.
+abbrev pub IsUnfired : Answer → Core → Core → Type 0
+IsUnfired answers.JournalFailed old new = new ≡ record old { journal = new.journal }
+IsUnfired answer old new = (answer ≡ answers.OutOfMemory) × (new ≡ old)
+
+-- a message was not taken in: nothing changed, but where its record was not saved
+abbrev pub IsRefused : Answer → Core → Core → Type 0
+IsRefused answers.JournalFailed old new = new ≡ record old { journal = new.journal }
+IsRefused answer old new = new ≡ old
+
 -- only the variables changed
 pub record IsBeside (old new : Core) : Type 0 where
   pub same : IsSame old new
   pub queues : new.queues ≡ old.queues
   pub decisions : new.decisions ≡ old.decisions
+  pub said : new.said ≡ old.said
+  pub journal : new.journal ≡ old.journal
   pub outgoing : new.outgoing ≡ old.outgoing
   pub scheduled : new.scheduled ≡ old.scheduled
   pub fired : new.fired ≡ old.fired
@@ -116,6 +154,13 @@ pub record IsCalled (n : Node) (input : Input) (times : ℕ) (old new : Core) : 
   pub same : IsSame old new
   pub fired : new.fired ≡ min times (2 ^ 64 - 1)
 
--- The call did so, and is told so; or for want of memory it did not take its input in.
+-- The input was not taken in: the node had halted, memory ran out, or its record was not saved.
+abbrev pub IsNotTaken : Result (Unit {0}) Answer → Core → Core → Type 0
+IsNotTaken (Err answers.Halted) old new = (old.journal.failed ≡ true) × IsUnchanged old new
+IsNotTaken (Err answers.OutOfMemory) old new = IsUnchanged old new
+IsNotTaken (Err answers.JournalFailed) old new = new ≡ record old { journal = new.journal; fired = 0 }
+IsNotTaken result old new = ⊥
+
+-- The call did so; or it did not take its input in, and is told so.
 abbrev pub IsDone : Node → Input → Result (Unit {0}) Answer → Core → Core → Type 0
-IsDone n input result old new = ((times : ℕ) × IsCalled n input times old new) ⊎ ((result ≡ Err answers.OutOfMemory) × IsUnchanged old new)
+IsDone n input result old new = ((times : ℕ) × IsCalled n input times old new) ⊎ IsNotTaken result old new

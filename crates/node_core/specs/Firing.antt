@@ -1,7 +1,7 @@
 -- What a firing is made of.
-use Rattle.std.specs.Prelude.{◌≡◌, ℕ, ◌<◌, ◌^◌, Bool, true, false, List, [], ◌∷◌, length, map, Option, Some, None, option_to_list}
+use Rattle.std.specs.Prelude.{◌≡◌, ℕ, ◌<◌, ◌^◌, Bool, true, false, List, [], ◌∷◌, ◌++◌, length, map, Option, Some, None, option_to_list}
 use Rattle.transactions.specs.Grammar.{IsValue}
-use Rattle.protocol.specs.Messages.{Bundle, Record, Own, Decided}
+use Rattle.protocol.specs.Messages.{Body, Bundle, Record, Own, Decided, body_of}
 use Rattle.protocol.specs.State.{State}
 use Rattle.protocol.specs.Rules.{saved, starts, released_by}
 use Rattle.protocol.specs.Queues.{pick}
@@ -23,9 +23,10 @@ pub record IsRoundHanded (core : Core) (round : ℕ) (input : Input) : Type 0 wh
   pub serves : ServesRound (context_of core) core.machine round input
   pub same : starts (context_of core) core.machine.state round (picked_value (pick_in input)) ≡ starts (context_of core) core.machine.state round (pick core.queues)
 
--- what is decided can be spelled
+-- what is decided or locked can be spelled
 abbrev pub IsFit : State → Name → Type 0
 IsFit s (names.Decide i) = IsValue (proposal_at s i).value
+IsFit s (names.Lock i) = IsValue (proposal_at s i).value
 IsFit s _ = Unit {0}
 
 -- the frames of what the firing releases
@@ -41,6 +42,15 @@ decision_in (Decided b) = b ∷ []
 abbrev pub decided_by : Option Pending → List Bundle
 decided_by None = []
 decided_by (Some u) = decision_in u.entry
+
+-- the own messages of the height after a save: a decision begins the next height
+abbrev pub said_after : ℕ → Record → List Body → List Body
+said_after me (Own height round act) said = said ++ body_of me height round act ∷ []
+said_after me (Decided b) said = []
+
+abbrev pub said_by : Option Pending → List Body → List Body
+said_by None said = said
+said_by (Some u) said = said_after u.sender u.entry said
 
 abbrev pub is_empty : List Bundle → Bool
 is_empty [] = true

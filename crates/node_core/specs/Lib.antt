@@ -1,4 +1,5 @@
 pub mod Core
+pub mod Saving
 pub mod Seen
 pub mod Named
 pub mod Calls

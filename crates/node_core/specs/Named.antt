@@ -3,6 +3,10 @@ use Rattle.std.specs.Prelude.{ℕ}
 use Rattle.transactions.specs.declared.fault.Fault.TheVariants as faults
 use Rattle.protocol.specs.Refusals.{refusal_number}
 use Rattle.protocol.specs.Refusals as causes
+use Rattle.protocol.specs.Calls.{Halted, NoMemory, JournalFailed, call_number}
+use Rattle.round_states.specs.declared.saving.SaveFault.TheVariants as saves
+use Rattle.round_states.specs.declared.saving.Unfired.{Unfired}
+use Rattle.round_states.specs.declared.saving.Unfired.TheVariants as unfired
 use Rattle.frame_admission.specs.declared.inadmissible.Inadmissible.{Inadmissible}
 use Rattle.frame_admission.specs.declared.inadmissible.Inadmissible.TheVariants as gate
 use Rattle.round_states.specs.declared.taking.Refusal.{Refusal as Unkept}
@@ -49,6 +53,11 @@ of_judgement judges.WrongDigest = answers.Bundle judges.WrongDigest
 of_judgement judges.BadTag = answers.Bundle judges.BadTag
 of_judgement judges.NotValid = answers.Bundle judges.NotValid
 
+abbrev pub of_unfired : Unfired → Refusal
+of_unfired unfired.OutOfMemory = answers.OutOfMemory
+of_unfired (unfired.NotSaved saves.OutOfMemory) = answers.OutOfMemory
+of_unfired (unfired.NotSaved saves.Failed) = answers.JournalFailed
+
 -- ---- numbers
 
 -- those of the cause that the answer names: its own, and the inner one
@@ -84,4 +93,6 @@ numbers_of answers.RoundAhead = refusal_number causes.RoundAhead
 numbers_of answers.WrongProposer = refusal_number causes.WrongProposer
 numbers_of (answers.Submit fault) = numbers_of_submit fault
 numbers_of (answers.Bundle fault) = numbers_of_judgement fault
-numbers_of answers.OutOfMemory = (16, 0)
+numbers_of answers.Halted = call_number Halted
+numbers_of answers.OutOfMemory = call_number NoMemory
+numbers_of answers.JournalFailed = call_number JournalFailed

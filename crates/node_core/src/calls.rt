@@ -1,14 +1,15 @@
 //! The calls that change a node.
 
-ghost use Rattle.std.specs.Prelude.{◌≡◌, ◌⊎◌, ◌++◌, ◌∷◌, [], ℕ, None, OnOk, OnErr, IfErr};
+ghost use Rattle.std.specs.Prelude.{◌≡◌, ◌⊎◌, ◌++◌, ◌∷◌, [], ℕ, true, false, None, OnOk, OnErr, IfOk, IfErr, map};
 ghost use Rattle.protocol.specs.Messages.{OfAsk};
 ghost use Rattle.protocol.specs.State.{Node};
 ghost use Rattle.protocol.specs.Order.{enabled};
+ghost use Rattle.protocol.specs.Restart.{own_since};
 ghost use Rattle.protocol.specs.Refusals.{answer};
 ghost use Rattle.protocol.specs.Calls.{timeout_answer};
 ghost use Rattle.protocol.specs.History.{Settle, Given, Due};
 ghost use Rattle.node_core.specs.Core.{Stands, setting_of, frame_by};
-ghost use Rattle.node_core.specs.Calls.{IsAnswer, IsDone, IsTaken, IsCalled, IsUnchanged};
+ghost use Rattle.node_core.specs.Calls.{Answers, IsDone, IsTaken, IsUnfired, IsUnchanged, TellsJournal};
 
 use crate::node::NodeCore;
 use crate::refusal::Refusal;
@@ -17,40 +18,45 @@ use messages::{Ask, Body};
 use protocol::Timeout;
 use round_machine::{Rule, holds_timeout, timeout_refusal};
 use std::alloc::AllocError;
+use vote_journal::Store;
 
-impl NodeCore {
+impl<S: Store + Drop> NodeCore<S> {
     /// Takes in one whole frame, and fires rules until none is enabled.
     pub fn handle(&mut self, frame: &[u8]) -> Result<(), Refusal>
-        ensures answer { (n : Node) → Stands n self.old → IsAnswer (answer (setting_of self.old) self.old.machine.me n frame.now) result }
+        ensures answer { (n : Node) → Stands n self.old → Answers self.old.journal.failed (answer (setting_of self.old) self.old.machine.me n frame.now) result }
         ensures done { (n : Node) → Stands n self.old → IsDone n (Given frame.now) result self.old self.new }
-        ensures refused { IfErr result (λ r. (r ≡ Refusal.OutOfMemory) ⊎ IsUnchanged self.old self.new) }
+        ensures refused { IfErr result (λ r. (r ≡ Refusal.OutOfMemory) ⊎ (r ≡ Refusal.JournalFailed) ⊎ IsUnchanged self.old self.new) }
+        ensures journal { TellsJournal result self.old.journal self.new.journal }
         ensures quiet { OnOk result (enabled self.new.machine.powers self.new.machine.state ≡ None) }
     {
-        self.fired = 0;
+        self.begin()?;
         let message = admit(self.alloc, &self.ring, frame)?;
         self.take(message)?;
-        Ok(self.fire_all()?)
+        self.fire_all()
     }
 
     /// A timeout is due. One that doesn't fit the height, the round or the step fires no rule of its own.
     pub fn fire_timeout(&mut self, timeout: Timeout) -> Result<(), Refusal>
-        ensures answer { IsAnswer (timeout_answer self.old.machine.state timeout) result }
+        ensures answer { Answers self.old.journal.failed (timeout_answer self.old.machine.state timeout) result }
         ensures done { (n : Node) → Stands n self.old → IsDone n (Due timeout) result self.old self.new }
-        ensures refused { IfErr result (λ r. (r ≡ Refusal.OutOfMemory) ⊎ IsUnchanged self.old self.new) }
+        ensures refused { IfErr result (λ r. (r ≡ Refusal.OutOfMemory) ⊎ (r ≡ Refusal.JournalFailed) ⊎ IsUnchanged self.old self.new) }
+        ensures journal { TellsJournal result self.old.journal self.new.journal }
         ensures quiet { OnOk result (enabled self.new.machine.powers self.new.machine.state ≡ None) }
     {
-        self.fired = 0;
+        self.begin()?;
         if let Some(refusal) = timeout_refusal(&self.state, timeout) {
             return Err(refusal.into());
         }
         self.fire_due(timeout)?;
-        Ok(self.fire_all()?)
+        self.fire_all()
     }
 
     /// Fires the timeout's own rule, where it holds.
-    fn fire_due(&mut self, timeout: Timeout) -> Result<(), AllocError>
+    fn fire_due(&mut self, timeout: Timeout) -> Result<(), Refusal>
+        requires running { self.old.journal.failed ≡ false }
         ensures ok { OnOk result ((n : Node) → Stands n self.old → IsTaken n (Due timeout) self.old self.new) }
-        ensures err { OnErr result (self.new ≡ self.old) }
+        ensures journal { TellsJournal result self.old.journal self.new.journal }
+        ensures err { IfErr result (λ r. IsUnfired r self.old self.new) }
     {
         if holds_timeout(&self.state, timeout) {
             self.fire(Rule::TimedOut(timeout))
@@ -61,21 +67,37 @@ impl NodeCore {
 
     /// Fires rules until none is enabled: at the beginning, and after a call that was refused memory.
     pub fn settle(&mut self) -> Result<(), Refusal>
-        ensures answer { IfErr result (λ r. r ≡ Refusal.OutOfMemory) }
-        ensures done { (n : Node) → Stands n self.old → (times : ℕ) × IsCalled n Settle times self.old self.new }
+        ensures answer { Answers self.old.journal.failed None result }
+        ensures done { (n : Node) → Stands n self.old → IsDone n Settle result self.old self.new }
+        ensures refused { IfErr result (λ r. (r ≡ Refusal.OutOfMemory) ⊎ (r ≡ Refusal.JournalFailed) ⊎ IsUnchanged self.old self.new) }
+        ensures journal { TellsJournal result self.old.journal self.new.journal }
         ensures quiet { OnOk result (enabled self.new.machine.powers self.new.machine.state ≡ None) }
     {
+        self.begin()?;
+        self.fire_all()
+    }
+
+    /// A call begins, of which no rule has fired. A node that has halted refuses it.
+    fn begin(&mut self) -> Result<(), Refusal>
+        ensures running { OnOk result (self.old.journal.failed ≡ false) }
+        ensures halted { IfErr result (λ r. (r ≡ Refusal.Halted) × (self.old.journal.failed ≡ true)) }
+        ensures new { IsUnchanged self.old self.new }
+    {
         self.fired = 0;
-        Ok(self.fire_all()?)
+        if self.journal.has_failed() {
+            return Err(Refusal::Halted);
+        }
+        Ok(())
     }
 
     /// Releases an ask for the decision of the own height.
     pub fn ask(&mut self) -> Result<(), Refusal>
-        ensures answer { IfErr result (λ r. r ≡ Refusal.OutOfMemory) }
+        ensures answer { Answers self.old.journal.failed None result }
+        ensures refusal { IfErr result (λ r. (r ≡ Refusal.Halted) ⊎ (r ≡ Refusal.OutOfMemory)) }
         ensures ok { OnOk result (self.new ≡ record self.old { outgoing = self.old.outgoing ++ frame_by self.old (OfAsk (record { height = self.old.machine.state.height; sender = self.old.machine.me })) ∷ []; fired = 0 }) }
         ensures err { OnErr result (IsUnchanged self.old self.new) }
     {
-        self.fired = 0;
+        self.begin()?;
         let body = Body::Ask(Ask {
             height: self.state.height(),
             sender: self.state.me(),
@@ -84,5 +106,28 @@ impl NodeCore {
         let frame = frame_for(self.alloc, &self.ring, &body)?;
         self.outgoing.push_reserved(frame);
         Ok(())
+    }
+
+    /// Releases the own messages of the height once more, in the order in which they were saved.
+    pub fn resend(&mut self) -> Result<(), Refusal>
+        ensures answer { Answers self.old.journal.failed None result }
+        ensures refusal { IfErr result (λ r. (r ≡ Refusal.Halted) ⊎ (r ≡ Refusal.OutOfMemory)) }
+        ensures ok { (n : Node) → Stands n self.old → OnOk result (self.new ≡ record self.old { outgoing = self.old.outgoing ++ map (frame_by self.old) (own_since self.old.machine.me n.journal); fired = 0 }) }
+        ensures err { OnErr result (IsUnchanged self.old self.new) }
+    {
+        self.begin()?;
+        let mut frames = self.frames_said()?;
+        Ok(self.outgoing.append(&mut frames)?)
+    }
+
+    /// The frames of the own messages of the height.
+    fn frames_said(&self) -> Result<Vec<Vec<u8>>, AllocError>
+        ensures { IfOk result (λ frames. map (λ frame. frame.items) frames.items ≡ map (frame_by self.now) self.now.said) }
+    {
+        let mut frames = Vec::new(self.alloc);
+        for body in &self.said {
+            frames.push(frame_for(self.alloc, &self.ring, body)?)?;
+        }
+        Ok(frames)
     }
 }

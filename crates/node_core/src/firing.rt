@@ -1,20 +1,22 @@
 //! Rules fire: each whole, or, refused memory, not at all.
 
-ghost use Rattle.std.specs.Prelude.{◌≡◌, ◌<◌, ◌≤◌, ◌+◌, ◌-◌, ◌^◌, ◌++◌, ℕ, List, true, false, cond, All, OnOk, OnErr, IfOk, IfSome, Some, None, option_map, length, map, min, option_to_list, vec_len, vec_capacity};
+ghost use Rattle.std.specs.Prelude.{◌≡◌, ◌<◌, ◌≤◌, ◌+◌, ◌-◌, ◌^◌, ◌⊎◌, ◌++◌, ℕ, List, true, false, cond, All, OnOk, OnErr, IfOk, IfErr, IfSome, Some, None, option_map, length, map, min, option_to_list, vec_len, vec_capacity};
 ghost use Rattle.powers.specs.Power.{proposer};
 ghost use Rattle.protocol.specs.State.{Context, Node, TimedOut};
-ghost use Rattle.protocol.specs.Rules.{holds, fired};
+ghost use Rattle.messages.specs.Grammar.{IsBody};
+ghost use Rattle.protocol.specs.Rules.{holds, fired, saved, released_by};
 ghost use Rattle.protocol.specs.Order.{enabled, row};
 ghost use Rattle.protocol.specs.Queues.{pick, drop_delivered};
 ghost use Rattle.protocol.specs.Values.{Item};
-ghost use Rattle.round_machine.specs.Naming.{rule_of, IsPlaced, Serves, ServesRound};
+ghost use Rattle.round_states.specs.Steps.{picked_value};
+ghost use Rattle.round_machine.specs.Naming.{rule_of, IsPlaced, Serves, ServesRound, pick_in};
 ghost use Rattle.node_core.specs.Core.{Stands, context_of};
-ghost use Rattle.node_core.specs.Calls.{HasFiredOnce};
+ghost use Rattle.node_core.specs.Calls.{HasFiredOnce, IsUnfired, TellsJournal};
 ghost use Rattle.node_core.specs.Running.{HasRun};
-ghost use Rattle.node_core.specs.Firing.{IsHanded, IsFit, IsRoundHanded, frames_of, decided_by, is_empty, IsNarrow};
+ghost use Rattle.node_core.specs.Firing.{IsHanded, IsFit, IsRoundHanded, frames_of, decided_by, said_by, is_empty, IsNarrow};
 
-use crate::journal::NoJournal;
 use crate::node::NodeCore;
+use crate::refusal::Refusal;
 use frame_admission::{frame_for, own_tags};
 use height_catchup::Decisions;
 use mempool::Mempool;
@@ -23,10 +25,14 @@ use protocol::{Step, Timeout};
 use round_machine::{Input, Rule, enabled, fire, next_message};
 use round_states::{Fired, Picked, Saved, State, release};
 use std::alloc::AllocError;
+use vote_journal::Store;
 
-impl NodeCore {
-    /// Fires the first enabled rule, again and again, until none is enabled or memory is refused.
-    pub(crate) fn fire_all(&mut self) -> Result<(), AllocError>
+impl<S: Store + Drop> NodeCore<S> {
+    /// Fires the first enabled rule, again and again, until none is enabled, or one can't fire for memory or the journal.
+    pub(crate) fn fire_all(&mut self) -> Result<(), Refusal>
+        requires running { self.old.journal.failed ≡ false }
+        ensures answer { IfErr result (λ r. (r ≡ Refusal.OutOfMemory) ⊎ (r ≡ Refusal.JournalFailed)) }
+        ensures journal { TellsJournal result self.old.journal self.new.journal }
         ensures ran { HasRun self.old self.new }
         ensures quiet { OnOk result (enabled self.new.machine.powers self.new.machine.state ≡ None) }
     {
@@ -49,28 +55,34 @@ impl NodeCore {
     }
 
     /// Fires a rule that holds.
-    pub(crate) fn fire(&mut self, rule: Rule) -> Result<(), AllocError>
+    pub(crate) fn fire(&mut self, rule: Rule) -> Result<(), Refusal>
         ghost g: { Context }
+        requires running { self.old.journal.failed ≡ false }
         requires context { g ≡ context_of self.old }
         requires placed { IsPlaced self.old.machine.state rule }
         requires holds { holds (context_of self.old) self.old.machine.state (rule_of self.old.machine.state rule) ≡ true }
         ensures ok { OnOk result ((n : Node) → Stands n self.old → HasFiredOnce n (rule_of self.old.machine.state rule) self.old self.new) }
         ensures state { OnOk result (self.new.machine.state ≡ fired (context_of self.old) (pick self.old.queues) self.old.machine.state (rule_of self.old.machine.state rule)) }
         ensures fired { self.new.fired ≡ self.old.fired }
-        ensures err { OnErr result (self.new ≡ self.old) }
+        ensures journal { TellsJournal result self.old.journal self.new.journal }
+        ensures err { IfErr result (λ r. IsUnfired r self.old self.new) }
     {
         let input = self.input(rule)?;
         self.outgoing.reserve(1)?;
         self.scheduled.reserve(1)?;
         self.decisions.reserve(1)?;
+        self.said.reserve(1)?;
         let frame = self.frame_of_firing(rule, &input)?;
-        let Fired { saved, timeout } = match fire(&mut self.state, rule, input, &mut NoJournal) {
-            Ok(fired) => fired,
-            Err(_) => return Err(AllocError),
-        };
+        let Fired { saved, timeout } = fire(&mut self.state, rule, input, &mut self.journal)?;
         push_one(&mut self.outgoing, frame);
         push_one(&mut self.scheduled, timeout);
-        note(saved, &self.state, &mut self.decisions, &mut self.mempool);
+        note(
+            saved,
+            &self.state,
+            &mut self.decisions,
+            &mut self.mempool,
+            &mut self.said,
+        );
         Ok(())
     }
 
@@ -81,7 +93,8 @@ impl NodeCore {
         requires placed { IsPlaced self.now.machine.state rule }
         requires holds { holds (context_of self.now) self.now.machine.state (rule_of self.now.machine.state rule) ≡ true }
         requires serves { Serves (context_of self.now) self.now.machine rule input.now }
-        ensures { IfOk result (λ frame. map (λ f. f.items) (option_to_list frame) ≡ frames_of self.now rule input.now) }
+        ensures frame { IfOk result (λ frame. map (λ f. f.items) (option_to_list frame) ≡ frames_of self.now rule input.now) }
+        ensures spelled { OnOk result (IfSome (released_by self.now.machine.me (saved (context_of self.now) (picked_value (pick_in input.now)) self.now.machine.state (rule_of self.now.machine.state rule))) IsBody) }
     {
         match next_message(&self.state, rule, input)? {
             Some(body) => Ok(Some(frame_for(self.alloc, &self.ring, &body)?)),
@@ -101,10 +114,10 @@ impl NodeCore {
             Rule::SkipRound(round) => self.input_of_start(round),
             Rule::TimedOut(timeout) => self.input_of_timeout(timeout),
             Rule::Decide(place) => self.input_of_decision(place),
+            Rule::Lock(place) => Ok(self.input_of_lock(place)),
             Rule::PrevoteFresh(_)
             | Rule::PrevoteAgain(_)
             | Rule::AwaitPrevotes
-            | Rule::Lock(_)
             | Rule::PrecommitNil
             | Rule::AwaitPrecommits => Ok(Input::Nothing),
         }
@@ -135,6 +148,16 @@ impl NodeCore {
         }))
     }
 
+    /// Nothing is asked for a lock: its value can be spelled, as each kept one.
+    fn input_of_lock(&self, place: usize) -> Input
+        requires placed { place < length self.now.machine.state.proposals }
+        ensures handed { IsHanded self.now (Rule.Lock place) result }
+        ensures fit { IsFit self.now.machine.state (Rule.Lock place) }
+    {
+        let _ = &self.state.kept()[place];
+        Input::Nothing
+    }
+
     /// The tags of the own precommit for what is decided.
     fn input_of_decision(&self, place: usize) -> Result<Input, AllocError>
         requires placed { place < length self.now.machine.state.proposals }
@@ -159,19 +182,22 @@ pub(crate) fn push_one<T>(list: &mut Vec<T>, item: Option<T>)
     }
 }
 
-/// Notes what a firing saved: a decision is kept, in room that was made before, and what it delivered leaves the
-/// queues.
+/// Notes what a firing saved, in room that was made before: an own message is kept to be sent again; a decision is kept
+/// with the others, what it delivered leaves the queues, and the own messages of its height are let go.
 pub(crate) fn note(
     saved: Option<Saved>,
     state: &State,
     decisions: &mut Decisions,
     mempool: &mut Mempool,
+    said: &mut Vec<Body>,
 )
     requires height { All (λ b. b.height ≡ length decisions.old.bundles) (decided_by saved) }
     requires room { 0 < decisions.old.room }
+    requires said { vec_len said.old < vec_capacity said.old }
     ensures decisions { decisions.new.bundles ≡ decisions.old.bundles ++ decided_by saved }
     ensures narrow { All IsNarrow (decided_by saved) }
     ensures queues { mempool.new ≡ cond (is_empty (decided_by saved)) mempool.old (drop_delivered state.now.state.delivered mempool.old) }
+    ensures said { said.new.items ≡ said_by saved said.old.items }
 {
     match saved {
         None => {}
@@ -179,8 +205,9 @@ pub(crate) fn note(
             Body::Bundle(bundle) => {
                 decisions.keep_reserved(bundle);
                 mempool.drop_delivered(state.frontier());
+                said.clear();
             }
-            Body::Tx(_) | Body::Proposal(_) | Body::Vote(_) | Body::Ask(_) => {}
+            body => said.push_reserved(body),
         },
     }
 }

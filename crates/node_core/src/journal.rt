@@ -1,34 +1,87 @@
-//! What a node keeps of what it says: nothing yet.
+//! The journal of a node: what its firings say is saved there first.
 
-ghost use Rattle.std.specs.Prelude.{◌≡◌, true, Ok, None, IfOk, OnOk, OnErr};
+ghost use Rattle.std.specs.Prelude.{◌≡◌, true, false, Ok, None, IfOk, IfErr, OnOk, OnErr};
 ghost use Rattle.transactions.specs.Grammar.{IsValue};
 ghost use Rattle.protocol.specs.Values.{Value};
 ghost use Rattle.protocol.specs.State.{DecideByBundle};
 ghost use Rattle.protocol.specs.Rules.{holds, saved, fired};
 ghost use Rattle.round_states.specs.Machine.{Agrees};
 ghost use Rattle.round_states.specs.Pending.{pending_of};
+ghost use Rattle.round_states.specs.Saving.{Wrote, Unwritten};
 ghost use Rattle.round_machine.specs.Bundling.{Came};
+ghost use Rattle.vote_journal.specs.Store.{Only};
+ghost use Rattle.node_core.specs.Saving.{Saves};
 
 use messages::Bundle;
 use round_machine::decide_by_bundle;
-use round_states::{Fired, SaveFault, Saver, State, Unsaved};
-use std::alloc::AllocError;
+use round_states::{Fired, SaveFault, Saver, State, Unfired, Unsaved};
+use std::marker::Model;
+use vote_journal::{Journal, JournalFault, Store};
 
-/// No journal: a node over it does not outlast a stop. A save does nothing, and is never refused.
+/// A journal on a store, in which a node's firings save what they say. Once the store's device failed it saves nothing
+/// more.
 #[derive(Drop)]
-pub(crate) struct NoJournal;
+pub(crate) struct NodeJournal<S: Store + Drop> {
+    journal: Journal<S>,
+}
 
-impl Saver for NoJournal {
-    ghost saves = { λ _ _ result _. result ≡ Ok tt };
+impl<S: Store + Drop> Model for NodeJournal<S> {
+    ghost use Rattle.node_core.specs.Core.{JournalSeen};
 
-    fn save(&mut self, _unsaved: &Unsaved) -> Result<(), SaveFault> {
-        Ok(())
+    ghost Value = { JournalSeen };
+
+    ghost view = { λ a. record { bytes = S.seen a.journal.store; me = a.journal.me; failed = a.journal.failed; failures = S.failures a.journal.store } };
+}
+
+impl<S: Store + Drop> NodeJournal<S> {
+    pub(crate) fn new(journal: Journal<S>) -> NodeJournal<S>
+        ensures { result ≡ record { bytes = S.seen journal.store; me = journal.me; failed = journal.failed; failures = S.failures journal.store } }
+    {
+        NodeJournal { journal }
+    }
+
+    /// Whether a save failed for the device.
+    pub(crate) fn has_failed(&self) -> bool
+        ensures { result ≡ self.now.failed }
+    {
+        self.journal.has_failed()
+    }
+
+    /// The store. While the journal has not failed, a stop leaves just what it holds.
+    pub(crate) fn close(self) -> S
+        ensures bytes { S.seen result ≡ self.bytes }
+        ensures failures { S.failures result ≡ self.failures }
+        ensures synced { self.failed ≡ false → Only (S.seen result) (S.may_leave result) }
+    {
+        let NodeJournal { journal } = self;
+        journal.close()
+    }
+}
+
+impl<S: Store + Drop> Saver for NodeJournal<S> {
+    ghost use Rattle.node_core.specs.Saving.{Saves};
+
+    ghost saves = { Saves };
+
+    fn save(&mut self, unsaved: &Unsaved) -> Result<(), SaveFault> {
+        if self.journal.has_failed() {
+            return Err(SaveFault::Failed);
+        }
+        match self.journal.save(unsaved.record()) {
+            Ok(()) => Ok(()),
+            Err(JournalFault::OutOfMemory) => Err(SaveFault::OutOfMemory),
+            Err(JournalFault::Failed | JournalFault::BadRecord) => Err(SaveFault::Failed),
+        }
     }
 }
 
 /// Fires line 49 by a bundle that another validator collected, as `decide_by_bundle` does. (A proof file can't answer
 /// what that generic function requires, so its caller calls this one.)
-pub(crate) fn decide_unsaved(state: &mut State, bundle: Bundle) -> Result<Fired, AllocError>
+pub(crate) fn decide_saving<S: Store + Drop>(
+    state: &mut State,
+    bundle: Bundle,
+    journal: &mut NodeJournal<S>,
+) -> Result<Fired, Unfired>
     ghost came: { Came }
     requires agrees { Agrees came.context state.old }
     requires holds { holds came.context state.old.state (DecideByBundle came.bundle) ≡ true }
@@ -36,12 +89,11 @@ pub(crate) fn decide_unsaved(state: &mut State, bundle: Bundle) -> Result<Fired,
     requires fits { IsValue bundle.value }
     ensures state { OnOk result ((picked : Value) → state.new.state ≡ fired came.context picked state.old.state (DecideByBundle came.bundle)) }
     ensures saved { IfOk result (λ f. (picked : Value) → f.saved ≡ pending_of state.old.me (saved came.context picked state.old.state (DecideByBundle came.bundle))) }
+    ensures wrote { OnOk result ((picked : Value) → Wrote Saves (pending_of state.old.me (saved came.context picked state.old.state (DecideByBundle came.bundle))) journal.old journal.new) }
+    ensures unwritten { IfErr result (λ e. (picked : Value) → Unwritten Saves (pending_of state.old.me (saved came.context picked state.old.state (DecideByBundle came.bundle))) e journal.old journal.new) }
     ensures timeout { IfOk result (λ f. f.timeout ≡ None) }
     ensures agrees { OnOk result (Agrees came.context state.new) }
     ensures err { OnErr result (state.new ≡ state.old) }
 {
-    match decide_by_bundle(state, bundle, &mut NoJournal) {
-        Ok(fired) => Ok(fired),
-        Err(_) => Err(AllocError),
-    }
+    decide_by_bundle(state, bundle, journal)
 }

@@ -1,6 +1,6 @@
 //! The core, and what it tells of itself.
 
-ghost use Rattle.std.specs.Prelude.{◌≡◌, ◌<◌, [], true, length, map, is_none};
+ghost use Rattle.std.specs.Prelude.{◌≡◌, ◌<◌, [], true, false, length, map, is_none};
 ghost use Rattle.protocol.specs.Values.{fifo};
 ghost use Rattle.protocol.specs.Tags.{Validator};
 ghost use Rattle.protocol.specs.Order.{enabled};
@@ -8,12 +8,15 @@ ghost use Rattle.protocol.specs.Restart.{opened};
 ghost use Rattle.proposal_validity.specs.Standing.{IsFrontierOf};
 ghost use Rattle.round_states.specs.Seen.{delivered_by};
 ghost use Rattle.height_catchup.specs.Kept.{IsInPlace};
+ghost use Rattle.vote_journal.specs.Layout.{IsWhole};
+ghost use Rattle.vote_journal.specs.Store.{Only};
 ghost use Rattle.node_core.specs.Core.{Stands, delivered_in};
 
+use crate::journal::NodeJournal;
 use authenticators::KeyRing;
 use height_catchup::Decisions;
 use mempool::Mempool;
-use messages::Bundle;
+use messages::{Body, Bundle};
 use powers::Powers;
 use proposal_validity::Frontier;
 use protocol::Timeout;
@@ -23,6 +26,7 @@ use std::alloc::Global;
 use std::marker::Model;
 use std::mem;
 use transactions::Value;
+use vote_journal::{Journal, Store};
 
 /// Which validator this is, and the powers of all.
 #[derive(Drop)]
@@ -33,20 +37,25 @@ pub struct Config {
     pub powers: Powers,
 }
 
-/// One validator's node: its variables, its clients' queues, its decisions, and what it has released.
+/// One validator's node: its variables, its clients' queues, its decisions, its journal on a store, and what it has
+/// released.
+///
+/// Each own message and each decision is saved in the journal, and synced, before it is said or delivered.
 #[derive(Drop)]
-pub struct NodeCore {
+pub struct NodeCore<S: Store + Drop> {
     pub(crate) alloc: Global,
     pub(crate) ring: KeyRing,
     pub(crate) state: State,
     pub(crate) mempool: Mempool,
     pub(crate) decisions: Decisions,
+    pub(crate) said: Vec<Body>,
+    pub(crate) journal: NodeJournal<S>,
     pub(crate) outgoing: Vec<Vec<u8>>,
     pub(crate) scheduled: Vec<Timeout>,
     pub(crate) fired: u64,
 }
 
-impl Model for NodeCore {
+impl<S: Store + Drop> Model for NodeCore<S> {
     ghost use Rattle.node_core.specs.Core.{Core, IsSound};
     ghost use Rattle.node_core.specs.Seen.{seen};
 
@@ -57,18 +66,22 @@ impl Model for NodeCore {
     ghost invariant = { λ a. IsSound (seen a) };
 }
 
-impl NodeCore {
+impl<S: Store + Drop> NodeCore<S> {
     /// A validator at height 0, of which no rule has fired: `settle` begins.
     ///
-    /// The ring is that of validator `me`, and has keys for as many validators as have a power.
-    pub fn open(alloc: Global, config: Config, ring: KeyRing) -> NodeCore
+    /// The ring is that of validator `me`, and has keys for as many validators as have a power. The journal is this
+    /// validator's, opened, and has no records.
+    pub fn new(alloc: Global, config: Config, ring: KeyRing, journal: Journal<S>) -> NodeCore<S>
         requires owner { ring.me ≡ Validator config.me }
         requires count { ring.count ≡ length config.powers }
         requires me { config.me < length config.powers }
+        requires journal { (journal.me ≡ config.me) × (journal.failed ≡ false) }
+        requires empty { IsWhole config.powers config.me (S.seen journal.store) [] }
         ensures stands { Stands (opened config.me []) result }
         ensures powers { result.machine.powers ≡ config.powers }
         ensures me { result.machine.me ≡ config.me }
         ensures ring { result.ring ≡ ring }
+        ensures journal { result.journal ≡ record { bytes = S.seen journal.store; me = journal.me; failed = false; failures = S.failures journal.store } }
         ensures empty { (result.outgoing ≡ []) × (result.scheduled ≡ []) × (result.fired ≡ 0) }
     {
         let Config { me, powers } = config;
@@ -81,6 +94,8 @@ impl NodeCore {
             state: State::new(alloc, powers, me),
             mempool: Mempool::new(alloc),
             decisions: Decisions::new(alloc),
+            said: Vec::new(alloc),
+            journal: NodeJournal::new(journal),
             outgoing: Vec::new(alloc),
             scheduled: Vec::new(alloc),
             fired: 0,
@@ -139,7 +154,15 @@ impl NodeCore {
         self.fired
     }
 
-    /// Whether no rule is enabled: true after each call that was not refused memory.
+    /// Whether a call answered `JournalFailed`. Then each call that would change the node answers `Halted`, until its
+    /// journal is opened again.
+    pub fn has_halted(&self) -> bool
+        ensures { result ≡ self.now.journal.failed }
+    {
+        self.journal.has_failed()
+    }
+
+    /// Whether no rule is enabled: true after each call that answered `Ok`.
     pub fn is_settled(&self) -> bool
         ensures { result ≡ is_none (enabled self.now.machine.powers self.now.machine.state) }
     {
@@ -160,5 +183,27 @@ impl NodeCore {
         ensures new { self.new ≡ record self.old { scheduled = [] } }
     {
         mem::replace(&mut self.scheduled, Vec::new(self.alloc))
+    }
+
+    /// Ends the node, and gives its journal's store, which can be opened again. Unless the node has halted, a stop leaves
+    /// just what the store holds.
+    pub fn close(self) -> S
+        ensures bytes { S.seen result ≡ self.journal.bytes }
+        ensures failures { S.failures result ≡ self.journal.failures }
+        ensures synced { self.journal.failed ≡ false → Only (S.seen result) (S.may_leave result) }
+    {
+        let NodeCore {
+            alloc: _,
+            ring: _,
+            state: _,
+            mempool: _,
+            decisions: _,
+            said: _,
+            journal,
+            outgoing: _,
+            scheduled: _,
+            fired: _,
+        } = self;
+        journal.close()
     }
 }

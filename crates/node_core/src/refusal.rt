@@ -6,14 +6,15 @@ ghost use Rattle.node_core.specs.Named.{numbers_of};
 use frame_admission::Inadmissible;
 use height_catchup::JudgeFault;
 use mempool::SubmitFault;
-use round_states::Refusal as Unkept;
+use round_states::{Refusal as Unkept, SaveFault, Unfired};
 use std::alloc::AllocError;
 
-/// Why a frame or a timeout is refused. Nothing has changed then, but after `OutOfMemory`: a message
-/// was taken in whole or not at all, each rule fired whole or not at all, and `settle` goes on.
+/// Why a call is refused. Nothing has changed then, but after `OutOfMemory` and `JournalFailed`: a message
+/// was taken in whole or not at all, and each rule fired whole or not at all. After `OutOfMemory` `settle` goes on; after
+/// `JournalFailed` each call that would change the node answers `Halted`.
 ///
-/// The first cause is told, in the order 1 to 6, 7, 10, 11, 12, 9, 8; for a transaction after 4 those of `Submit`
-/// alone, and for a bundle after 7 those of `Bundle`.
+/// `Halted` is told before any other cause, and then the first, in the order 1 to 6, 7, 10, 11, 12, 9, 8; for a
+/// transaction after 4 those of `Submit` alone, and for a bundle after 7 those of `Bundle`.
 #[derive(Clone, Copy, Debug, PartialEq, Eq, thiserror::Error)]
 pub enum Refusal {
     /// 1: the frame ends before its length, or its content before a field's end.
@@ -58,9 +59,15 @@ pub enum Refusal {
     /// 14: the bundle decides nothing.
     #[error("the bundle decides nothing: {0}")]
     Bundle(JudgeFault),
+    /// 15: an earlier call answered `JournalFailed`: the node does nothing until its journal is opened again.
+    #[error("the node has halted")]
+    Halted,
     /// 16: a growth was refused memory.
     #[error("out of memory")]
     OutOfMemory,
+    /// 17: the journal's device failed, so a record was not saved and what it says was not said. The node halts.
+    #[error("the journal failed")]
+    JournalFailed,
 }
 
 impl From<AllocError> for Refusal {
@@ -70,6 +77,21 @@ impl From<AllocError> for Refusal {
 
     fn from(_e: AllocError) -> Refusal {
         Refusal::OutOfMemory
+    }
+}
+
+impl From<Unfired> for Refusal {
+    ghost use Rattle.node_core.specs.Named.{of_unfired};
+
+    ghost from_gives = { λ cause e. e ≡ of_unfired cause };
+
+    fn from(cause: Unfired) -> Refusal {
+        match cause {
+            Unfired::OutOfMemory | Unfired::NotSaved(SaveFault::OutOfMemory) => {
+                Refusal::OutOfMemory
+            }
+            Unfired::NotSaved(SaveFault::Failed) => Refusal::JournalFailed,
+        }
     }
 }
 
@@ -136,7 +158,7 @@ impl From<JudgeFault> for Refusal {
 }
 
 impl Refusal {
-    /// The number of the refusal, 1 to 16.
+    /// The number of the refusal, 1 to 17.
     pub fn number(&self) -> u8
         ensures { result ≡ (numbers_of self.now).0 }
     {
@@ -155,7 +177,9 @@ impl Refusal {
             Refusal::WrongProposer => 12,
             Refusal::Submit(_) => 13,
             Refusal::Bundle(_) => 14,
+            Refusal::Halted => 15,
             Refusal::OutOfMemory => 16,
+            Refusal::JournalFailed => 17,
         }
     }
 

@@ -1,22 +1,23 @@
 //! What comes is taken in, or refused.
 
-ghost use Rattle.std.specs.Prelude.{◌≡◌, ◌++◌, ◌∷◌, ◌||◌, [], true, IfOk, IfSome, OnOk, OnErr, is_some, map, nat_lt};
+ghost use Rattle.std.specs.Prelude.{◌≡◌, ◌++◌, ◌∷◌, ◌||◌, [], true, false, None, IfOk, IfErr, IfSome, OnOk, OnErr, is_some, map, nat_lt};
 ghost use Rattle.transactions.specs.Grammar.{IsTxBody, IsValue, AreTags};
-ghost use Rattle.messages.specs.Grammar.{IsBundle};
+ghost use Rattle.messages.specs.Grammar.{IsBundle, body_spelling};
 ghost use Rattle.messages.specs.Framing.{IsMessage};
+ghost use Rattle.protocol.specs.Tags.{Validator, right};
 ghost use Rattle.protocol.specs.Messages.{OfProposal, OfVote, OfAsk};
 ghost use Rattle.protocol.specs.State.{Node, DecideByBundle};
 ghost use Rattle.protocol.specs.Rules.{holds, keeping};
 ghost use Rattle.protocol.specs.Queues.{queued};
 ghost use Rattle.protocol.specs.Arrivals.{kept_message, replies, bundles_of};
 ghost use Rattle.protocol.specs.Refusals.{first_cause, answering, NotQueued, tx_causes, proposal_causes, vote_causes, ask_causes, bundle_causes};
-ghost use Rattle.frame_admission.specs.Gate.{state_causes};
+ghost use Rattle.frame_admission.specs.Gate.{gate_causes, state_causes};
 ghost use Rattle.round_machine.specs.Bundling.{Came};
 ghost use Rattle.node_core.specs.Core.{Stands, setting_of, context_of, frame_by};
-ghost use Rattle.node_core.specs.Calls.{IsAnswer, IsReceived, IsBeside, HasFiredOnce};
+ghost use Rattle.node_core.specs.Calls.{IsAnswer, IsReceived, IsRefused, IsUnfired, IsBeside, HasFiredOnce, TellsJournal};
 
 use crate::firing::{note, push_one};
-use crate::journal::decide_unsaved;
+use crate::journal::decide_saving;
 use crate::node::NodeCore;
 use crate::refusal::Refusal;
 use frame_admission::{frame_for, is_genuine};
@@ -25,18 +26,22 @@ use messages::{Ask, Body, Bundle, Message, Proposal, Vote};
 use round_states::Fired;
 use std::alloc::AllocError;
 use transactions::{Duplicate, Seq, Tx};
+use vote_journal::Store;
 
 /// This many heights are decided: the last is one below it.
 const MOST_HEIGHT: u64 = 1 << 48;
 
-impl NodeCore {
+impl<S: Store + Drop> NodeCore<S> {
     /// Takes an admitted message in, or tells the first cause against it.
     pub(crate) fn take(&mut self, message: Message) -> Result<(), Refusal>
-        requires { IsMessage message }
+        requires spelled { IsMessage message }
+        requires admitted { first_cause (gate_causes (setting_of self.old) self.old.machine.me message.body message.tags) ≡ None }
+        requires running { self.old.journal.failed ≡ false }
         ensures answer { (n : Node) → Stands n self.old → IsAnswer (first_cause (state_causes (setting_of self.old) self.old.machine.me n message message.body)) result }
         ensures ok { OnOk result ((n : Node) → Stands n self.old → IsReceived n message self.old self.new) }
         ensures fired { self.new.fired ≡ self.old.fired }
-        ensures err { OnErr result (self.new ≡ self.old) }
+        ensures journal { TellsJournal result self.old.journal self.new.journal }
+        ensures err { IfErr result (λ r. IsRefused r self.old self.new) }
     {
         let Message { body, tags } = message;
         match body {
@@ -54,6 +59,7 @@ impl NodeCore {
         requires tags { AreTags tags }
         ensures answer { (n : Node) → Stands n self.old → IsAnswer (first_cause (answering NotQueued (tx_causes (setting_of self.old) self.old.machine.me n.state.delivered n.queues (record tx { tags = tags })))) result }
         ensures ok { OnOk result (self.new ≡ record self.old { queues = queued (record tx { tags = tags }) self.old.queues }) }
+        ensures journal { TellsJournal result self.old.journal self.new.journal }
         ensures err { OnErr result (self.new ≡ self.old) }
     {
         let tx = Tx { tags, ..tx };
@@ -62,10 +68,12 @@ impl NodeCore {
 
     /// A vote is kept, with its tags.
     fn take_vote(&mut self, vote: Vote, tags: Seq<[u8; 32]>) -> Result<(), Refusal>
-        requires { AreTags tags }
+        requires tags { AreTags tags }
+        requires right { right (setting_of self.old) self.old.machine.me (Validator vote.sender) (body_spelling (OfVote vote)) tags ≡ true }
         ensures answer { IsAnswer (first_cause (vote_causes self.old.machine.me self.old.machine.state vote)) result }
         ensures ok { OnOk result (self.new.machine.state ≡ kept_message self.old.machine.state (record { body = OfVote vote; tags = tags }) (OfVote vote)) }
         ensures beside { IsBeside self.old self.new }
+        ensures journal { TellsJournal result self.old.journal self.new.journal }
         ensures err { OnErr result (self.new ≡ self.old) }
     {
         Ok(self.state.take_vote(vote, tags)?)
@@ -77,6 +85,7 @@ impl NodeCore {
         ensures answer { IsAnswer (first_cause (proposal_causes self.old.machine.powers self.old.machine.me self.old.machine.state proposal)) result }
         ensures ok { OnOk result (self.new.machine.state ≡ keeping self.old.machine.state (OfProposal proposal)) }
         ensures beside { IsBeside self.old self.new }
+        ensures journal { TellsJournal result self.old.journal self.new.journal }
         ensures err { OnErr result (self.new ≡ self.old) }
     {
         self.state.check_proposal(&proposal)?;
@@ -100,6 +109,7 @@ impl NodeCore {
         ensures answer { IsAnswer (first_cause (ask_causes self.old.machine.state ask)) result }
         ensures ok { OnOk result ((n : Node) → Stands n self.old → self.new ≡ record self.old { outgoing = self.old.outgoing ++ map (frame_by self.old) (replies n (OfAsk ask)) }) }
         ensures fired { self.new.fired ≡ self.old.fired }
+        ensures journal { TellsJournal result self.old.journal self.new.journal }
         ensures err { OnErr result (self.new ≡ self.old) }
     {
         match self.frame_of_decision(ask.height)? {
@@ -130,11 +140,13 @@ impl NodeCore {
 
     /// A bundle decides its height.
     fn take_bundle(&mut self, bundle: Bundle) -> Result<(), Refusal>
-        requires { IsBundle bundle }
+        requires spelled { IsBundle bundle }
+        requires running { self.old.journal.failed ≡ false }
         ensures answer { IsAnswer (first_cause (bundle_causes (setting_of self.old) self.old.machine.me self.old.machine.state bundle)) result }
         ensures ok { OnOk result ((n : Node) → Stands n self.old → HasFiredOnce n (DecideByBundle bundle) self.old self.new) }
         ensures fired { self.new.fired ≡ self.old.fired }
-        ensures err { OnErr result (self.new ≡ self.old) }
+        ensures journal { TellsJournal result self.old.journal self.new.journal }
+        ensures err { IfErr result (λ r. IsRefused r self.old self.new) }
     {
         if bundle.height != self.state.height() || bundle.height >= MOST_HEIGHT {
             return Err(Refusal::OtherHeight);
@@ -146,25 +158,38 @@ impl NodeCore {
             &self.ring,
             self.state.frontier(),
         )?;
-        Ok(self.decide(bundle)?)
+        self.decide(bundle)
     }
 
     /// Line 49, by precommits that another validator collected.
-    fn decide(&mut self, bundle: Bundle) -> Result<(), AllocError>
+    fn decide(&mut self, bundle: Bundle) -> Result<(), Refusal>
         ghost came: { Came }
+        requires running { self.old.journal.failed ≡ false }
         requires came { came ≡ record { context = context_of self.old; bundle = bundle } }
         requires holds { holds (context_of self.old) self.old.machine.state (DecideByBundle bundle) ≡ true }
         requires spelled { IsBundle bundle }
         ensures ok { OnOk result ((n : Node) → Stands n self.old → HasFiredOnce n (DecideByBundle bundle) self.old self.new) }
         ensures fired { self.new.fired ≡ self.old.fired }
-        ensures err { OnErr result (self.new ≡ self.old) }
+        ensures journal { TellsJournal result self.old.journal self.new.journal }
+        ensures err { IfErr result (λ r. IsUnfired r self.old self.new) }
     {
         let certificate = certified(self.alloc, bundle, &self.ring)?;
         self.scheduled.reserve(1)?;
         self.decisions.reserve(1)?;
-        let Fired { saved, timeout } = decide_unsaved(&mut self.state, certificate)?;
+        self.said.reserve(1)?;
+        let Fired { saved, timeout } = decide_saving(
+            &mut self.state,
+            certificate,
+            &mut self.journal,
+        )?;
         push_one(&mut self.scheduled, timeout);
-        note(saved, &self.state, &mut self.decisions, &mut self.mempool);
+        note(
+            saved,
+            &self.state,
+            &mut self.decisions,
+            &mut self.mempool,
+            &mut self.said,
+        );
         Ok(())
     }
 }

@@ -1,11 +1,13 @@
 //! Validator 3 of four of power 1. The key of what validator S sends to it is 32 times the byte 0xSS, and that of what
 //! client C sends 32 times the byte 0xCC.
 
-ghost use Rattle.std.specs.Prelude.{◌≡◌, IfOk, length};
+ghost use Rattle.std.specs.Prelude.{◌≡◌, [], false, IfOk, length};
 ghost use Rattle.protocol.specs.Tags.{Validator};
+ghost use Rattle.vote_journal.specs.Layout.{IsWhole};
 
 mod answers;
 mod bundles;
+mod journal;
 mod memory;
 mod proposer;
 mod queues;
@@ -20,6 +22,7 @@ use std::alloc::Global;
 use std::process::Abort;
 use std::test::Fail;
 use transactions::{Id, Value, read_value, value_id};
+use vote_journal::{Journal, MemoryStore};
 
 const KEYS: &[u8] = b"v0 v3 0000000000000000000000000000000000000000000000000000000000000000
 v1 v3 1111111111111111111111111111111111111111111111111111111111111111
@@ -66,7 +69,30 @@ fn powers_of(rt: &impl Abort, each: Vec<u32>) -> Result<Powers, Fail>
     Ok(powers)
 }
 
-fn begin(rt: &impl Abort, core: &mut NodeCore) {
+/// Validator `me`'s journal without records, on a store in memory. Call number `failing` of the store fails, and of an append
+/// that many bytes stay.
+fn journal_of(
+    rt: &impl Abort,
+    alloc: Global,
+    me: u16,
+    powers: &Powers,
+    failing: u64,
+    keep: usize,
+) -> Journal<MemoryStore>
+    ensures state { (result.me ≡ me) × (result.failed ≡ false) }
+    ensures empty { IsWhole powers.now me result.store.bytes.items [] }
+{
+    let store = MemoryStore::new(Vec::new(alloc), failing, keep);
+    let Ok(opened) = Journal::open(alloc, store, me, powers) else {
+        panic!(rt; "the store opens");
+    };
+    let Ok(journal) = opened.without_records() else {
+        panic!(rt; "it has no records");
+    };
+    journal
+}
+
+fn begin(rt: &impl Abort, core: &mut NodeCore<MemoryStore>) {
     assert!(rt; !core.is_settled());
     assert_eq!(rt; core.settle(), Ok(()));
 }
@@ -86,15 +112,22 @@ fn value_spelling(number: u8) -> [u8; 146] {
 #[derive(Drop)]
 struct Node {
     alloc: Global,
-    core: NodeCore,
+    core: NodeCore<MemoryStore>,
 }
 
 impl Node {
     /// It has begun.
     fn new(rt: &impl Abort, alloc: Global) -> Result<Node, Fail> {
+        Node::failing(rt, alloc, 0, 0)
+    }
+
+    /// It has begun, over a store whose call of this number fails, counted from 1: the first is the opening's append of the
+    /// header, and the second its sync.
+    fn failing(rt: &impl Abort, alloc: Global, failing: u64, keep: usize) -> Result<Node, Fail> {
         let powers = powers_of(rt, vec![in alloc; 1, 1, 1, 1]?)?;
         let ring = ring_of(rt, alloc, KEYS, 3, 4)?;
-        let mut core = NodeCore::open(alloc, Config { me: 3, powers }, ring);
+        let journal = journal_of(rt, alloc, 3, &powers, failing, keep);
+        let mut core = NodeCore::new(alloc, Config { me: 3, powers }, ring, journal);
         begin(rt, &mut core);
         Ok(Node { alloc, core })
     }

@@ -1,9 +1,10 @@
 //! Validator 0 of two of equal power, neither of which is a quorum, proposes first.
 
-use super::{powers_of, ring_of};
-use node_core::{Config, NodeCore};
+use super::{journal_of, powers_of, ring_of};
+use node_core::{Config, NodeCore, Refusal};
 use std::process::Abort;
 use std::test::Fail;
+use vote_journal::MemoryStore;
 
 const KEYS: &[u8] = b"v0 v0 1111111111111111111111111111111111111111111111111111111111111111
 v1 v0 2222222222222222222222222222222222222222222222222222222222222222
@@ -11,7 +12,7 @@ v0 v1 3333333333333333333333333333333333333333333333333333333333333333
 ";
 
 /// It proposes and prevotes.
-fn begins(rt: &impl Abort, core: &mut NodeCore) {
+fn begins(rt: &impl Abort, core: &mut NodeCore<MemoryStore>) {
     assert_eq!(rt; core.settle(), Ok(()));
     assert_eq!(rt; core.fired(), 2);
     assert_eq!(rt; core.outgoing().len(), 2);
@@ -23,7 +24,27 @@ fn begins(rt: &impl Abort, core: &mut NodeCore) {
 fn proposer_begins(rt: HostRuntime) -> Result<(), Fail> {
     let powers = powers_of(&rt, vec![in rt.alloc(); 1, 1]?)?;
     let ring = ring_of(&rt, rt.alloc(), KEYS, 0, 2)?;
-    let mut core = NodeCore::open(rt.alloc(), Config { me: 0, powers }, ring);
+    let journal = journal_of(&rt, rt.alloc(), 0, &powers, 0, 0);
+    let mut core = NodeCore::new(rt.alloc(), Config { me: 0, powers }, ring, journal);
     begins(&rt, &mut core);
+    Ok(())
+}
+
+/// Its proposal is saved and released; the sync of its prevote fails, so it halts and doesn't say it.
+fn halts_at_its_prevote(rt: &impl Abort, core: &mut NodeCore<MemoryStore>) {
+    assert_eq!(rt; core.settle(), Err(Refusal::JournalFailed));
+    assert_eq!(rt; core.outgoing().len(), 1);
+    assert_eq!(rt; core.settle(), Err(Refusal::Halted));
+    assert_eq!(rt; core.outgoing().len(), 0);
+}
+
+/// The store's third sync fails: the first is the opening's, and the second the proposal's.
+#[test]
+fn third_sync_fails(rt: HostRuntime) -> Result<(), Fail> {
+    let powers = powers_of(&rt, vec![in rt.alloc(); 1, 1]?)?;
+    let ring = ring_of(&rt, rt.alloc(), KEYS, 0, 2)?;
+    let journal = journal_of(&rt, rt.alloc(), 0, &powers, 6, 0);
+    let mut core = NodeCore::new(rt.alloc(), Config { me: 0, powers }, ring, journal);
+    halts_at_its_prevote(&rt, &mut core);
     Ok(())
 }

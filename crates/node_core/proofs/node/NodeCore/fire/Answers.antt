@@ -1,7 +1,11 @@
-use Rattle.std.proofs.Common.{◌≡◌, All, List, refl, sym, ap, subst, ◌∙◌}
+use Rattle.std.proofs.Common.{◌≡◌, All, List, IfSome, refl, sym, ap, subst, ◌∙◌}
 use Rattle.std.proofs.lemmas.List.{map-append}
+use Rattle.std.proofs.lemmas.Result.{err_from_is_err_and}
 use Rattle.protocol.specs.State.{Context}
-use Rattle.protocol.specs.Rules.{fired, saved, scheduled}
+use Rattle.messages.specs.Grammar.{IsBody}
+use Rattle.protocol.specs.Rules.{fired, saved, scheduled, released_by}
+use Rattle.round_states.specs.Saving.{Wrote}
+use Rattle.node_core.specs.Saving.{Saves}
 use Rattle.round_machine.specs.Naming.{rule_of, pick_in}
 use Rattle.round_states.specs.Machine.{Agrees}
 use Rattle.round_states.specs.Pending.{pending_of}
@@ -11,49 +15,99 @@ use Rattle.node_core.specs.Seen.{seen}
 use Rattle.protocol.specs.Messages.{Bundle}
 use Rattle.protocol.specs.Queues.{pick}
 use Rattle.node_core.specs.Firing.{IsHanded, decided_by, IsNarrow}
-use Rattle.node_core.proofs.Spelled.{rule_decided}
-use Rattle.node_core.proofs.Firings.{IsFiredTo, fired_to, fired_once, fired_sound, pending_decided, decided_in}
+use Rattle.node_core.proofs.Spelled.{AreDecided, rule_decided}
+use Rattle.node_core.proofs.Recorded.{rule_may_fire, decided_height}
+use Rattle.node_core.proofs.Unsaid.{unfired_tells, unfired_core, unfired_sound}
+use Rattle.node_core.proofs.Firings.{IsFiredTo, MayFire, fired_to, fired_once, fired_sound, written_serves, pending_decided, decided_in}
 use Rattle.node_core.proofs.node.NodeCore.fire.Given as given
 use Rattle.node_core.proofs.node.NodeCore.fire.Goals as goal
 
-made : (g : given.Over) (c : goal.After-note g) → IsFiredTo (rule_of c.self.inside.state.state c.args.rule) (seen c.self.inside)
-    (seen (record { alloc = c.self.inside.alloc; ring = c.self.inside.ring; state = c.fire.new.state; mempool = c.note.new.mempool; decisions = c.note.new.decisions; outgoing = c.push_one.new.list; scheduled = c.push_one-2.new.list; fired = c.self.inside.fired }))
+made : (g : given.Over) (c : goal.After-note g) → IsFiredTo (rule_of c.self.inside.state.state c.args.rule) (seen {S = g.row.S.Denot} c.self.inside)
+    (seen {S = g.row.S.Denot} (record { alloc = c.self.inside.alloc; ring = c.self.inside.ring; state = c.fire.new.state; mempool = c.note.new.mempool; decisions = c.note.new.decisions; said = c.note.new.said; journal = c.fire.new.journal; outgoing = c.push_one.new.list; scheduled = c.push_one-2.new.list; fired = c.self.inside.fired }))
 made g c =
     let core : Core = seen c.self.inside in
     let s = core.machine.state in
     let k = rule_of s c.args.rule in
     let v = picked_value (pick_in c.in_ok-input.input) in
     let same = (subst (λ (n : Core). IsHanded n c.args.rule c.in_ok-input.input) (sym c.self.view_is) c.in_ok-input.ensures.handed).same in
-    let context = rw (← c.self.view_is) at c.requires.0 in
-    let fires = c.in-Ok.ensures in
-    let frames = c.in_ok-frame.ensures in
-    fired_to k core _ v c.in-Ok.fired.saved c.in-Ok.fired.timeout same
+    let context = rw (← c.self.view_is) at c.requires.1.1.0 in
+    let fires = c.in_ok-saved.ensures in
+    let frames = c.in_ok-frame.ensures.frame in
+    fired_to k core _ v c.in_ok-saved.field-0.saved c.in_ok-saved.field-0.timeout same
     (subst (λ (h : Context). c.fire.new.state.state ≡ fired h v s k) context fires.state)
     (subst (λ (h : Context). Agrees h c.fire.new.state) context fires.agrees)
     refl
-    (subst (λ (h : Context). c.in-Ok.fired.saved ≡ pending_of core.machine.me (saved h v s k)) context fires.saved)
-    (subst (λ (h : Context). c.in-Ok.fired.timeout ≡ scheduled h s k) context fires.timeout)
+    (subst (λ (h : Context). c.in_ok-saved.field-0.saved ≡ pending_of core.machine.me (saved h v s k)) context fires.saved)
+    (subst (λ (h : Context). c.in_ok-saved.field-0.timeout ≡ scheduled h s k) context fires.timeout)
     c.note.ensures.queues
     (rw c.reserve-3.ensures.same at c.note.ensures.decisions)
     (rw (c.push_one.ensures, c.reserve.ensures.items, map-append, frames) refl)
     (rw c.reserve-2.ensures.items at c.push_one-2.ensures)
+    (rw c.reserve-4.ensures.items at c.note.ensures.said)
+    (subst (λ (h : Context). Wrote Saves (pending_of core.machine.me (saved h v s k)) core.journal c.fire.new.journal) context fires.wrote)
 
-pub returns-clause-ok : goal.returns-clause-ok
-returns-clause-ok g c = rw (← c.self.view_is) (λ n s. fired_once n _ _ _ (made g c) s)
-
-pub invariant_of-self-3 : goal.invariant_of-self-3
-invariant_of-self-3 g c =
+-- what was decided, if anything
+decided : (g : given.Over) (c : goal.After-note g) → AreDecided (seen c.self.inside) (decided_in (saved (context_of (seen c.self.inside)) (pick (seen c.self.inside).queues) c.self.inside.state.state (rule_of c.self.inside.state.state c.args.rule)))
+decided g c =
     let core : Core = seen c.self.inside in
     let s = core.machine.state in
     let k = rule_of s c.args.rule in
     let v = picked_value (pick_in c.in_ok-input.input) in
-    let context = rw (← c.self.view_is) at c.requires.0 in
+    let context = rw (← c.self.view_is) at c.requires.1.1.0 in
     let same = (subst (λ (n : Core). IsHanded n c.args.rule c.in_ok-input.input) (sym c.self.view_is) c.in_ok-input.ensures.handed).same in
-    let unsaved = subst (λ (h : Context). c.in-Ok.fired.saved ≡ pending_of core.machine.me (saved h v s k)) context c.in-Ok.ensures.saved in
+    let unsaved = subst (λ (h : Context). c.in_ok-saved.field-0.saved ≡ pending_of core.machine.me (saved h v s k)) context c.in_ok-saved.ensures.saved in
     let decided = ap decided_by unsaved ∙ pending_decided core.machine.me (saved (context_of core) v s k) ∙ ap decided_in same in
     let fit = rw (← c.self.view_is) at c.in_ok-input.ensures.fit in
-    let a = rule_decided core c.self.invariant (pick core.queues) c.args.rule fit (subst (λ (bs : List Bundle). All IsNarrow bs) decided c.note.ensures.narrow) in
-    fired_sound k core _ (made g c) c.self.invariant a.spelled a.own
+    rule_decided core c.self.invariant (pick core.queues) c.args.rule fit (subst (λ (bs : List Bundle). All IsNarrow bs) decided c.note.ensures.narrow)
+
+-- what is released can be spelled
+spelled : (g : given.Over) (c : goal.After-note g) → IfSome (released_by c.self.inside.state.me (saved (context_of (seen c.self.inside)) (pick (seen c.self.inside).queues) c.self.inside.state.state (rule_of c.self.inside.state.state c.args.rule))) IsBody
+spelled g c =
+    let core : Core = seen c.self.inside in
+    let same = (subst (λ (n : Core). IsHanded n c.args.rule c.in_ok-input.input) (sym c.self.view_is) c.in_ok-input.ensures.handed).same in
+    let body = c.in_ok-frame.ensures.spelled in
+    subst (λ o. IfSome (released_by core.machine.me o) IsBody) same body
+
+may : (g : given.Over) (c : goal.After-note g) → MayFire (rule_of c.self.inside.state.state c.args.rule) (seen c.self.inside)
+may g c =
+    let core : Core = seen c.self.inside in
+    rule_may_fire core c.self.invariant (rw (← c.self.view_is) at c.requires.1.0) c.args.rule (rw (← c.self.view_is) at c.in_ok-input.ensures.fit) (rw (← c.self.view_is) at c.requires.1.1.1.1) (spelled g c) (decided g c).spelled
+
+pub returns-clause-ok : goal.returns-clause-ok
+returns-clause-ok g c = rw (← c.self.view_is) (λ n s. fired_once n _ _ _ (made g c) (may g c) s)
+
+pub returns-clause-journal : goal.returns-clause-journal
+returns-clause-journal g c = rw (← c.self.view_is) (written_serves _ _ _ (made g c).journal)
+
+pub invariant_of-self-3 : goal.invariant_of-self-3
+invariant_of-self-3 g c = let a = decided g c in fired_sound (rule_of c.self.inside.state.state c.args.rule) (seen c.self.inside) _ (made g c) (may g c) a.spelled a.own (spelled g c)
 
 pub returns-clause-state : goal.returns-clause-state
 returns-clause-state g c = subst (λ (n : Core). c.fire.new.state.state ≡ fired (context_of n) (pick n.queues) n.machine.state (rule_of n.machine.state c.args.rule)) c.self.view_is (made g c).state
+
+pub note-requires-clause-height : goal.note-requires-clause-height
+note-requires-clause-height g c =
+    let core : Core = seen c.self.inside in
+    let s = core.machine.state in
+    let k = rule_of s c.args.rule in
+    let v = picked_value (pick_in c.in_ok-input.input) in
+    let context = rw (← c.self.view_is) at c.requires.1.1.0 in
+    let unsaved = subst (λ (h : Context). c.in_ok-saved.field-0.saved ≡ pending_of core.machine.me (saved h v s k)) context c.in_ok-saved.ensures.saved in
+    rw (unsaved, pending_decided core.machine.me (saved (context_of core) v s k), c.reserve-3.ensures.same, c.self.invariant.decided) (decided_height (context_of core) v s k (rw (← c.self.view_is) at c.requires.1.1.1.1))
+
+pub returns-in_err-saved-clause-journal : goal.returns-in_err-saved-clause-journal
+returns-in_err-saved-clause-journal g c =
+    let p = err_from_is_err_and c.from_residual-in_err-saved.result c.from_residual-in_err-saved.ensures.1 in
+    let running = rw (← c.self.view_is) at c.requires.1.0 in
+    rw (← c.self.view_is, p.1, p.2) (unfired_tells _ c.in_err-saved.field-0.0 c.self.inside.journal c.fire.new.journal running c.in_err-saved.ensures.unwritten)
+
+pub returns-in_err-saved-clause-err : goal.returns-in_err-saved-clause-err
+returns-in_err-saved-clause-err g c =
+    let p = err_from_is_err_and c.from_residual-in_err-saved.result c.from_residual-in_err-saved.ensures.1 in
+    rw (← c.self.view_is, p.1, p.2, c.in_err-saved.ensures.err, c.reserve.ensures.items, c.reserve-2.ensures.items, c.reserve-3.ensures.same, c.reserve-4.ensures.items)
+    (unfired_core _ c.in_err-saved.field-0.0 (seen c.self.inside) c.fire.new.journal c.in_err-saved.ensures.unwritten)
+
+pub invariant_of-self-in_err-saved : goal.invariant_of-self-in_err-saved
+invariant_of-self-in_err-saved g c =
+    rw (c.in_err-saved.ensures.err, c.reserve.ensures.items, c.reserve-2.ensures.items, c.reserve-3.ensures.same, c.reserve-4.ensures.items)
+    (unfired_sound _ c.in_err-saved.field-0.0 (seen c.self.inside) c.fire.new.journal c.self.invariant c.in_err-saved.ensures.unwritten)

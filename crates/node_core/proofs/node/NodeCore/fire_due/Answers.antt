@@ -8,18 +8,18 @@ use Rattle.node_core.proofs.Due.{due_fired, due_passed}
 use Rattle.node_core.proofs.node.NodeCore.fire_due.Goals as goal
 
 pub fire-requires : goal.fire-requires
-fire-requires c =
+fire-requires g c = λ κs l.
     let h = sym (c.holds_timeout.ensures (context_of (seen c.self.inside))) ∙ c.if-holds_timeout.true in
-    (refl, (tt, subst (λ (x : Core). holds (context_of x) x.machine.state (TimedOut c.args.timeout) ≡ true) c.self.view_is h))
+    (l, (c.requires.running, (refl, (tt, subst (λ (x : Core). holds (context_of x) x.machine.state (TimedOut c.args.timeout) ≡ true) c.self.view_is h))))
 
 pub returns-then-holds_timeout-clause-ok : goal.returns-then-holds_timeout-clause-ok
-returns-then-holds_timeout-clause-ok c =
+returns-then-holds_timeout-clause-ok g c =
     let h = sym (c.holds_timeout.ensures (context_of (seen c.self.inside))) ∙ c.if-holds_timeout.true in
     let there = subst (λ (x : Core). holds (context_of x) x.machine.state (TimedOut c.args.timeout) ≡ true) c.self.view_is h in
     on_ok_weaker c.fire.result (λ once n s. due_fired n c.args.timeout c.args.self.now c.fire.new.self s there (once n s)) c.fire.ensures.ok
 
 pub returns-else-holds_timeout-clause-ok : goal.returns-else-holds_timeout-clause-ok
-returns-else-holds_timeout-clause-ok c =
+returns-else-holds_timeout-clause-ok g c =
     let h = sym (c.holds_timeout.ensures (context_of (seen c.self.inside))) ∙ c.if-holds_timeout.false in
     let there = subst (λ (x : Core). holds (context_of x) x.machine.state (TimedOut c.args.timeout) ≡ false) c.self.view_is h in
     λ n s. due_passed n c.args.timeout c.args.self.now s there

@@ -1,72 +1,134 @@
-use Rattle.std.proofs.Common.{Option, inl, sym, ap, subst, ◌∙◌}
+use Rattle.std.proofs.Common.{◌≡◌, ℕ, List, Option, None, Result, Ok, Err, inl, inr, sym, ap, subst, ◌∙◌}
 use Rattle.std.proofs.lemmas.Result.{err_from_is_err_and}
-use Rattle.protocol.specs.Refusals.{Refusal}
+use Rattle.protocol.specs.Refusals.{Refusal, first_cause, answer}
+use Rattle.protocol.specs.Messages.{Message}
+use Rattle.protocol.specs.State.{Node}
 use Rattle.protocol.specs.History.{Given}
-use Rattle.frame_admission.specs.Gate.{answer_behind}
+use Rattle.frame_admission.specs.Gate.{admission, answer_behind, state_causes, IsAnswer as IsAdmitted}
 use Rattle.frame_admission.proofs.Causes.{gate_law, let_in_message}
-use Rattle.node_core.specs.Core.{Core, setting_of}
-use Rattle.node_core.specs.Calls.{IsRefusal}
+use Rattle.node_core.specs.Core.{Core, Stands, setting_of}
+use Rattle.node_core.specs.declared.refusal.Refusal.{Refusal as Answer}
+use Rattle.node_core.specs.Calls.{IsAnswer, IsRefusal, IsDone}
 use Rattle.node_core.specs.Named.{of_inadmissible}
 use Rattle.node_core.specs.Seen.{seen}
 use Rattle.node_core.proofs.Known.{known}
-use Rattle.node_core.proofs.Given.{gate_refused, refused_done, received_taken, received_from}
-use Rattle.node_core.proofs.Stepwise.{stands_counted, called_run}
+use Rattle.node_core.proofs.Given.{gate_refused, refused_done, received_taken}
+use Rattle.node_core.proofs.Telling.{tells_itself, tells_from, inadmissible_other}
+use Rattle.node_core.proofs.Stepwise.{stands_counted}
+use Rattle.node_core.proofs.Called.{halted_answers, halted_done, halted_tells, running_answers, run_answer, tells_begun, run_begun, refused_call, refused_left, run_left}
+use Rattle.node_core.proofs.node.NodeCore.handle.Given as given
 use Rattle.node_core.proofs.node.NodeCore.handle.Goals as goal
 
-pub returns-in_err-message-clause-answer : goal.returns-in_err-message-clause-answer
-returns-in_err-message-clause-answer c =
-    let core : Core = seen c.self.inside in
+pub returns-in_err-begin-clause-answer : goal.returns-in_err-begin-clause-answer
+returns-in_err-begin-clause-answer g c =
     let p = err_from_is_err_and c.from_residual.result c.from_residual.ensures.1 in
-    let wanted = c.in_err-message.ensures.answer (setting_of core) core.machine.me (known core c.self.invariant) in
-    rw (← c.self.view_is, p.1, p.2) (λ n s. subst (λ (o : Option Refusal). IsRefusal o (of_inadmissible c.in_err-message.field-0.0)) (sym (gate_law (setting_of core) core.machine.me n c.args.frame.now)) (gate_refused (setting_of core) core.machine.me n _ c.in_err-message.field-0.0 wanted))
+    rw (p.1, p.2) (λ n s. halted_answers c.args.self.now.journal.failed _ c.in_err-begin.field-0.0 c.in_err-begin.ensures.halted.0 c.in_err-begin.ensures.halted.1)
+
+pub returns-in_err-begin-clause-done : goal.returns-in_err-begin-clause-done
+returns-in_err-begin-clause-done g c =
+    let p = err_from_is_err_and c.from_residual.result c.from_residual.ensures.1 in
+    rw (p.1, p.2) (λ n s. halted_done n (Given c.args.frame.now) c.in_err-begin.field-0.0 c.args.self.now c.begin.new.self c.in_err-begin.ensures.halted.0 c.in_err-begin.ensures.halted.1 c.in_err-begin.ensures.new)
+
+pub returns-in_err-begin-clause-journal : goal.returns-in_err-begin-clause-journal
+returns-in_err-begin-clause-journal g c =
+    let p = err_from_is_err_and c.from_residual.result c.from_residual.ensures.1 in
+    rw (p.1, p.2) (halted_tells c.in_err-begin.field-0.0 c.args.self.now c.begin.new.self c.in_err-begin.ensures.halted.0 c.in_err-begin.ensures.new)
+
+-- ---- the gate refuses
+
+refusal : (g : given.Over) (c : goal.After-from_residual-in_err-message g) (n : Node) → IsRefusal (answer (setting_of c.args.self.now) c.args.self.now.machine.me n c.args.frame.now) (of_inadmissible c.in_err-message.field-0.0)
+refusal g c n =
+    let old : Core = c.args.self.now in
+    let core : Core = seen c.self.inside in
+    let e = c.in_err-message.field-0.0 in
+    let wanted = subst (λ (x : Core). IsAdmitted (admission (setting_of x) x.machine.me c.args.frame.now) (Err e)) (c.self.view_is ∙ c.in_ok-begin.ensures.new) (c.in_err-message.ensures.answer (setting_of core) core.machine.me (known core c.self.invariant)) in
+    subst (λ (o : Option Refusal). IsRefusal o (of_inadmissible e)) (sym (gate_law (setting_of old) old.machine.me n c.args.frame.now)) (gate_refused (setting_of old) old.machine.me n _ e wanted)
+
+pub returns-in_err-message-clause-answer : goal.returns-in_err-message-clause-answer
+returns-in_err-message-clause-answer g c =
+    let p = err_from_is_err_and c.from_residual-in_err-message.result c.from_residual-in_err-message.ensures.1 in
+    rw (p.1, p.2) (λ n s. running_answers c.args.self.now.journal.failed _ (Err (of_inadmissible c.in_err-message.field-0.0)) c.in_ok-begin.ensures.running (refusal g c n))
 
 pub returns-in_err-message-clause-done : goal.returns-in_err-message-clause-done
-returns-in_err-message-clause-done c =
-    let core : Core = seen c.self.inside in
-    let p = err_from_is_err_and c.from_residual.result c.from_residual.ensures.1 in
-    let wanted = c.in_err-message.ensures.answer (setting_of core) core.machine.me (known core c.self.invariant) in
-    rw (← c.self.view_is, p.1, p.2) (λ n s. refused_done n c.args.frame.now (of_inadmissible c.in_err-message.field-0.0) core s (subst (λ (o : Option Refusal). IsRefusal o (of_inadmissible c.in_err-message.field-0.0)) (sym (gate_law (setting_of core) core.machine.me n c.args.frame.now)) (gate_refused (setting_of core) core.machine.me n _ c.in_err-message.field-0.0 wanted)))
+returns-in_err-message-clause-done g c =
+    let p = err_from_is_err_and c.from_residual-in_err-message.result c.from_residual-in_err-message.ensures.1 in
+    let r = of_inadmissible c.in_err-message.field-0.0 in
+    rw (p.1, p.2) (λ n s. subst (IsDone n (Given c.args.frame.now) (Err r) c.args.self.now) (sym c.in_ok-begin.ensures.new) (refused_done n c.args.frame.now r c.args.self.now s (refusal g c n) (inadmissible_other c.in_err-message.field-0.0)))
+
+pub returns-in_err-message-clause-journal : goal.returns-in_err-message-clause-journal
+returns-in_err-message-clause-journal g c =
+    let p = err_from_is_err_and c.from_residual-in_err-message.result c.from_residual-in_err-message.ensures.1 in
+    let r = of_inadmissible c.in_err-message.field-0.0 in
+    rw (p.1, p.2) (tells_begun (Err r) c.args.self.now c.begin.new.self c.begin.new.self c.in_ok-begin.ensures.new (tells_itself r c.begin.new.self.journal (inadmissible_other c.in_err-message.field-0.0)))
+
+-- ---- the message is refused
+
+admitted : (old begun core : Core) (frame : List ℕ) (m : Message) → core ≡ begun → begun ≡ record old { fired = 0 } → admission (setting_of core) core.machine.me frame ≡ Ok m → admission (setting_of old) old.machine.me frame ≡ Ok m
+admitted old begun core frame m v b a = subst (λ (x : Core). admission (setting_of x) x.machine.me frame ≡ Ok m) (v ∙ b) a
+
+pub take-requires-clause-admitted : goal.take-requires-clause-admitted
+take-requires-clause-admitted g c =
+    let old : Core = c.args.self.now in
+    rw c.in_ok-begin.ensures.new ((let_in_message (setting_of old) old.machine.me c.args.frame.now c.in_ok-message.message (admitted c.args.self.now c.begin.new.self (seen c.self.inside) c.args.frame.now c.in_ok-message.message c.self.view_is c.in_ok-begin.ensures.new (c.in_ok-message.ensures.answer (setting_of (seen c.self.inside)) c.self.inside.state.me (known (seen c.self.inside) c.self.invariant)))).1)
+
+-- what the state's causes say of the message
+judged : (old begun : Core) (n : Node) (frame : List ℕ) (m : Message) (result : Result (Unit {0}) Answer) → begun ≡ record old { fired = 0 } → admission (setting_of old) old.machine.me frame ≡ Ok m
+    → IsAnswer (first_cause (state_causes (setting_of begun) begun.machine.me n m m.body)) result → IsAnswer (answer (setting_of old) old.machine.me n frame) result
+judged old begun n frame m result b a h =
+    let there = gate_law (setting_of old) old.machine.me n frame ∙ ap (answer_behind (setting_of old) old.machine.me n) a in
+    subst (λ (o : Option Refusal). IsAnswer o result) (sym there) (subst (λ (x : Core). IsAnswer (first_cause (state_causes (setting_of x) x.machine.me n m m.body)) result) b h)
 
 pub returns-in_err-take-clause-answer : goal.returns-in_err-take-clause-answer
-returns-in_err-take-clause-answer c =
-    let core : Core = seen c.self.inside in
+returns-in_err-take-clause-answer g c =
     let p = err_from_is_err_and c.from_residual-in_err-take.result c.from_residual-in_err-take.ensures.1 in
-    let admitted = c.in_ok-message.ensures.answer (setting_of core) core.machine.me (known core c.self.invariant) in
-    rw (← c.self.view_is, p.1, p.2) (λ n s.
-    let there = gate_law (setting_of core) core.machine.me n c.args.frame.now ∙ ap (answer_behind (setting_of core) core.machine.me n) admitted in
-    subst (λ (o : Option Refusal). IsRefusal o c.in_err-take.field-0.0) (sym there) (c.in_err-take.ensures.answer n (stands_counted n core 0 s)))
+    let old : Core = c.args.self.now in
+    let b = c.in_ok-begin.ensures.new in
+    rw (p.1, p.2) (λ n s. running_answers old.journal.failed _ (Err c.in_err-take.field-0.0) c.in_ok-begin.ensures.running
+    (judged old c.begin.new.self n c.args.frame.now c.in_ok-message.message (Err c.in_err-take.field-0.0) b (admitted c.args.self.now c.begin.new.self (seen c.self.inside) c.args.frame.now c.in_ok-message.message c.self.view_is c.in_ok-begin.ensures.new (c.in_ok-message.ensures.answer (setting_of (seen c.self.inside)) c.self.inside.state.me (known (seen c.self.inside) c.self.invariant))) (c.in_err-take.ensures.answer n (subst (Stands n) (sym b) (stands_counted n old 0 s)))))
 
 pub returns-in_err-take-clause-done : goal.returns-in_err-take-clause-done
-returns-in_err-take-clause-done c =
-    let core : Core = seen c.self.inside in
+returns-in_err-take-clause-done g c =
     let p = err_from_is_err_and c.from_residual-in_err-take.result c.from_residual-in_err-take.ensures.1 in
-    let admitted = c.in_ok-message.ensures.answer (setting_of core) core.machine.me (known core c.self.invariant) in
-    rw (← c.self.view_is, p.1, p.2, c.in_err-take.ensures.err) (λ n s.
-    let there = gate_law (setting_of core) core.machine.me n c.args.frame.now ∙ ap (answer_behind (setting_of core) core.machine.me n) admitted in
-    refused_done n c.args.frame.now c.in_err-take.field-0.0 core s (subst (λ (o : Option Refusal). IsRefusal o c.in_err-take.field-0.0) (sym there) (c.in_err-take.ensures.answer n (stands_counted n core 0 s))))
+    let old : Core = c.args.self.now in
+    let b = c.in_ok-begin.ensures.new in
+    rw (p.1, p.2) (λ n s. refused_call n c.args.frame.now c.in_err-take.field-0.0 old c.begin.new.self c.take.new.self s b
+    (judged old c.begin.new.self n c.args.frame.now c.in_ok-message.message (Err c.in_err-take.field-0.0) b (admitted c.args.self.now c.begin.new.self (seen c.self.inside) c.args.frame.now c.in_ok-message.message c.self.view_is c.in_ok-begin.ensures.new (c.in_ok-message.ensures.answer (setting_of (seen c.self.inside)) c.self.inside.state.me (known (seen c.self.inside) c.self.invariant))) (c.in_err-take.ensures.answer n (subst (Stands n) (sym b) (stands_counted n old 0 s)))) c.in_err-take.ensures.err)
 
-pub returns-in_err-fire_all-clause-done : goal.returns-in_err-fire_all-clause-done
-returns-in_err-fire_all-clause-done c =
-    let core : Core = seen c.self.inside in
-    let admitted = c.in_ok-message.ensures.answer (setting_of core) core.machine.me (known core c.self.invariant) in
-    rw (← c.self.view_is) (λ n s.
-    let s0 = stands_counted n core 0 s in
-    let there = gate_law (setting_of core) core.machine.me n c.args.frame.now ∙ ap (answer_behind (setting_of core) core.machine.me n) admitted in
-    let none = there ∙ c.in_ok-take.ensures.answer n s0 in
-    inl (called_run n (Given c.args.frame.now) core _ _ (received_taken n c.args.frame.now c.in_ok-message.message core _ (let_in_message (setting_of core) core.machine.me c.args.frame.now c.in_ok-message.message admitted).0 none (received_from n c.in_ok-message.message core _ 0 (c.in_ok-take.ensures.ok n s0))) c.fire_all.ensures.ran))
+pub returns-in_err-take-clause-journal : goal.returns-in_err-take-clause-journal
+returns-in_err-take-clause-journal g c =
+    let p = err_from_is_err_and c.from_residual-in_err-take.result c.from_residual-in_err-take.ensures.1 in
+    rw (p.1, p.2) (tells_begun (Err c.in_err-take.field-0.0) c.args.self.now c.begin.new.self c.take.new.self c.in_ok-begin.ensures.new c.in_err-take.ensures.journal)
+
+pub returns-in_err-take-clause-refused : goal.returns-in_err-take-clause-refused
+returns-in_err-take-clause-refused g c =
+    let p = err_from_is_err_and c.from_residual-in_err-take.result c.from_residual-in_err-take.ensures.1 in
+    rw (p.1, p.2) (refused_left c.in_err-take.field-0.0 c.args.self.now c.begin.new.self c.take.new.self c.in_ok-begin.ensures.new c.in_err-take.ensures.err)
+
+-- ---- it is taken in
 
 pub returns-clause-answer : goal.returns-clause-answer
-returns-clause-answer c =
-    let core : Core = seen c.self.inside in
-    let admitted = c.in_ok-message.ensures.answer (setting_of core) core.machine.me (known core c.self.invariant) in
-    rw (← c.self.view_is) (λ n s. gate_law (setting_of core) core.machine.me n c.args.frame.now ∙ ap (answer_behind (setting_of core) core.machine.me n) admitted ∙ c.in_ok-take.ensures.answer n (stands_counted n core 0 s))
+returns-clause-answer g c = λ n s.
+    let old : Core = c.args.self.now in
+    let b = c.in_ok-begin.ensures.new in
+    let none = judged old c.begin.new.self n c.args.frame.now c.in_ok-message.message (Ok tt) b (admitted c.args.self.now c.begin.new.self (seen c.self.inside) c.args.frame.now c.in_ok-message.message c.self.view_is c.in_ok-begin.ensures.new (c.in_ok-message.ensures.answer (setting_of (seen c.self.inside)) c.self.inside.state.me (known (seen c.self.inside) c.self.invariant))) (c.in_ok-take.ensures.answer n (subst (Stands n) (sym b) (stands_counted n old 0 s))) in
+    running_answers old.journal.failed _ c.fire_all.result c.in_ok-begin.ensures.running (run_answer _ c.fire_all.result none c.fire_all.ensures.answer)
 
 pub returns-clause-done : goal.returns-clause-done
-returns-clause-done c =
-    let core : Core = seen c.self.inside in
-    let admitted = c.in_ok-message.ensures.answer (setting_of core) core.machine.me (known core c.self.invariant) in
-    rw (← c.self.view_is) (λ n s.
-    let s0 = stands_counted n core 0 s in
-    let there = gate_law (setting_of core) core.machine.me n c.args.frame.now ∙ ap (answer_behind (setting_of core) core.machine.me n) admitted in
-    let none = there ∙ c.in_ok-take.ensures.answer n s0 in
-    inl (called_run n (Given c.args.frame.now) core _ _ (received_taken n c.args.frame.now c.in_ok-message.message core _ (let_in_message (setting_of core) core.machine.me c.args.frame.now c.in_ok-message.message admitted).0 none (received_from n c.in_ok-message.message core _ 0 (c.in_ok-take.ensures.ok n s0))) c.fire_all.ensures.ran))
+returns-clause-done g c = λ n s.
+    let old : Core = c.args.self.now in
+    let begun : Core = c.begin.new.self in
+    let m = c.in_ok-message.message in
+    let b = c.in_ok-begin.ensures.new in
+    let s0 = subst (Stands n) (sym b) (stands_counted n old 0 s) in
+    let none = judged old begun n c.args.frame.now m (Ok tt) b (admitted c.args.self.now c.begin.new.self (seen c.self.inside) c.args.frame.now c.in_ok-message.message c.self.view_is c.in_ok-begin.ensures.new (c.in_ok-message.ensures.answer (setting_of (seen c.self.inside)) c.self.inside.state.me (known (seen c.self.inside) c.self.invariant))) (c.in_ok-take.ensures.answer n s0) in
+    let read = (let_in_message (setting_of old) old.machine.me c.args.frame.now m (admitted c.args.self.now c.begin.new.self (seen c.self.inside) c.args.frame.now c.in_ok-message.message c.self.view_is c.in_ok-begin.ensures.new (c.in_ok-message.ensures.answer (setting_of (seen c.self.inside)) c.self.inside.state.me (known (seen c.self.inside) c.self.invariant)))).0 in
+    inl (run_begun n (Given c.args.frame.now) old begun c.take.new.self c.fire_all.new.self b
+    (received_taken n c.args.frame.now m begun c.take.new.self read (subst (λ (x : Core). answer (setting_of x) x.machine.me n c.args.frame.now ≡ None) (sym b) none) (c.in_ok-take.ensures.ok n s0)) c.fire_all.ensures.ran)
+
+pub returns-clause-journal : goal.returns-clause-journal
+returns-clause-journal g c =
+    let old : Core = c.args.self.now in
+    tells_begun c.fire_all.result old c.begin.new.self c.fire_all.new.self c.in_ok-begin.ensures.new (tells_from c.fire_all.result c.begin.new.self.journal c.take.new.self.journal c.fire_all.new.self.journal c.in_ok-take.ensures.journal c.fire_all.ensures.journal)
+
+pub returns-clause-refused : goal.returns-clause-refused
+returns-clause-refused g c = run_left c.fire_all.result _ c.fire_all.ensures.answer

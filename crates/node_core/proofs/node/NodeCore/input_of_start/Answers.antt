@@ -6,7 +6,7 @@ use Rattle.node_core.proofs.Picks.{waiting_spelled, pick_genuine}
 use Rattle.node_core.proofs.node.NodeCore.input_of_start.Goals as goal
 
 pub returns : goal.returns
-returns c =
+returns g c =
     let core = seen c.self.inside in
     let value = c.in_ok-pick.ensures.value in
     let spelled = c.in_ok-pick.ensures.spelled (waiting_spelled (setting_of core) core.machine.me core.queues c.self.invariant.waiting) in

@@ -9,6 +9,6 @@ or_else (Ok a) x other e = ap (λ a. a || other) e
 or_else (Err e) x other u = tt
 
 pub returns-in-None : goal.returns-in-None
-returns-in-None c =
+returns-in-None g c =
     let core : Core = seen c.self.inside in
     rw (← c.self.view_is) (or_else c.is_genuine.result _ _ (c.is_genuine.ensures (setting_of core) core.machine.me (known core c.self.invariant)))

@@ -1,12 +1,36 @@
-use Rattle.std.proofs.Common.{subst}
+use Rattle.std.proofs.Common.{◌≡◌, None, ap, subst}
+use Rattle.std.specs.Prelude.{is_none}
+use Rattle.std.proofs.lemmas.Bool.{not-false}
+use Rattle.protocol.specs.Messages.{Body, OfVote}
+use Rattle.protocol.proofs.Arrivals.{none_stand}
+use Rattle.frame_admission.specs.Gate.{gate_causes}
 use Rattle.protocol.specs.State.{State}
 use Rattle.protocol.specs.Refusals.{first_cause, proposal_causes}
-use Rattle.node_core.specs.Core.{setting}
+use Rattle.node_core.specs.Core.{setting, setting_of}
 use Rattle.node_core.specs.Calls.{IsAnswer}
+use Rattle.node_core.proofs.Telling.{result_refused}
 use Rattle.node_core.proofs.node.NodeCore.take.Goals as goal
 
 pub returns-in-Proposal-clause-answer : goal.returns-in-Proposal-clause-answer
 unfolding setting
-returns-in-Proposal-clause-answer c = λ n s.
+returns-in-Proposal-clause-answer g c = λ n s.
     let old = c.args.self.now in
     rw c.in-Proposal.is (subst (λ (x : State). IsAnswer (first_cause (proposal_causes old.machine.powers old.machine.me x c.in-Proposal.proposal)) c.take_proposal.result) s.state c.take_proposal.ensures.answer)
+
+pub returns-in-Tx-clause-err : goal.returns-in-Tx-clause-err
+returns-in-Tx-clause-err g c = result_refused c.take_tx.result _ _ c.take_tx.ensures.err
+
+pub returns-in-Proposal-clause-err : goal.returns-in-Proposal-clause-err
+returns-in-Proposal-clause-err g c = result_refused c.take_proposal.result _ _ c.take_proposal.ensures.err
+
+pub returns-in-Vote-clause-err : goal.returns-in-Vote-clause-err
+returns-in-Vote-clause-err g c = result_refused c.take_vote.result _ _ c.take_vote.ensures.err
+
+pub returns-in-Ask-clause-err : goal.returns-in-Ask-clause-err
+returns-in-Ask-clause-err g c = result_refused c.take_ask.result _ _ c.take_ask.ensures.err
+
+pub take_vote-requires-clause-right : goal.take_vote-requires-clause-right
+take_vote-requires-clause-right g c =
+    let old = c.args.self.now in
+    let none = subst (λ (b : Body). first_cause (gate_causes (setting_of old) old.machine.me b c.args.message.tags) ≡ None) c.in-Vote.is c.requires.admitted in
+    not-false _ (none_stand (gate_causes (setting_of old) old.machine.me (OfVote c.in-Vote.vote) c.args.message.tags) (ap is_none none)).1.0

@@ -1,0 +1,55 @@
+-- A rule that did not fire: what is left of the core and of its journal.
+use Rattle.std.proofs.Common.{◌≡◌, ◌⊎◌, inl, inr, true, false, Option, Some, None, Err, refl, sym, ap, subst, ◌∙◌}
+use Rattle.round_states.specs.Pending.{Pending}
+use Rattle.round_states.specs.Saving.{Unwritten}
+use Rattle.round_states.specs.declared.saving.SaveFault.TheVariants as saves
+use Rattle.round_states.specs.declared.saving.Unfired.{Unfired}
+use Rattle.round_states.specs.declared.saving.Unfired.TheVariants as unfired
+use Rattle.node_core.specs.declared.refusal.Refusal.TheVariants as answers
+use Rattle.node_core.specs.Core.{Core, JournalSeen, IsSound}
+use Rattle.node_core.specs.Saving.{Saves}
+use Rattle.node_core.specs.Calls.{Serves, TellsJournal, IsUnfired}
+use Rattle.node_core.specs.Named.{of_unfired}
+
+served : (old new : JournalSeen) → new ≡ old → Serves old new
+served old new e = record { failed = ap (λ (j : JournalSeen). j.failed) e; failures = ap (λ (j : JournalSeen). j.failures) e }
+
+pub unfired_tells : (p : Option Pending) (e : Unfired) (old new : JournalSeen) → old.failed ≡ false → Unwritten Saves p e old new → TellsJournal (Err (of_unfired e)) old new
+unfired_tells p unfired.OutOfMemory old new running u = served old new u
+unfired_tells None (unfired.NotSaved saves.OutOfMemory) old new running u = absurd u
+unfired_tells None (unfired.NotSaved saves.Failed) old new running u = absurd u
+unfired_tells (Some p) (unfired.NotSaved saves.OutOfMemory) old new running u = served old new u
+unfired_tells (Some p) (unfired.NotSaved saves.Failed) old new running u = record { before = running; now = u.failed; grew = u.grew running }
+
+pub unfired_core : (p : Option Pending) (e : Unfired) (old : Core) (journal : JournalSeen) → Unwritten Saves p e old.journal journal → IsUnfired (of_unfired e) old (record old { journal = journal })
+unfired_core p unfired.OutOfMemory old journal u = (refl, ap (λ j. record old { journal = j }) u)
+unfired_core None (unfired.NotSaved saves.OutOfMemory) old journal u = absurd u
+unfired_core None (unfired.NotSaved saves.Failed) old journal u = absurd u
+unfired_core (Some p) (unfired.NotSaved saves.OutOfMemory) old journal u = (refl, ap (λ j. record old { journal = j }) u)
+unfired_core (Some p) (unfired.NotSaved saves.Failed) old journal u = refl
+
+failed_sound : (core : Core) (journal : JournalSeen) → IsSound core → journal.me ≡ core.journal.me → journal.failed ≡ true → IsSound (record core { journal = journal })
+failed_sound core journal s me failed = record {
+  owner = s.owner;
+  count = s.count;
+  me = s.me;
+  whole = s.whole;
+  few = s.few;
+  agrees = s.agrees;
+  waiting = s.waiting;
+  stamps = s.stamps;
+  decided = s.decided;
+  joined = s.joined;
+  spelled = s.spelled;
+  own = s.own;
+  said = s.said;
+  journal = me ∙ s.journal;
+  kept = λ still. absurd (let e : true ≡ false = sym failed ∙ still in cc);
+}
+
+pub unfired_sound : (p : Option Pending) (e : Unfired) (old : Core) (journal : JournalSeen) → IsSound old → Unwritten Saves p e old.journal journal → IsSound (record old { journal = journal })
+unfired_sound p unfired.OutOfMemory old journal s u = subst (λ j. IsSound (record old { journal = j })) (sym u) s
+unfired_sound None (unfired.NotSaved saves.OutOfMemory) old journal s u = absurd u
+unfired_sound None (unfired.NotSaved saves.Failed) old journal s u = absurd u
+unfired_sound (Some p) (unfired.NotSaved saves.OutOfMemory) old journal s u = subst (λ j. IsSound (record old { journal = j })) (sym u) s
+unfired_sound (Some p) (unfired.NotSaved saves.Failed) old journal s u = failed_sound old journal s u.me u.failed
