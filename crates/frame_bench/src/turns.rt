@@ -10,6 +10,7 @@ use std::alloc::Global;
 use std::fmt::Write;
 use std::rt::Clock;
 use std::time::{Duration, Instant};
+use vote_journal::{Journal, MemoryStore};
 
 /// The digits of each key.
 const DIGITS: &str = "1111111111111111111111111111111111111111111111111111111111111111";
@@ -52,7 +53,7 @@ impl Turns {
     }
 
     /// Hands the frames of a turn in.
-    fn turn(&self, node: &mut NodeCore) -> Result<(), BenchFault> {
+    fn turn(&self, node: &mut NodeCore<MemoryStore>) -> Result<(), BenchFault> {
         node.settle()?;
         for frame in &self.frames {
             node.handle(&frame.bytes)?;
@@ -97,8 +98,8 @@ fn hashed(frame: &Frame, key: &Key) -> u8 {
     seen
 }
 
-/// Validator 3 of four, with eight clients.
-fn opened(alloc: Global) -> Result<NodeCore, BenchFault> {
+/// Validator 3 of four, with eight clients, over a journal in memory.
+fn opened(alloc: Global) -> Result<NodeCore<MemoryStore>, BenchFault> {
     let ring = KeyRing::read(alloc, key_file(alloc)?.as_bytes(), Party::Validator(3), 4).map_err(
         |_| BenchFault::NoNode,
     )?;
@@ -106,7 +107,14 @@ fn opened(alloc: Global) -> Result<NodeCore, BenchFault> {
     if ring.me() != Party::Validator(3) || ring.count() != powers.count() || powers.count() != 4 {
         return Err(BenchFault::NoNode);
     }
-    Ok(NodeCore::open(alloc, Config { me: 3, powers }, ring))
+    let store = MemoryStore::new(Vec::new(alloc), 0, 0);
+    let Ok(opened) = Journal::open(alloc, store, 3, &powers) else {
+        return Err(BenchFault::NoNode);
+    };
+    match opened.without_records() {
+        Ok(journal) => Ok(NodeCore::new(alloc, Config { me: 3, powers }, ring, journal)),
+        Err(_) => Err(BenchFault::NoNode),
+    }
 }
 
 fn key_file(alloc: Global) -> Result<String, BenchFault> {

@@ -64,6 +64,7 @@ Brings s (inputs.Submit line) m = (m.body ≡ OfTx (bare_tx line)) × (m.tags �
 Brings s (inputs.Frame bytes) m = ⊥
 Brings s (inputs.Timeout due) m = ⊥
 Brings s inputs.Ask m = ⊥
+Brings s inputs.Resend m = ⊥
 
 -- ---- the call that an event makes
 
@@ -81,6 +82,7 @@ abbrev pub Makes : Schedule → Input → Call → Type 0
 Makes s (inputs.Frame bytes) call = IsFrameCall bytes.items call
 Makes s (inputs.Timeout due) call = call ≡ calls.FireTimeout due
 Makes s inputs.Ask call = call ≡ calls.Ask
+Makes s inputs.Resend call = call ≡ calls.Resend
 Makes s input call = IsMessageCall (Brings s input) call
 
 -- ---- who has to be a validator

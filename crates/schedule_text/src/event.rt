@@ -29,6 +29,8 @@ pub(crate) enum Input {
     Timeout(Timeout),
     /// The validator is to ask for the decision of its height.
     Ask,
+    /// The validator is to send its own messages of the height again.
+    Resend,
 }
 
 /// A liar's proposal.

@@ -27,6 +27,7 @@
 //! - `raw P BYTES`: one frame comes to P, these bytes, of any number.
 //! - `timeout P KIND H R`: P's timeout is due. KIND is `propose`, `prevote` or `precommit`.
 //! - `ask P`: P asks for the decision of its height.
+//! - `resend P`: P sends its own messages of the height again. A report tells of none that it has told of.
 //!
 //! What comes, comes as a frame, with right tags but where an item says otherwise. The key of what
 //! FROM sends to TO is the SHA-256 digest of the text `tmsim FROM TO`, as `tmsim c7 v2`.

@@ -106,7 +106,9 @@ fn short_event_in(kind: &[u8], words: &[&[u8]], values: &Values) -> Option<Event
     } else if is_word(kind, "timeout") {
         timeout_line(words)
     } else if is_word(kind, "ask") {
-        ask_line(words)
+        bare_line(words, Input::Ask)
+    } else if is_word(kind, "resend") {
+        bare_line(words, Input::Resend)
     } else {
         None
     }
@@ -214,14 +216,14 @@ fn timeout_line(words: &[&[u8]]) -> Option<Event> {
     })
 }
 
-/// `ask P`
-fn ask_line(words: &[&[u8]]) -> Option<Event> {
+/// `ask P` or `resend P`
+fn bare_line(words: &[&[u8]], input: Input) -> Option<Event> {
     let [receiver] = words else {
         return None;
     };
     Some(Event {
         receiver: count_in(receiver)?,
-        input: Input::Ask,
+        input,
     })
 }
 

@@ -5,6 +5,7 @@ use messages::{Ask, Step, Vote};
 use node_core::{NodeCore, Refusal};
 use std::fmt;
 use transactions::{Id, Op, Tx};
+use vote_journal::MemoryStore;
 
 /// What there is to tell of an event.
 #[derive(Clone, Copy)]
@@ -216,7 +217,7 @@ fn write_digits<W: fmt::Write>(bytes: &[u8], f: &mut fmt::Formatter<W>) -> fmt::
 #[derive(Clone, Copy)]
 pub(crate) struct EndLine<'a> {
     pub(crate) me: u16,
-    pub(crate) node: &'a NodeCore,
+    pub(crate) node: &'a NodeCore<MemoryStore>,
 }
 
 impl fmt::Display for EndLine<'_> {

@@ -1,7 +1,8 @@
 //! The run of a schedule, event by event.
 
-ghost use Rattle.std.specs.Prelude.{IfOk};
+ghost use Rattle.std.specs.Prelude.{◌≡◌, [], false, IfOk};
 ghost use Rattle.protocol.specs.Rings.{IsRingOf};
+ghost use Rattle.vote_journal.specs.Layout.{IsWhole};
 ghost use Rattle.schedule_text.specs.Events.{setting_of};
 
 use crate::event::Event;
@@ -14,8 +15,10 @@ use crate::world::World;
 use indexmap::IndexSet;
 use messages::{Body, Bundle, body_in, read};
 use node_core::{Config, NodeCore, Refusal};
+use powers::Powers;
 use std::alloc::{AllocError, Global};
 use transactions::{Id, Value, value_id};
+use vote_journal::{Journal, MemoryStore};
 
 /// A run: the validator's node, and what was told of it.
 #[derive(Drop)]
@@ -23,7 +26,7 @@ pub(crate) struct Run<'a> {
     alloc: Global,
     senders: Senders<'a>,
     me: u16,
-    node: NodeCore,
+    node: NodeCore<MemoryStore>,
     /// How many of the node's decisions were told.
     decisions_told: usize,
     /// The spelled bodies of messages; a message's number is its place.
@@ -48,7 +51,7 @@ impl<'a> Run<'a> {
     }
 
     /// The validator's node.
-    pub(crate) fn node(&self) -> &NodeCore {
+    pub(crate) fn node(&self) -> &NodeCore<MemoryStore> {
         &self.node
     }
 
@@ -100,6 +103,7 @@ impl<'a> Run<'a> {
             Call::Handle(frame) => self.node.handle(frame),
             Call::FireTimeout(timeout) => self.node.fire_timeout(*timeout),
             Call::Ask => self.node.ask(),
+            Call::Resend => self.node.resend(),
         };
         let refusal = answer.err();
         if let Some(refusal) = refusal {
@@ -147,12 +151,29 @@ impl<'a> Run<'a> {
     }
 }
 
-/// The node of the correct validator, before it is settled.
-fn node_of(alloc: Global, world: &World) -> Result<NodeCore, AllocError> {
+/// The node of the correct validator over an empty store, before it is settled.
+fn node_of(alloc: Global, world: &World) -> Result<NodeCore<MemoryStore>, AllocError> {
     let me = world.correct;
     let ring = ring_of(alloc, me, world.count(), world.clients.count)?;
     let powers = world.powers.copy(alloc)?;
-    Ok(NodeCore::open(alloc, Config { me, powers }, ring))
+    let journal = empty_journal(alloc, me, &powers)?;
+    Ok(NodeCore::new(alloc, Config { me, powers }, ring, journal))
+}
+
+/// A journal without records. A store in memory of which no call is to fail refuses for memory alone.
+fn empty_journal(
+    alloc: Global,
+    me: u16,
+    powers: &Powers,
+) -> Result<Journal<MemoryStore>, AllocError>
+    ensures state { IfOk result (λ journal. (journal.me ≡ me) × (journal.failed ≡ false)) }
+    ensures empty { IfOk result (λ journal. IsWhole powers.now me journal.store.bytes.items []) }
+{
+    let store = MemoryStore::new(Vec::new(alloc), 0, 0);
+    let Ok(opened) = Journal::open(alloc, store, me, powers) else {
+        return Err(AllocError);
+    };
+    opened.without_records().map_err(|_| AllocError)
 }
 
 fn decision(validator: u16, bundle: &Bundle) -> Told {

@@ -35,6 +35,7 @@ pub(crate) enum Call {
     Handle(Vec<u8>),
     FireTimeout(Timeout),
     Ask,
+    Resend,
 }
 
 /// The liars and the clients of a schedule, who make what comes to the correct validator.
@@ -90,6 +91,7 @@ impl<'a> Senders<'a> {
             Input::Frame(bytes) => Ok(Call::Handle(bytes.as_slice().to_vec(self.alloc)?)),
             Input::Timeout(timeout) => Ok(Call::FireTimeout(*timeout)),
             Input::Ask => Ok(Call::Ask),
+            Input::Resend => Ok(Call::Resend),
         }
     }
 

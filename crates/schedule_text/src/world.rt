@@ -104,7 +104,8 @@ impl World {
             Input::Bundle(line) => {
                 self.may_lie(line.sender) && line.signers.iter().all(|one| self.may_lie(*one))
             }
-            Input::Submit(_) | Input::Frame(_) | Input::Timeout(_) | Input::Ask => true,
+            Input::Submit(_) | Input::Frame(_) | Input::Timeout(_) | Input::Ask | Input::Resend =>
+                true,
         };
         may_send && !self.liars.contains(event.receiver)
     }

@@ -22,6 +22,18 @@ fn first_decision(rt: HostRuntime) -> Result<(), Fail> {
     assert_report(&rt, rt.alloc(), DECISION, DECIDED)
 }
 
+/// What is sent again was told of before.
+#[test]
+fn sent_again(rt: HostRuntime) -> Result<(), Fail> {
+    let schedule = "timeout 3 propose 0 0\nresend 3\n";
+    assert_report(
+        &rt,
+        rt.alloc(),
+        schedule,
+        "0 v3 prevote 0 0 nil\nv3 at 0 0:\n",
+    )
+}
+
 /// Comments of any bytes and empty lines are skipped, and the last line may lack its line feed.
 #[test]
 fn skipped_lines(rt: HostRuntime) {
