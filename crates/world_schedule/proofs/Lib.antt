@@ -1,0 +1,9 @@
+pub mod Seeing
+pub mod Rings
+pub mod Reports
+pub mod Runs
+pub mod Cores
+pub mod Handed
+pub mod Headline
+pub mod Answered
+pub mod Clauses

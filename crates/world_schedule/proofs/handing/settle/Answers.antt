@@ -1,0 +1,13 @@
+use Rattle.protocol.specs.History.{Settle}
+use Rattle.world_schedule.proofs.Answered.{answered_law}
+use Rattle.world_schedule.proofs.Clauses.{at_err, at_ok}
+use Rattle.world_schedule.proofs.handing.settle.Goals as goal
+
+pub returns : goal.returns
+returns g c = λ s p n st. answered_law s p n c.args.core.now st Settle c.settle.result c.settle.new.self (record {
+  answer = c.settle.ensures.answer;
+  journal = c.settle.ensures.journal;
+  done = c.settle.ensures.done n st.stands;
+  refused = at_err _ c.settle.result c.settle.ensures.refused;
+  quiet = at_ok _ c.settle.result c.settle.ensures.quiet;
+})
