@@ -1,0 +1,4 @@
+mod KeyFiles
+mod KeyLines
+mod Rings
+mod Tables

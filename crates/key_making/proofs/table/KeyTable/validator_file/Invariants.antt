@@ -1,0 +1,13 @@
+use Rattle.std.proofs.Common.{◌≡◌, ◌++◌}
+use Rattle.std.specs.List.{flat_map}
+use Rattle.std.specs.String.{string_bytes}
+use Rattle.protocol.specs.Messages.{below}
+use Rattle.key_making.specs.Table.{key_of}
+use Rattle.key_making.specs.KeyFile.{lines_with, line_of_client}
+use Rattle.key_making.proofs.table.KeyTable.validator_file.Given as goal
+
+abbrev pub invariant-loop-other : goal.invariant-loop-other
+invariant-loop-other l = string_bytes l.text ≡ flat_map (lines_with (key_of l.self) l.fn.me) (below l.other)
+
+abbrev pub invariant-loop-client : goal.invariant-loop-client
+invariant-loop-client l = string_bytes l.text ≡ flat_map (lines_with (key_of l.self) l.fn.me) (below l.self.validators) ++ flat_map (line_of_client (key_of l.self) l.fn.me) (below l.client)

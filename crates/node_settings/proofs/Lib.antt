@@ -1,0 +1,4 @@
+mod Decimals
+mod Numbers
+mod Agreeing
+mod Lines

@@ -1,0 +1,37 @@
+-- The command line that the program takes.
+use Rattle.std.specs.Prelude.{Bool, true, false, List, [], ◌∷◌, Some, codes, fold}
+use Rattle.clap.specs.Walk.{Rule, Text}
+use Rattle.clap.specs.Simple.{App, new_rule, new_app, with_rule, with_subcommand}
+use Rattle.clap.specs.declared.builder.action.ArgAction.TheVariants.{SetTrue}
+use Rattle.node_settings.specs.declared.command.WordOption.{WordOption}
+
+-- an option by its name, which takes one word
+abbrev pub option : Text → Bool → Rule
+option name is_required = record (new_rule name) { long = Some name; required = is_required; value_names = 1 }
+
+abbrev pub rule_for : WordOption → Rule
+rule_for o = option o.name.now o.is_required
+
+-- a flag by its name
+abbrev pub flag : Text → Rule
+flag name = record (new_rule name) { long = Some name; action = Some SetTrue }
+
+abbrev pub with_rules : App → List Rule → App
+with_rules app rules = fold with_rule app rules
+
+abbrev pub run_app : App
+run_app = with_rules (new_app (codes "run"))
+    (option (codes "id") true ∷ option (codes "powers") true ∷ option (codes "keys") true ∷ option (codes "journal") true ∷ option (codes "peers") true
+    ∷ option (codes "start") true ∷ option (codes "delta") true ∷ option (codes "stop") false ∷ [])
+
+abbrev pub send_app : App
+send_app = with_rules (new_app (codes "send"))
+    (option (codes "id") true ∷ option (codes "validators") true ∷ option (codes "keys") true ∷ option (codes "to") true ∷ option (codes "number") true
+    ∷ option (codes "data") false ∷ flag (codes "close") ∷ [])
+
+-- `tmnode run ..` and `tmnode send ..`, with `--help` and `--version`, and no word `help`
+abbrev pub node_app : App
+node_app =
+    let top : App = new_app (codes "tmnode") in
+    let named : App = record top { top = record top.top { has_version = true; disable_help_subcommand = true } } in
+    with_subcommand (with_subcommand named run_app.top) send_app.top

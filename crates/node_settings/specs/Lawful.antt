@@ -1,0 +1,28 @@
+-- What holds of settings that are read.
+use Rattle.std.specs.Prelude.{◌≡◌, ◌<◌, ◌≤◌, ◌^◌, length}
+use Rattle.transactions.specs.Grammar.{IsOp}
+use Rattle.node_settings.specs.declared.invocation.RunSettings.{RunSettings}
+use Rattle.node_settings.specs.declared.invocation.SendSettings.{SendSettings}
+use Rattle.node_settings.specs.declared.invocation.Invocation.{Invocation}
+use Rattle.node_settings.specs.declared.invocation.Invocation.TheVariants.{Run, Send, Page}
+
+-- of a validator: it is one of those that have powers, each of which has an address
+pub record IsLawfulRun (s : RunSettings) : Type 0 where
+  pub member : s.me < length s.powers
+  pub addressed : length s.peers.items ≡ length s.powers
+  pub start : s.start ≤ 86400000
+  pub delta : s.delta ≤ 86400000
+
+-- of a transaction: it has a spelling
+pub record IsLawfulSend (s : SendSettings) : Type 0 where
+  pub client : s.client ≤ 1023
+  pub several : 2 ≤ s.validators
+  pub few : s.validators ≤ 64
+  pub first : 1 ≤ s.number
+  pub last : s.number ≤ 2 ^ 48
+  pub op : IsOp s.op
+
+abbrev pub IsLawful : Invocation → Type 0
+IsLawful (Run s) = IsLawfulRun s
+IsLawful (Send s) = IsLawfulSend s
+IsLawful (Page p) = Unit {0}

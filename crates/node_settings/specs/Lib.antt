@@ -1,0 +1,5 @@
+pub mod Commands
+pub mod Words
+pub mod Settings
+pub mod Lawful
+pub mod Failures

@@ -1,0 +1,125 @@
+-- What a command line asks for.
+use Rattle.std.specs.Prelude.{ℕ, ◌-◌, ◌^◌, ◌&&◌, List, [], ◌∷◌, length, map, Option, Some, None, Result, Ok, Err, nat_lt, ◌==◌, if◌then◌else◌, codes}
+use Rattle.std.specs.List.{slice_split}
+use Rattle.std.specs.Str.{bytes_eq}
+use Rattle.clap.specs.Walk.{Row, Text, first_of}
+use Rattle.clap.specs.Simple.{subcommand_of}
+use Rattle.clap.specs.Kinds.{Kinds}
+use Rattle.clap.specs.Faults.{fault_of}
+use Rattle.clap.specs.declared.error.kind.ErrorKind.{ErrorKind}
+use Rattle.clap.specs.declared.error.kind.ErrorKind.TheVariants as kind
+use Rattle.transactions.specs.declared.tx.Op.{Op}
+use Rattle.node_settings.specs.Commands.{node_app}
+use Rattle.node_settings.specs.Words.{◌>>=◌, given, number_given, number_or_none, is_flagged, is_comma, powers_of, op_of}
+use Rattle.node_settings.specs.declared.invocation.SettingsFault.{SettingsFault}
+use Rattle.node_settings.specs.declared.invocation.SettingsFault.TheVariants.{Usage, OutOfMemory}
+use Rattle.node_settings.specs.declared.invocation.RunSettings.{RunSettings}
+use Rattle.node_settings.specs.declared.invocation.SendSettings.{SendSettings}
+use Rattle.node_settings.specs.declared.invocation.Invocation.{Invocation}
+use Rattle.node_settings.specs.declared.invocation.Invocation.TheVariants as asks
+
+-- ---- the settings, with their texts as lists
+
+pub record Run : Type 0 where
+  pub me : ℕ
+  pub powers : List ℕ
+  pub keys : Text
+  pub journal : Text
+  pub peers : List Text
+  pub start : ℕ
+  pub delta : ℕ
+  pub stop : Option ℕ
+
+pub record Send : Type 0 where
+  pub client : ℕ
+  pub validators : ℕ
+  pub keys : Text
+  pub to : Text
+  pub number : ℕ
+  pub op : Op
+
+pub data Asked : Type 0 where
+  run : Run → Asked
+  send : Send → Asked
+  page : Asked
+
+abbrev pub run_words : RunSettings → Run
+run_words s = record {
+  me = s.me;
+  powers = s.powers;
+  keys = s.keys.now;
+  journal = s.journal.now;
+  peers = map (λ peer. peer.now) s.peers.items;
+  start = s.start;
+  delta = s.delta;
+  stop = s.stop;
+}
+
+abbrev pub send_words : SendSettings → Send
+send_words s = record {
+  client = s.client;
+  validators = s.validators;
+  keys = s.keys.now;
+  to = s.to.now;
+  number = s.number;
+  op = s.op;
+}
+
+abbrev pub invocation_words : Invocation → Asked
+invocation_words (asks.Run s) = run (run_words s)
+invocation_words (asks.Send s) = send (send_words s)
+invocation_words (asks.Page p) = page
+
+-- ---- what the words of each option make of them
+
+-- the powers of validators of which I am one, and an address for each of them
+unfoldable pub cluster_of : Text → Text → ℕ → Result (List ℕ × List Text) SettingsFault
+cluster_of powers peers me = do
+  each ← powers_of powers
+  let addresses : List Text = slice_split is_comma peers
+  if nat_lt me (length each) && length addresses == length each then Ok (each, addresses) else Err Usage
+
+unfoldable pub run_of : List Row → Result Run SettingsFault
+run_of rows = do
+  me ← number_given 0 63 (codes "id") rows
+  keys ← given (codes "keys") rows
+  journal ← given (codes "journal") rows
+  start ← number_given 0 86400000 (codes "start") rows
+  delta ← number_given 0 86400000 (codes "delta") rows
+  stop ← number_or_none 1 (2 ^ 64 - 1) (codes "stop") rows
+  powers ← given (codes "powers") rows
+  peers ← given (codes "peers") rows
+  both ← cluster_of powers peers me
+  Ok (record { me = me; powers = both.0; keys = keys; journal = journal; peers = both.1; start = start; delta = delta; stop = stop })
+
+unfoldable pub send_of : List Row → Result Send SettingsFault
+send_of rows = do
+  client ← number_given 0 1023 (codes "id") rows
+  validators ← number_given 2 64 (codes "validators") rows
+  keys ← given (codes "keys") rows
+  to ← given (codes "to") rows
+  number ← number_given 1 (2 ^ 48) (codes "number") rows
+  op ← op_of (first_of (codes "data") rows) (is_flagged (codes "close") rows)
+  Ok (record { client = client; validators = validators; keys = keys; to = to; number = number; op = op })
+
+-- ---- the whole command line
+
+-- the settings of the subcommand that the words enter: `run`, or the only other one
+abbrev pub entered_of : Option (Text × List Row) → Result Asked SettingsFault
+entered_of None = Err Usage
+entered_of (Some (name, rows)) = if bytes_eq name (codes "run") then (run_of rows >>= λ s. Ok (run s)) else (send_of rows >>= λ s. Ok (send s))
+
+-- what words ask for whose parse ends with a fault of this kind
+abbrev pub asked_by : ErrorKind → Result Asked SettingsFault
+asked_by kind.DisplayHelp = Ok page
+asked_by kind.DisplayVersion = Ok page
+asked_by kind.OutOfMemory = Err OutOfMemory
+asked_by _ = Err Usage
+
+-- Where the parse of the words has no fault, they give settings; else its fault tells what they ask for.
+abbrev pub by_faults : Kinds → Result Asked SettingsFault → Result Asked SettingsFault
+by_faults [] asked = asked
+by_faults (fault ∷ faults) asked = asked_by fault
+
+unfoldable pub settings_of : List Text → Result Asked SettingsFault
+settings_of words = by_faults (fault_of node_app words) (entered_of (subcommand_of node_app words))

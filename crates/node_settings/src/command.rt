@@ -1,0 +1,162 @@
+//! The command line of the program, for the parser of words.
+
+ghost use Rattle.std.specs.Prelude.{◌≡◌, IfOk, map};
+ghost use Rattle.clap.specs.Words.{app_of};
+ghost use Rattle.node_settings.specs.Commands.{rule_for, with_rules, run_app, send_app, node_app};
+
+use clap::{Arg, ArgAction, Command};
+use std::alloc::{AllocError, Global};
+
+/// The version that `--version` tells.
+const VERSION: &str = "0.1.0";
+
+/// An option that takes a word.
+#[derive(Clone, Copy)]
+struct WordOption {
+    name: &'static str,
+    is_required: bool,
+    /// What stands for the word in the help.
+    value: &'static str,
+    help: &'static str,
+}
+
+static RUN: [WordOption; 8] = [
+    WordOption {
+        name: "id",
+        is_required: true,
+        value: "I",
+        help: "The number of this validator, from 0 on",
+    },
+    WordOption {
+        name: "powers",
+        is_required: true,
+        value: "P,P,..",
+        help: "The power of each validator, 2 to 64 of them",
+    },
+    WordOption {
+        name: "keys",
+        is_required: true,
+        value: "FILE",
+        help: "The key file of this validator",
+    },
+    WordOption {
+        name: "journal",
+        is_required: true,
+        value: "FILE",
+        help: "The journal of this validator",
+    },
+    WordOption {
+        name: "peers",
+        is_required: true,
+        value: "ADDR,ADDR,..",
+        help: "The address of each validator, this one too",
+    },
+    WordOption {
+        name: "start",
+        is_required: true,
+        value: "MS",
+        help: "How long a timeout of round 0 lasts, at most a day",
+    },
+    WordOption {
+        name: "delta",
+        is_required: true,
+        value: "MS",
+        help: "How much longer one of each further round lasts, at most a day",
+    },
+    WordOption {
+        name: "stop",
+        is_required: false,
+        value: "K",
+        help: "End after K delivered items",
+    },
+];
+
+static SEND: [WordOption; 6] = [
+    WordOption {
+        name: "id",
+        is_required: true,
+        value: "C",
+        help: "The number of the client, from 0 to 1023",
+    },
+    WordOption {
+        name: "validators",
+        is_required: true,
+        value: "N",
+        help: "How many validators there are, 2 to 64",
+    },
+    WordOption {
+        name: "keys",
+        is_required: true,
+        value: "FILE",
+        help: "The key file of the client",
+    },
+    WordOption {
+        name: "to",
+        is_required: true,
+        value: "ADDR",
+        help: "The address of the validator that it is sent to",
+    },
+    WordOption {
+        name: "number",
+        is_required: true,
+        value: "M",
+        help: "The place among the client's transactions, from 1 on",
+    },
+    WordOption {
+        name: "data",
+        is_required: false,
+        value: "HEX",
+        help: "Send these bytes, at most 1024 of them",
+    },
+];
+
+/// The command with these options added in turn.
+fn with_options<'a>(
+    alloc: Global,
+    mut command: Command<'a>,
+    options: &[WordOption],
+) -> Result<Command<'a>, AllocError>
+    ensures { IfOk result (λ made. app_of made ≡ with_rules (app_of command.entry) (map rule_for options.now)) }
+{
+    for option in options {
+        let arg = Arg::new(alloc, option.name)
+            .long(option.name)
+            .value_name(option.value)
+            .help(option.help)
+            .required(option.is_required);
+        command = command.arg(arg)?;
+    }
+    Ok(command)
+}
+
+fn run_command<'a>(alloc: Global) -> Result<Command<'a>, AllocError>
+    ensures { IfOk result (λ made. app_of made ≡ run_app) }
+{
+    let command = Command::new(alloc, "run").about("Runs one validator");
+    with_options(alloc, command, RUN.as_slice())
+}
+
+fn send_command<'a>(alloc: Global) -> Result<Command<'a>, AllocError>
+    ensures { IfOk result (λ made. app_of made ≡ send_app) }
+{
+    let command = Command::new(alloc, "send").about("Sends one transaction of a client");
+    let close = Arg::new(alloc, "close")
+        .long("close")
+        .help("Send the client's last transaction")
+        .action(ArgAction::SetTrue);
+    with_options(alloc, command, SEND.as_slice())?.arg(close)
+}
+
+/// The whole command line.
+pub fn node_command<'a>(alloc: Global) -> Result<Command<'a>, AllocError>
+    ensures { IfOk result (λ made. app_of made ≡ node_app) }
+{
+    let run = run_command(alloc)?;
+    let send = send_command(alloc)?;
+    Command::new(alloc, "tmnode")
+        .about("Runs a validator of an atomic broadcast, or sends it a transaction")
+        .version(VERSION)
+        .disable_help_subcommand(true)
+        .subcommand(run)?
+        .subcommand(send)
+}

@@ -1,0 +1,259 @@
+//! What a command line asks for.
+
+ghost use Rattle.std.specs.Prelude.{◌≡◌, ◌<◌, IfOk, length, map, option_map};
+ghost use Rattle.clap.specs.Words.{found_of, rows_of, kind_of, subcommand_rows_of};
+ghost use Rattle.transactions.specs.Grammar.{IsOp};
+ghost use Rattle.node_settings.specs.Words.{Gives, op_of};
+ghost use Rattle.node_settings.specs.Failures.{settings_number};
+ghost use Rattle.node_settings.specs.Lawful.{IsLawful, IsLawfulRun, IsLawfulSend};
+ghost use Rattle.node_settings.specs.Settings.{run_words, send_words, invocation_words, run_of, send_of, cluster_of, entered_of, settings_of, asked_by};
+
+use crate::command::node_command;
+use crate::lists::{bytes_of, powers_of, words_of};
+use crate::options::{is_flagged, number, number_or_none, word, word_of};
+use clap::error::ErrorKind;
+use clap::{ArgMatches, Error};
+use powers::Powers;
+use std::alloc::{AllocError, AllocFailed, Global};
+use std::convert::AsStr;
+use std::fmt;
+use transactions::Op;
+
+/// The greatest number of validators.
+const MOST_VALIDATORS: u64 = 64;
+
+/// The greatest number of a client.
+const LAST_CLIENT: u64 = 1023;
+
+/// The greatest number of a transaction, 2^48.
+const LAST_NUMBER: u64 = 1 << 48;
+
+/// The greatest `--start` and `--delta`, in milliseconds: a day.
+const MOST_MILLISECONDS: u64 = 86_400_000;
+
+/// Why the words of a command line are no settings.
+#[derive(Clone, Copy, Debug, PartialEq, Eq, thiserror::Error)]
+pub enum SettingsFault {
+    /// 1: the words are of no form of the command line, or one is no number, is outside its limits, or is no list or no
+    /// bytes where it has to be.
+    #[error("usage")]
+    Usage = 1,
+    /// 2: no memory is left.
+    #[error("out of memory")]
+    OutOfMemory = 2,
+}
+
+impl SettingsFault {
+    /// The number of the fault, 1 or 2.
+    pub fn number(self) -> u8
+        ensures { result ≡ settings_number self }
+    {
+        self as u8
+    }
+}
+
+impl From<AllocError> for SettingsFault {
+    ghost use Rattle.node_settings.specs.declared.invocation.SettingsFault.TheVariants.{OutOfMemory};
+
+    ghost from_gives = { λ _ fault. fault ≡ OutOfMemory };
+
+    fn from(_error: AllocError) -> SettingsFault {
+        SettingsFault::OutOfMemory
+    }
+}
+
+impl<T: Drop> From<AllocFailed<T>> for SettingsFault {
+    ghost use Rattle.node_settings.specs.declared.invocation.SettingsFault.TheVariants.{OutOfMemory};
+
+    ghost from_gives = { λ _ fault. fault ≡ OutOfMemory };
+
+    fn from(_error: AllocFailed<T>) -> SettingsFault {
+        SettingsFault::OutOfMemory
+    }
+}
+
+/// The settings of `tmnode run`.
+#[derive(Debug, Drop)]
+pub struct RunSettings<'a> {
+    /// The number of this validator, below their count.
+    pub me: u16,
+    /// The powers of the validators.
+    pub powers: Powers,
+    /// The key file's name.
+    pub keys: &'a str,
+    /// The journal's name.
+    pub journal: &'a str,
+    /// The address of each validator, this one too.
+    pub peers: Vec<&'a str>,
+    /// How long a timeout of round 0 lasts, in milliseconds: at most a day.
+    pub start: u64,
+    /// How much longer one of each further round lasts, in milliseconds: at most a day.
+    pub delta: u64,
+    /// After how many delivered items the program ends, from 1 on.
+    pub stop: Option<u64>,
+}
+
+/// The settings of `tmnode send`.
+#[derive(Debug, Drop)]
+pub struct SendSettings<'a> {
+    /// The client's number, at most 1,023.
+    pub client: u16,
+    /// How many validators there are, 2 to 64.
+    pub validators: u16,
+    /// The key file's name.
+    pub keys: &'a str,
+    /// The address of the validator that it is sent to.
+    pub to: &'a str,
+    /// The place among the client's transactions, from 1 to 2^48.
+    pub number: u64,
+    /// At most 1,024 bytes, or the close.
+    pub op: Op,
+}
+
+/// The page that `--help` or `--version` asks for, with its line feeds.
+#[derive(Debug, Drop)]
+pub struct Page(Error);
+
+impl fmt::Display for Page {
+    fn fmt<W: fmt::Write>(&self, f: &mut fmt::Formatter<W>) -> fmt::Result {
+        write!(f, "{}", self.0)
+    }
+}
+
+/// What a command line asks for.
+#[derive(Debug, Drop)]
+pub enum Invocation<'a> {
+    /// To run a validator.
+    Run(RunSettings<'a>),
+    /// To send a transaction.
+    Send(SendSettings<'a>),
+    /// To print a page on standard output; the exit status is then 0.
+    Page(Page),
+}
+
+/// Reads the words of a command line, of which the first is the program's name.
+///
+/// The fault is `Usage` (1) for words of no such form, or `OutOfMemory` (2).
+pub fn settings<'a, W: AsStr>(
+    alloc: Global,
+    words: &'a [W],
+) -> Result<Invocation<'a>, SettingsFault>
+    ensures asked { Gives invocation_words result (settings_of (map W.text words.entry.now)) }
+    ensures lawful { IfOk result IsLawful }
+{
+    match node_command(alloc)?.try_get_matches_from(words) {
+        Ok(found) => entered(alloc, &found),
+        Err(error) => page_of(error),
+    }
+}
+
+/// The page that is asked for, or why the words couldn't be read.
+fn page_of<'a>(error: Error) -> Result<Invocation<'a>, SettingsFault>
+    ensures asked { Gives invocation_words result (asked_by (kind_of error)) }
+    ensures lawful { IfOk result IsLawful }
+{
+    match error.kind() {
+        ErrorKind::DisplayHelp | ErrorKind::DisplayVersion => Ok(Invocation::Page(Page(error))),
+        ErrorKind::OutOfMemory => Err(SettingsFault::OutOfMemory),
+        _ => Err(SettingsFault::Usage),
+    }
+}
+
+/// The settings of the subcommand that was named.
+fn entered<'a>(alloc: Global, found: &ArgMatches<'a>) -> Result<Invocation<'a>, SettingsFault>
+    ensures asked { Gives invocation_words result (entered_of (subcommand_rows_of found.now)) }
+    ensures lawful { IfOk result IsLawful }
+{
+    let Some((name, inner)) = found.subcommand() else {
+        return Err(SettingsFault::Usage);
+    };
+    if name == "run" {
+        Ok(Invocation::Run(RunSettings::read(alloc, inner)?))
+    } else {
+        Ok(Invocation::Send(SendSettings::read(alloc, inner)?))
+    }
+}
+
+impl<'a> RunSettings<'a> {
+    /// Those of the words behind `run`.
+    #[tactic(auto, unfolding(crate::specs::Settings::run_of))]
+    fn read(alloc: Global, found: &ArgMatches<'a>) -> Result<RunSettings<'a>, SettingsFault>
+        ensures asked { Gives run_words result (run_of (rows_of (found_of found.now))) }
+        ensures lawful { IfOk result IsLawfulRun }
+    {
+        let me = number(found, "id", 0, MOST_VALIDATORS - 1)? as u16;
+        let keys = word(found, "keys")?;
+        let journal = word(found, "journal")?;
+        let start = number(found, "start", 0, MOST_MILLISECONDS)?;
+        let delta = number(found, "delta", 0, MOST_MILLISECONDS)?;
+        let stop = number_or_none(found, "stop", 1, u64::MAX)?;
+        let (powers, peers) = cluster(alloc, word(found, "powers")?, word(found, "peers")?, me)?;
+        Ok(RunSettings {
+            me,
+            powers,
+            keys,
+            journal,
+            peers,
+            start,
+            delta,
+            stop,
+        })
+    }
+}
+
+/// The powers and the addresses of as many validators, of which `me` is one.
+#[tactic(auto, unfolding(crate::specs::Settings::cluster_of))]
+fn cluster<'a>(
+    alloc: Global,
+    powers: &str,
+    peers: &'a str,
+    me: u16,
+) -> Result<(Powers, Vec<&'a str>), SettingsFault>
+    ensures asked { Gives (λ both. (both.0, map (λ peer. peer.now) both.1.items)) result (cluster_of powers.now peers.entry.now me) }
+    ensures lawful { IfOk result (λ both. (me < length both.0) × (length both.1.items ≡ length both.0)) }
+{
+    let powers = powers_of(alloc, powers)?;
+    let peers = words_of(alloc, peers)?;
+    if me < powers.count() && peers.len() == powers.count() as usize {
+        Ok((powers, peers))
+    } else {
+        Err(SettingsFault::Usage)
+    }
+}
+
+impl<'a> SendSettings<'a> {
+    /// Those of the words behind `send`.
+    #[tactic(auto, unfolding(crate::specs::Settings::send_of))]
+    fn read(alloc: Global, found: &ArgMatches<'a>) -> Result<SendSettings<'a>, SettingsFault>
+        ensures asked { Gives send_words result (send_of (rows_of (found_of found.now))) }
+        ensures lawful { IfOk result IsLawfulSend }
+    {
+        let client = number(found, "id", 0, LAST_CLIENT)? as u16;
+        let validators = number(found, "validators", 2, MOST_VALIDATORS)? as u16;
+        let keys = word(found, "keys")?;
+        let to = word(found, "to")?;
+        let number = number(found, "number", 1, LAST_NUMBER)?;
+        let digits = word_of(found, "data");
+        let op = op_of(alloc, digits, is_flagged(found, "close"))?;
+        Ok(SendSettings {
+            client,
+            validators,
+            keys,
+            to,
+            number,
+            op,
+        })
+    }
+}
+
+/// What a transaction is to do, by the word of `--data` and whether `--close` is there: exactly one has to be.
+fn op_of(alloc: Global, digits: Option<&str>, close: bool) -> Result<Op, SettingsFault>
+    ensures asked { Gives (λ op. op) result (op_of (option_map (λ word. word.now) digits.entry) close) }
+    ensures lawful { IfOk result IsOp }
+{
+    match digits {
+        None if close => Ok(Op::Close),
+        Some(digits) if !close => Ok(Op::Bytes(bytes_of(alloc, digits)?)),
+        _ => Err(SettingsFault::Usage),
+    }
+}

@@ -1,0 +1,22 @@
+//! The words of a command line of `tmnode`, as typed settings, and how the program ends: each fault with its line on standard
+//! error and its exit status.
+//!
+//! - `tmnode run --id I --powers P,P,.. --keys FILE --journal FILE --peers ADDR,ADDR,.. --start MS --delta MS [--stop K]`
+//!   is a validator: number I of those with these powers and addresses.
+//! - `tmnode send --id C --validators N --keys FILE --to ADDR --number M` with one of `--data HEX` and `--close` sends one
+//!   transaction of client C.
+//! - `--help`, also behind `run` or `send`, and `--version` ask for a page.
+//!
+//! Numbers are decimal digits alone. Nothing here opens a file or a socket.
+#![tactic(auto)]
+
+mod answer;
+mod command;
+mod failure;
+mod invocation;
+mod lists;
+mod options;
+
+pub use answer::Answer;
+pub use failure::{Failure, JournalTrouble, KeysTrouble};
+pub use invocation::{Invocation, Page, RunSettings, SendSettings, SettingsFault, settings};

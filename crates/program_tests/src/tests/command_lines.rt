@@ -1,0 +1,178 @@
+//! Command lines, and what they ask for.
+
+use node_settings::{Invocation, RunSettings, SendSettings, settings};
+use std::alloc::{AllocError, Global};
+use std::process::Abort;
+use std::test::Fail;
+use transactions::Op;
+
+/// What the words of a line ask for, as a text. One space stands between words.
+fn asked(alloc: Global, line: &str) -> Result<String, AllocError> {
+    let words: Vec<&str> = line.split(' ').collect(alloc)?;
+    match settings(alloc, &words) {
+        Ok(Invocation::Run(run)) => shown_run(alloc, &run),
+        Ok(Invocation::Send(send)) => shown_send(alloc, &send),
+        Ok(Invocation::Page(page)) => format!(in alloc; "{page}"),
+        Err(fault) => format!(in alloc; "{fault}"),
+    }
+}
+
+fn shown_run(alloc: Global, run: &RunSettings<'_>) -> Result<String, AllocError> {
+    let mut text = format!(in alloc;
+        "{} of {}, power {}",
+        run.me,
+        run.powers.count(),
+        run.powers.total()
+    )?;
+    for peer in &run.peers {
+        text = format!(in alloc; "{text} {peer}")?;
+    }
+    format!(in alloc;
+        "{text}, {} {}, {} {} {:?}",
+        run.keys, run.journal, run.start, run.delta, run.stop
+    )
+}
+
+fn shown_send(alloc: Global, send: &SendSettings<'_>) -> Result<String, AllocError> {
+    let op = match &send.op {
+        Op::Bytes(bytes) => format!(in alloc; "{:?}", bytes.as_slice())?,
+        Op::Close => format!(in alloc; "close")?,
+    };
+    format!(in alloc;
+        "{} to {} of {}, {}, {} {op}",
+        send.client, send.to, send.validators, send.keys, send.number
+    )
+}
+
+/// The line asks for this.
+fn assert_asked(rt: &impl Abort, alloc: Global, line: &str, wanted: &str) -> Result<(), Fail> {
+    let text = asked(alloc, line)?;
+    assert!(rt; text.as_str() == wanted, "{line}: {text}");
+    Ok(())
+}
+
+/// Each of these lines, behind this beginning, is no command line.
+fn assert_usage(rt: &impl Abort, alloc: Global, front: &str, lines: &str) -> Result<(), Fail> {
+    for rest in lines.split('\n') {
+        let line = format!(in alloc; "{front}{rest}")?;
+        assert_asked(rt, alloc, line.as_str(), "usage")?;
+    }
+    Ok(())
+}
+
+const RUN: &str =
+    "tmnode run --id 3 --powers 1,1,1,4294967295 --keys k --journal j --peers a:1,b:2,,d";
+
+#[test]
+fn run_lines(rt: HostRuntime) -> Result<(), Fail> {
+    let alloc = rt.alloc();
+    assert_asked(
+        &rt,
+        alloc,
+        "tmnode run --id 1 --powers 5,3 --keys k --journal j --peers a:1,b:2 --start 0 --delta 86400000 --stop 1",
+        "1 of 2, power 8 a:1 b:2, k j, 0 86400000 Some(1)",
+    )?;
+    assert_asked(
+        &rt,
+        alloc,
+        "tmnode run --delta 2 --start=00200 --peers a,b,c --journal=j --keys k --powers 1,1,1 --id 0",
+        "0 of 3, power 3 a b c, k j, 200 2 None",
+    )
+}
+
+#[test]
+fn bad_run_lines(rt: HostRuntime) -> Result<(), Fail> {
+    let alloc = rt.alloc();
+    assert_usage(
+        &rt,
+        alloc,
+        "tmnode run --powers 1,1,1 --peers a,b,c --keys k --journal j --id ",
+        "0 --start 1\n0 --delta 1\n3 --start 1 --delta 1\n-1 --start 1 --delta 1\n+1 --start 1 --delta 1\n \
+0x1 --start 1 --delta 1\n --start 1 --delta 1\n0 --start 86400001 --delta 1\n0 --start 1 --delta 86400001\n\
+0 --start 1 --delta 1 --stop 0\n0 --start 1 --delta 1 --stop 18446744073709551616\n0 --start 1 --delta 1 x\n\
+0 --start 1 --delta 1 --start 2\n0 --start 1 --delta 1 --other 2",
+    )?;
+    assert_usage(
+        &rt,
+        alloc,
+        "tmnode run --start 1 --delta 1 --keys k --journal j --id 0 --powers ",
+        "1,1,1 --peers a,b\n1,1 --peers a,b,c\n1 --peers a\n --peers a\n1,0,1 --peers a,b,c\n1,,1 --peers a,b,c\n\
+7,3 --peers a,b\n1,1,4294967296 --peers a,b,c\n1,1,-1 --peers a,b,c\n1,1,1",
+    )
+}
+
+#[test]
+fn send_lines(rt: HostRuntime) -> Result<(), Fail> {
+    let alloc = rt.alloc();
+    assert_asked(
+        &rt,
+        alloc,
+        "tmnode send --id 1023 --validators 64 --keys k --to a:1 --number 281474976710656 --data 61fF",
+        "1023 to a:1 of 64, k, 281474976710656 [97, 255]",
+    )?;
+    assert_asked(
+        &rt,
+        alloc,
+        "tmnode send --id 0 --validators 2 --keys k --to a:1 --number 1 --data ",
+        "0 to a:1 of 2, k, 1 []",
+    )?;
+    assert_asked(
+        &rt,
+        alloc,
+        "tmnode send --close --id 7 --validators 4 --keys k --to a:1 --number 2",
+        "7 to a:1 of 4, k, 2 close",
+    )
+}
+
+#[test]
+fn bad_send_lines(rt: HostRuntime) -> Result<(), Fail> {
+    let alloc = rt.alloc();
+    assert_usage(
+        &rt,
+        alloc,
+        "tmnode send --keys k --to a ",
+        "--id 7 --validators 4 --number 2\n--id 7 --validators 4 --number 2 --close --data 61\n\
+--id 7 --validators 4 --number 2 --data 6\n--id 7 --validators 4 --number 2 --data 6g\n\
+--id 1024 --validators 4 --number 2 --close\n--id 7 --validators 1 --number 2 --close\n\
+--id 7 --validators 65 --number 2 --close\n--id 7 --validators 4 --number 0 --close\n\
+--id 7 --validators 4 --number 281474976710657 --close\n--id 7 --validators 4 --close",
+    )?;
+    let long = "00".repeat(alloc, 1025)?;
+    let line = format!(in alloc;
+        "tmnode send --keys k --to a --id 7 --validators 4 --number 2 --data {long}"
+    )?;
+    assert_asked(&rt, alloc, line.as_str(), "usage")
+}
+
+#[test]
+fn other_lines(rt: HostRuntime) -> Result<(), Fail> {
+    let alloc = rt.alloc();
+    assert_usage(
+        &rt,
+        alloc,
+        "tmnode",
+        "\n \n walk\n help\n --id 1\n run\n send\n -x",
+    )
+}
+
+#[test]
+fn pages(rt: HostRuntime) -> Result<(), Fail> {
+    let alloc = rt.alloc();
+    assert_asked(&rt, alloc, "tmnode --version", "tmnode 0.1.0\n")?;
+    let page = asked(alloc, "tmnode --help")?;
+    assert!(rt;
+        page.contains("run") && page.contains("send") && page.contains("--version"),
+        "{page}"
+    );
+    let page = asked(alloc, "tmnode run --help")?;
+    assert!(rt;
+        page.contains("--id <I>") && page.contains("--stop <K>"),
+        "{page}"
+    );
+    let page = asked(alloc, "tmnode send --help")?;
+    assert!(rt;
+        page.contains("--data <HEX>") && page.contains("--close"),
+        "{page}"
+    );
+    Ok(())
+}
