@@ -1,11 +1,11 @@
 -- Whole calls: a node that has halted refuses them, else they begin with no rule fired.
-use Rattle.std.proofs.Common.{◌≡◌, ◌≢◌, ◌⊎◌, ℕ, inl, inr, Bool, true, false, List, Option, None, Result, Ok, Err, IfErr, refl, sym, ap, subst, ◌∙◌}
+use Rattle.std.proofs.Common.{◌≡◌, ◌⊎◌, ℕ, inl, inr, Bool, true, false, List, Option, None, Result, Ok, Err, IfErr, refl, sym, ap, subst, ◌∙◌}
 use Rattle.protocol.specs.State.{Node}
 use Rattle.protocol.specs.Refusals.{Refusal, answer}
 use Rattle.protocol.specs.History.{Input, Given}
 use Rattle.node_core.specs.declared.refusal.Refusal.{Refusal as Answer}
 use Rattle.node_core.specs.declared.refusal.Refusal.TheVariants as answers
-use Rattle.node_core.specs.Core.{Core, JournalSeen, Stands, setting_of}
+use Rattle.node_core.specs.Core.{Core, Stands, setting_of}
 use Rattle.node_core.specs.Calls.{Answers, IsAnswer, IsRefusal, IsUnchanged, IsUnfired, IsRefused, IsTaken, IsNotTaken, IsCalled, IsDone, Serves, TellsJournal}
 use Rattle.node_core.specs.Running.{HasRun}
 use Rattle.node_core.proofs.Stepwise.{called_run, taken_from}

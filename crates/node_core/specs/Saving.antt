@@ -1,5 +1,5 @@
 -- What a save makes of a node's journal.
-use Rattle.std.specs.Prelude.{◌≡◌, ℕ, true, false, List, [], ◌∷◌, ◌++◌, Result, Ok, Err}
+use Rattle.std.specs.Prelude.{◌≡◌, true, false, [], ◌∷◌, ◌++◌, Result, Ok, Err}
 use Rattle.protocol.specs.Messages.{Record}
 use Rattle.round_states.specs.Pending.{Pending}
 use Rattle.round_states.specs.declared.saving.SaveFault.{SaveFault}

@@ -1,11 +1,9 @@
 use Rattle.std.proofs.Common.{◌≡◌, refl, sym, ap, subst, ◌∙◌}
 use Rattle.std.proofs.lemmas.List.{append-nil}
 use Rattle.std.proofs.lemmas.Result.{err_from_is_err_and}
-use Rattle.protocol.specs.Messages.{Bundle}
 use Rattle.protocol.specs.Queues.{pick}
 use Rattle.protocol.specs.State.{DecideByBundle}
 use Rattle.protocol.specs.Rules.{fired, saved}
-use Rattle.protocol.proofs.Asked.{asked}
 use Rattle.round_machine.specs.Bundling.{Came}
 use Rattle.round_states.specs.Machine.{Agrees}
 use Rattle.round_states.specs.Pending.{pending_of}

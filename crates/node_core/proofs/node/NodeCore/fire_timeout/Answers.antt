@@ -7,10 +7,9 @@ use Rattle.protocol.proofs.Timeouts.{timeout_law}
 use Rattle.round_machine.specs.Timing.{IsRefusal as IsTimeoutRefusal}
 use Rattle.protocol.specs.History.{Due}
 use Rattle.node_core.specs.Core.{Core, Stands, context_of, setting_of}
-use Rattle.node_core.specs.Seen.{seen}
 use Rattle.node_core.proofs.Due.{due_passed, some_refused, timeout_refused}
 use Rattle.node_core.specs.Named.{of_unkept}
-use Rattle.node_core.proofs.Stepwise.{none_fired, called, stands_counted, taken_counted, taken_from, called_run}
+use Rattle.node_core.proofs.Stepwise.{none_fired, called, stands_counted, taken_counted}
 use Rattle.node_core.proofs.Telling.{tells_itself, tells_from, unkept_other}
 use Rattle.node_core.proofs.Called.{halted_answers, halted_done, halted_tells, running_answers, run_answer, tells_begun, run_begun, run_left, unfired_refusal, unfired_done, unfired_left}
 use Rattle.node_core.proofs.node.NodeCore.fire_timeout.Goals as goal

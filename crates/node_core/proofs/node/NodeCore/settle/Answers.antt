@@ -1,4 +1,4 @@
-use Rattle.std.proofs.Common.{◌≡◌, None, inl, refl, sym, subst}
+use Rattle.std.proofs.Common.{None, inl, refl, sym, subst}
 use Rattle.std.proofs.lemmas.Result.{err_from_is_err_and}
 use Rattle.protocol.specs.History.{Settle}
 use Rattle.node_core.specs.Core.{Core, Stands}
