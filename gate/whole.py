@@ -34,7 +34,7 @@ ENDS = {
     "proofs, tests and programs": "The stages behind stand on these proofs, so they are left out.",
 }
 # About what a whole run takes, in processor seconds; its table says what it took.
-USUAL = 7_900
+USUAL = 12_500
 # The part of a crate's time that a check belongs to.
 PARTS = ("proof", "tests", "edits")
 TICKS = os.sysconf("SC_CLK_TCK")
