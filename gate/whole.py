@@ -5,8 +5,9 @@ usage: gate/whole.py
 
 Its stages run in turn, each of which says 'N passed, M failed' on its last line: the files' layout; what must not
 compile; `rt ci`, which proves and tests each crate and runs each program; the schedules, by the program as both
-compilers made it; and the wrong bodies. Then come the processor seconds of each crate, and a last line that counts
-everything. Where the layout or `rt ci` fails, nothing behind it is tried.
+compilers made it; one of them with each write of the validator's journal failing; and the wrong bodies. Then come the
+processor seconds of each crate, and a last line that counts everything. Where the layout or `rt ci` fails, nothing behind
+it is tried.
 """
 import os
 import re
@@ -26,6 +27,7 @@ STAGES = {
     "proofs, tests and programs": ["rt", "ci"],
     "schedules, as LLVM builds the program": ["schedules/check.sh", "--with", "crates/tmsim/out/tmsim"],
     "schedules, as Rattle's compiler builds it": ["schedules/check.sh", "--with", "crates/tmsim/out/tmsim.by-rattle"],
+    "a stop at each write": ["schedules/each_stop.py", "--with", "crates/tmsim/out/tmsim"],
     "wrong bodies": ["gate/wrong_bodies.py", "--built"],
 }
 # What is said where a stage fails behind which nothing is tried.
@@ -34,7 +36,7 @@ ENDS = {
     "proofs, tests and programs": "The stages behind stand on these proofs, so they are left out.",
 }
 # About what a whole run takes, in processor seconds; its table says what it took.
-USUAL = 12_500
+USUAL = 17_000
 # The part of a crate's time that a check belongs to.
 PARTS = ("proof", "tests", "edits")
 TICKS = os.sysconf("SC_CLK_TCK")

@@ -1,6 +1,7 @@
 #!/usr/bin/env bash
 # Tries each edit must-not-compile/CRATE/NAME.edit in a copy of the repository: the compiler has to refuse it, with the
-# error that its first line names. What proves nothing refuses it, so a copy without earlier work is quick.
+# error that its first line names. What proves nothing refuses it, so a copy without earlier work is quick. A crate without
+# tests is compiled for the first crate of tests that uses it.
 # The last line is 'N passed, M failed'.
 set -euo pipefail
 cd "$(dirname "${BASH_SOURCE[0]}")/.."
@@ -22,6 +23,15 @@ open(path, "w").write(text.replace(fields["old"], fields["new"]))
 PYTHON
 }
 
+# The crate whose tests have this one compiled.
+tester_of() {
+    if grep -rqF '#[test]' "crates/$1/src"; then
+        echo "$1"
+    else
+        awk -v name="$1" -F: '$1 ~ /_tests$/ && index($2 " ", " " name " ") {print $1; exit}' crates.txt
+    fi
+}
+
 # Tries one edit, and says what came of it.
 try_edit() {
     local edit=$1 name wanted crate said
@@ -33,7 +43,7 @@ try_edit() {
         echo "$edit: NOT APPLIED: $said"
         return 1
     fi
-    said=$(cd "$crate" && rt try --test 2>&1) || true
+    said=$(cd "$copy/crates/$(tester_of "$name")" && rt try --test 2>&1) || true
     rm -rf "$crate/src" && cp -r "crates/$name/src" "$crate/src"
     if ! grep -qF "error[$wanted]" <<<"$said"; then
         echo "$edit: NOT REFUSED by $wanted: $(tail -n 3 <<<"$said" | tr '\n' ' ' | cut -c1-400)"

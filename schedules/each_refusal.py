@@ -6,8 +6,8 @@ usage: each_refusal.py [SCHEDULE ..]
 Wants the built program (./build.sh builds it) and gcc. With no schedule, all of this folder are run. Where a validator
 refuses a call for want of memory, it is settled and the call made once more: the report has to be the stored one but for
 the line that tells of that refusal, and a line of the second call, where the first had taken the message in: that it
-is kept already, or that its height is decided. Where memory is refused outside the validator, the report has to be a
-beginning of the stored one, and the program has to say why it ended.
+is kept already, that its height is decided, or that the validator halted in between. Where memory is refused outside the
+validator, the report has to be a beginning of the stored one, and the program has to say why it ended.
 """
 
 import os
@@ -35,7 +35,7 @@ def without_refusal(lines):
     first = places[0]
     once = lines[:first] + lines[first + 1:]
     again = [once[:place] + once[place + 1:] for place in range(first, len(once))
-             if once[place].endswith((" refuses 9", " refuses 7"))]
+             if once[place].endswith((" refuses 9", " refuses 7", " refuses 15"))]
     return [once] + again
 
 

@@ -39,6 +39,14 @@ impl Decisions {
         }
     }
 
+    /// The decisions of a list in order of height, none left out, as an opened journal has them. It takes no memory.
+    pub fn of(alloc: Global, bundles: Vec<Bundle>) -> Decisions
+        requires { IsInPlace bundles.items }
+        ensures { result.bundles ≡ bundles.items }
+    {
+        Decisions { alloc, bundles }
+    }
+
     /// How many heights are decided: the first that isn't.
     pub fn len(&self) -> usize
         ensures len { result ≡ length self.now.bundles }

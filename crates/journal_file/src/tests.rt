@@ -2,3 +2,4 @@
 
 mod files;
 mod journals;
+mod strikes;

@@ -244,6 +244,10 @@ relawful c p n m es ej l = record { tied = rw (es, ej) l.tied; keeps = rw es l.k
 abbrev pub node_of : Core → List Record → Node
 node_of core records = record { state = core.machine.state; queues = core.queues; journal = records }
 
+-- and the core stands for it
+pub kept_stands : (core : Core) (k : IsKept core) → Stands (node_of core k.records) core
+kept_stands core k = record { state = refl; queues = refl; decisions = k.decisions; said = k.said; journal = λ _. k.whole }
+
 fired_journal : (k : Rule) (old : Core) (m : MayFire k old) → IsLawful (setting_of old) old.machine.me (firing (setting_of old) old.machine.me (node_of old (m.sound.kept m.running).records) k).node
 fired_journal k old m = fired_lawful (setting_of old) old.machine.me (node_of old (m.sound.kept m.running).records) k (m.sound.kept m.running).lawful m.holds
 
@@ -259,9 +263,12 @@ fired_whole k old new f m =
 fired_kept : (k : Rule) (old new : Core) → IsFiredTo k old new → MayFire k old → IsKept new
 fired_kept k old new f m =
     let kept = m.sound.kept m.running in
-    let records : List Record = option_to_list (saved (context_of old) (pick old.queues) old.machine.state k) ++ kept.records in
+    let wrote : Option Record = saved (context_of old) (pick old.queues) old.machine.state k in
+    let records : List Record = option_to_list wrote ++ kept.records in
     record {
       records = records;
+      decisions = f.decisions ∙ ap (λ l. l ++ decided_in wrote) kept.decisions ∙ sym (saved_bundles wrote kept.records);
+      said = f.said ∙ ap (said_of old.machine.me wrote) kept.said ∙ sym (saved_said old.machine.me wrote kept.records) ∙ (rw f.same.me refl);
       whole = rw (f.same.powers, f.same.me) (fired_whole k old new f m);
       lawful = rw (same_setting old new f.same, f.same.me) (relawful (setting_of old) old.machine.me _ (node_of new records) f.state refl (fired_journal k old m));
     }

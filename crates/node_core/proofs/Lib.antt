@@ -17,3 +17,4 @@ pub mod Recorded
 pub mod Unsaid
 pub mod Telling
 pub mod Called
+pub mod Reopened

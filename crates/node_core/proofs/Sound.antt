@@ -45,7 +45,7 @@ sound_queued core t d s lawful none = record {
   own = s.own;
   said = s.said;
   journal = s.journal;
-  kept = λ running. let k = s.kept running in record { records = k.records; whole = k.whole; lawful = record { tied = k.lawful.tied; keeps = k.lawful.keeps; follows = k.lawful.follows; made = k.lawful.made } };
+  kept = λ running. let k = s.kept running in record { records = k.records; decisions = k.decisions; said = k.said; whole = k.whole; lawful = record { tied = k.lawful.tied; keeps = k.lawful.keeps; follows = k.lawful.follows; made = k.lawful.made } };
 }
 
 pub stamps_kept : (step : Step) (round sender : ℕ) (content : Option Id) (tags : List (List ℕ)) → AreTags tags → All IsStamp (stamp_of step round sender content tags)
@@ -84,6 +84,8 @@ sound_kept core m message s a stamps state height delivered keeps = record {
       let k = s.kept running in
       record {
         records = k.records;
+        decisions = k.decisions;
+        said = rw a.me k.said;
         whole = rw (a.powers, a.me) k.whole;
         lawful = record { tied = subst (λ (x : State). Tied x k.records) (sym state) (kept_tied core.machine.state k.records message message.body k.lawful.tied); keeps = rw (a.powers, a.me) (keeps running); follows = rw a.powers k.lawful.follows; made = rw a.me k.lawful.made };
       };

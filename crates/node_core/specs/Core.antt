@@ -101,9 +101,12 @@ pub record IsSaid (me : ℕ) (b : Body) : Type 0 where
   pub spelled : IsBody b
   pub own : sender_of b ≡ Validator me
 
--- the store holds records, whole, of which the variables are as they tell, and which the next record may follow
+-- The store holds records, whole, of which the variables, the decisions and the own messages of the height are as they tell, and
+-- which the next record may follow: so the core stands for a node of the definitions.
 pub record IsKept (core : Core) : Type 0 where
   pub records : List Record  -- the newest first
+  pub decisions : core.decisions ≡ bundles_in records
+  pub said : core.said ≡ own_since core.machine.me records
   pub whole : IsWholeJournal core.machine.powers core.machine.me core.journal.bytes (reverse records)
   pub lawful : IsLawful (setting_of core) core.machine.me (record { state = core.machine.state; queues = core.queues; journal = records })
 

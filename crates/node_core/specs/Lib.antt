@@ -5,3 +5,4 @@ pub mod Named
 pub mod Calls
 pub mod Firing
 pub mod Running
+pub mod Opening

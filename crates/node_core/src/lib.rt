@@ -5,6 +5,9 @@
 //! `outgoing`, and the timeouts that they schedule in `scheduled`, until the caller takes them: the core
 //! itself reads no socket and no clock.
 //!
+//! What it says and decides is saved in its journal first. `NodeCore::open` is the validator that an opened journal tells
+//! of, and `NodeCore::new` one whose journal has no records.
+//!
 //! Line numbers are those of algorithm 1 of arXiv 1807.04938.
 #![tactic(auto)]
 
@@ -12,6 +15,7 @@ mod calls;
 mod firing;
 mod journal;
 mod node;
+mod opening;
 mod refusal;
 mod taking;
 

@@ -3,6 +3,7 @@
 ghost use Rattle.std.specs.Prelude.{◌≡◌, ◌<◌, [], true, false, length, map, is_none};
 ghost use Rattle.protocol.specs.Values.{fifo};
 ghost use Rattle.protocol.specs.Tags.{Validator};
+ghost use Rattle.protocol.specs.State.{Node};
 ghost use Rattle.protocol.specs.Order.{enabled};
 ghost use Rattle.protocol.specs.Restart.{opened};
 ghost use Rattle.proposal_validity.specs.Standing.{IsFrontierOf};
@@ -157,7 +158,9 @@ impl<S: Store + Drop> NodeCore<S> {
     /// Whether a call answered `JournalFailed`. Then each call that would change the node answers `Halted`, until its
     /// journal is opened again.
     pub fn has_halted(&self) -> bool
-        ensures { result ≡ self.now.journal.failed }
+        ensures halted { result ≡ self.now.journal.failed }
+        // Where it has not, it is a node of the definitions.
+        ensures stands { result ≡ false → (n : Node) × Stands n self.now }
     {
         self.journal.has_failed()
     }

@@ -9,6 +9,7 @@ mod answers;
 mod bundles;
 mod journal;
 mod memory;
+mod opening;
 mod proposer;
 mod queues;
 mod refusals;
@@ -98,8 +99,8 @@ fn begin(rt: &impl Abort, core: &mut NodeCore<MemoryStore>) {
 }
 
 /// A value's bytes: those of its one transaction, and the tags for validators 0 to 3.
-fn value_spelling(number: u8) -> [u8; 146] {
-    let tx = [1, 0, 7, 0, 0, 0, 0, 0, 0, 0, number, 0, 0, 1, 0x61];
+fn value_spelling(number: u8, byte: u8) -> [u8; 146] {
+    let tx = [1, 0, 7, 0, 0, 0, 0, 0, 0, 0, number, 0, 0, 1, byte];
     let mut bytes = [0; 146];
     bytes[1] = 1;
     bytes[2..17].copy_from_slice(&tx);
@@ -148,7 +149,7 @@ impl Node {
 
     /// The value of one transaction of client 7 with this number, the byte 0x61 under right tags.
     fn value(&self, number: u8) -> Result<Value, Fail> {
-        Ok(read_value(self.alloc, &value_spelling(number))?)
+        Ok(read_value(self.alloc, &value_spelling(number, 0x61))?)
     }
 
     /// Its id.

@@ -3,3 +3,4 @@ pub mod Certificates
 pub mod Deciding
 pub mod ByRound
 pub mod Keeping
+pub mod Restarting

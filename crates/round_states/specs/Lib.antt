@@ -6,3 +6,4 @@ pub mod Taking
 pub mod Seen
 pub mod Steps
 pub mod Places
+pub mod Replaying

@@ -1,8 +1,9 @@
 //! A round in each of its steps (`step_p` of algorithm 1 of arXiv 1807.04938). A vote spends the step that allows it, so there is one in each.
 
-ghost use Rattle.std.specs.Prelude.{◌≡◌, ◌<◌};
+ghost use Rattle.std.specs.Prelude.{◌≡◌, ◌<◌, true};
 ghost use Rattle.protocol.specs.Messages.{Own, Prevoting, Precommitting};
 ghost use Rattle.round_states.specs.Saving.{IsOwnIn};
+ghost use Rattle.round_states.specs.Seen.{IsOf, stage_begun, stage_round, stage_step};
 
 use crate::unsaved::Unsaved;
 use transactions::{Id, Named};
@@ -137,6 +138,34 @@ pub(crate) enum Stage {
 }
 
 impl Stage {
+    /// Where a validator stands that comes back: the step of what it said last, as its journal tells. It is the one way to
+    /// a step that no vote was spent for.
+    pub(crate) fn read_back(validator: u16, height: u64, number: u32, step: protocol::Step) -> Stage
+        ensures of { IsOf validator height result }
+        ensures stands { (stage_begun result ≡ true) × (stage_round result ≡ number) × (stage_step result ≡ step) }
+    {
+        match step {
+            protocol::Step::Propose => Stage::Propose(Round {
+                validator,
+                height,
+                number,
+                step: Propose,
+            }),
+            protocol::Step::Prevote => Stage::Prevote(Round {
+                validator,
+                height,
+                number,
+                step: Prevote,
+            }),
+            protocol::Step::Precommit => Stage::Precommit(Round {
+                validator,
+                height,
+                number,
+                step: Precommit,
+            }),
+        }
+    }
+
     /// The same stage, for a copy of the whole state. The copy of a state may vote where the state may: whoever
     /// makes one lets only one of the two vote.
     pub(crate) fn copy(&self) -> Stage

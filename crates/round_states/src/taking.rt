@@ -183,8 +183,13 @@ impl State {
         Ok(())
     }
 
-    /// Keeps a proposal that arrived, with its id and what is found of it.
-    fn keep_proposal(&mut self, proposal: Proposal, id: Id, genuine: bool) -> Result<(), AllocError>
+    /// Keeps a proposal that arrived, or that was said before the validator stopped, with its id and what is found of it.
+    pub(crate) fn keep_proposal(
+        &mut self,
+        proposal: Proposal,
+        id: Id,
+        genuine: bool,
+    ) -> Result<(), AllocError>
         requires fits { IsValue proposal.value }
         requires id { id ≡ name_of proposal.value }
         ensures ok { OnOk result (self.new ≡ with_proposal self.old proposal genuine) }

@@ -65,6 +65,8 @@ Brings s (inputs.Frame bytes) m = ⊥
 Brings s (inputs.Timeout due) m = ⊥
 Brings s inputs.Ask m = ⊥
 Brings s inputs.Resend m = ⊥
+Brings s inputs.Restart m = ⊥
+Brings s (inputs.Fail failing) m = ⊥
 
 -- ---- the call that an event makes
 
@@ -83,6 +85,8 @@ Makes s (inputs.Frame bytes) call = IsFrameCall bytes.items call
 Makes s (inputs.Timeout due) call = call ≡ calls.FireTimeout due
 Makes s inputs.Ask call = call ≡ calls.Ask
 Makes s inputs.Resend call = call ≡ calls.Resend
+Makes s inputs.Restart call = call ≡ calls.Restart
+Makes s (inputs.Fail failing) call = call ≡ calls.Fail failing
 Makes s input call = IsMessageCall (Brings s input) call
 
 -- ---- who has to be a validator

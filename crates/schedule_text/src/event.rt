@@ -31,6 +31,19 @@ pub(crate) enum Input {
     Ask,
     /// The validator is to send its own messages of the height again.
     Resend,
+    /// The validator ends, and is opened again over its store.
+    Restart,
+    /// A call of the validator's store is to fail.
+    Fail(Failing),
+}
+
+/// A call of a store that is to fail.
+#[derive(Clone, Copy, Debug)]
+pub(crate) struct Failing {
+    /// Its number, of the appends, cuts and syncs from now on, from 1; 0 for none.
+    pub(crate) call: u64,
+    /// How many bytes of an append stay; all, where there are fewer.
+    pub(crate) keep: u64,
 }
 
 /// A liar's proposal.

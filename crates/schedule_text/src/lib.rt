@@ -28,6 +28,12 @@
 //! - `timeout P KIND H R`: P's timeout is due. KIND is `propose`, `prevote` or `precommit`.
 //! - `ask P`: P asks for the decision of its height.
 //! - `resend P`: P sends its own messages of the height again. A report tells of none that it has told of.
+//! - `restart P`: P ends, and is opened again over its store as it stands, synced or not, and settled. A decision that it
+//!   finds there and that was never told is told now.
+//! - `fail P CALL KEEP`: of the appends, cuts and syncs of P's store from now on, counted from 1, the one of number CALL
+//!   fails. Of an append the first KEEP bytes stay, none for `-`, all where there are fewer; a cut or a sync does nothing.
+//!   Each such line counts by itself; where several come at one call, the latest tells what stays. Where P can't be opened
+//!   again for it, P refuses all as one that has halted, until it is opened.
 //!
 //! What comes, comes as a frame, with right tags but where an item says otherwise. The key of what
 //! FROM sends to TO is the SHA-256 digest of the text `tmsim FROM TO`, as `tmsim c7 v2`.
@@ -48,6 +54,7 @@ mod running;
 mod schedule;
 mod sender_keys;
 mod senders;
+mod validator;
 mod values;
 mod words;
 mod world;

@@ -5,7 +5,7 @@
 
 ghost use Rattle.std.specs.Prelude.{◌≤◌};
 
-use crate::event::{Bundling, Event, Input, Proposing, Voting};
+use crate::event::{Bundling, Event, Failing, Input, Proposing, Voting};
 use crate::fault::LineFault;
 use crate::items::{Tagged, bytes_in, name_in, tagged_in};
 use crate::numbers::{count_in, counts_in, list_in, number_in, number_in_u16, number_in_u32};
@@ -109,6 +109,10 @@ fn short_event_in(kind: &[u8], words: &[&[u8]], values: &Values) -> Option<Event
         bare_line(words, Input::Ask)
     } else if is_word(kind, "resend") {
         bare_line(words, Input::Resend)
+    } else if is_word(kind, "restart") {
+        bare_line(words, Input::Restart)
+    } else if is_word(kind, "fail") {
+        fail_line(words)
     } else {
         None
     }
@@ -216,7 +220,29 @@ fn timeout_line(words: &[&[u8]]) -> Option<Event> {
     })
 }
 
-/// `ask P` or `resend P`
+/// `fail P CALL KEEP`
+fn fail_line(words: &[&[u8]]) -> Option<Event> {
+    let [receiver, call, keep] = words else {
+        return None;
+    };
+    Some(Event {
+        receiver: count_in(receiver)?,
+        input: Input::Fail(Failing {
+            call: count_in(call)?,
+            keep: keep_in(keep)?,
+        }),
+    })
+}
+
+/// `-` for no bytes, or how many.
+fn keep_in(word: &[u8]) -> Option<u64> {
+    match word {
+        b"-" => Some(0),
+        _ => count_in(word),
+    }
+}
+
+/// `ask P`, `resend P` or `restart P`
 fn bare_line(words: &[&[u8]], input: Input) -> Option<Event> {
     let [receiver] = words else {
         return None;

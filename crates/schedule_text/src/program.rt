@@ -134,8 +134,8 @@ fn tell<'a, W: Write>(run: &mut Run, schedule: &Schedule, out: &mut W) -> Result
     for (before, event) in schedule.events.iter().enumerate() {
         write_outcome(before + 1, run.happen(event), &schedule.values, out)?;
     }
-    let (me, node) = (run.me(), run.node());
-    write_line(&EndLine { me, node }, out)
+    let (me, validator) = (run.me(), run.validator());
+    write_line(&EndLine { me, validator }, out)
 }
 
 /// Writes what there is to tell of the event with this number, or answers its failure.

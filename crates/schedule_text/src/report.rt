@@ -1,11 +1,11 @@
 //! The lines of a report.
 
+use crate::validator::Validator;
 use crate::values::Values;
 use messages::{Ask, Step, Vote};
-use node_core::{NodeCore, Refusal};
+use node_core::Refusal;
 use std::fmt;
 use transactions::{Id, Op, Tx};
-use vote_journal::MemoryStore;
 
 /// What there is to tell of an event.
 #[derive(Clone, Copy)]
@@ -217,16 +217,16 @@ fn write_digits<W: fmt::Write>(bytes: &[u8], f: &mut fmt::Formatter<W>) -> fmt::
 #[derive(Clone, Copy)]
 pub(crate) struct EndLine<'a> {
     pub(crate) me: u16,
-    pub(crate) node: &'a NodeCore<MemoryStore>,
+    pub(crate) validator: &'a Validator,
 }
 
 impl fmt::Display for EndLine<'_> {
     fn fmt<W: fmt::Write>(&self, f: &mut fmt::Formatter<W>) -> fmt::Result {
         let me = self.me;
-        let height = self.node.height();
-        let round = self.node.round();
+        let height = self.validator.height();
+        let round = self.validator.round();
         write!(f, "v{me} at {height} {round}:")?;
-        for value in self.node.delivered() {
+        for value in self.validator.delivered() {
             write_items(value.txs.as_slice(), f)?;
         }
         Ok(())

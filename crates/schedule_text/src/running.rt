@@ -1,33 +1,25 @@
 //! The run of a schedule, event by event.
 
-ghost use Rattle.std.specs.Prelude.{◌≡◌, [], false, IfOk};
-ghost use Rattle.protocol.specs.Rings.{IsRingOf};
-ghost use Rattle.vote_journal.specs.Layout.{IsWhole};
-ghost use Rattle.schedule_text.specs.Events.{setting_of};
-
 use crate::event::Event;
 use crate::fault::EventFault;
-use crate::keys::ring_of;
 use crate::report::{Release, Told};
 use crate::schedule::Schedule;
 use crate::senders::{Call, Senders, fault_of};
-use crate::world::World;
+use crate::validator::Validator;
 use indexmap::IndexSet;
 use messages::{Body, Bundle, body_in, read};
-use node_core::{Config, NodeCore, Refusal};
-use powers::Powers;
+use node_core::Refusal;
 use std::alloc::{AllocError, Global};
 use transactions::{Id, Value, value_id};
-use vote_journal::{Journal, MemoryStore};
 
-/// A run: the validator's node, and what was told of it.
+/// A run: the correct validator, and what was told of it.
 #[derive(Drop)]
 pub(crate) struct Run<'a> {
     alloc: Global,
+    schedule: &'a Schedule,
     senders: Senders<'a>,
-    me: u16,
-    node: NodeCore<MemoryStore>,
-    /// How many of the node's decisions were told.
+    validator: Validator,
+    /// How many of the validator's decisions were told.
     decisions_told: usize,
     /// The spelled bodies of messages; a message's number is its place.
     numbered: IndexSet<Vec<u8>>,
@@ -41,23 +33,23 @@ impl<'a> Run<'a> {
         let senders = Senders::new(alloc, schedule)?;
         Ok(Run {
             alloc,
+            schedule,
             senders,
-            me: schedule.world.correct,
-            node: node_of(alloc, &schedule.world)?,
+            validator: Validator::new(alloc, &schedule.world)?,
             decisions_told: 0,
             numbered: IndexSet::new(alloc),
             is_unsettled: false,
         })
     }
 
-    /// The validator's node.
-    pub(crate) fn node(&self) -> &NodeCore<MemoryStore> {
-        &self.node
+    /// The correct validator.
+    pub(crate) fn validator(&self) -> &Validator {
+        &self.validator
     }
 
     /// The correct validator's number.
     pub(crate) fn me(&self) -> u16 {
-        self.me
+        self.schedule.world.correct
     }
 
     /// The beginning of the world: the validator is settled.
@@ -74,8 +66,21 @@ impl<'a> Run<'a> {
     /// What there is to tell of a call.
     fn told_of(&mut self, call: &Call) -> Result<Vec<Told>, EventFault> {
         let mut told = Vec::new(self.alloc);
-        self.settle_and_insist(call, &mut told)?;
+        match call {
+            Call::Restart => self.restart(&mut told)?,
+            Call::Fail(failing) => self.validator.fail(*failing)?,
+            _ => self.settle_and_insist(call, &mut told)?,
+        }
         Ok(told)
+    }
+
+    /// Opens the validator again, and settles it.
+    fn restart(&mut self, told: &mut Vec<Told>) -> Result<(), EventFault> {
+        self.is_unsettled = false;
+        match self.validator.open(&self.schedule.world)? {
+            Ok(()) => self.insist(&Call::Settle, told),
+            Err(refusal) => Ok(told.push(Told::Refused(self.me(), refusal))?),
+        }
     }
 
     /// Makes a call of the settled validator.
@@ -98,16 +103,9 @@ impl<'a> Run<'a> {
 
     /// Makes a call, and tells of it: the refusal, then the decisions, then the new messages.
     fn call(&mut self, call: &Call, told: &mut Vec<Told>) -> Result<Option<Refusal>, EventFault> {
-        let answer = match call {
-            Call::Settle => self.node.settle(),
-            Call::Handle(frame) => self.node.handle(frame),
-            Call::FireTimeout(timeout) => self.node.fire_timeout(*timeout),
-            Call::Ask => self.node.ask(),
-            Call::Resend => self.node.resend(),
-        };
-        let refusal = answer.err();
+        let refusal = self.validator.call(call).err();
         if let Some(refusal) = refusal {
-            told.push(Told::Refused(self.me, refusal))?;
+            told.push(Told::Refused(self.me(), refusal))?;
         }
         self.tell_decisions(told)?;
         self.tell_messages(told)?;
@@ -115,16 +113,17 @@ impl<'a> Run<'a> {
     }
 
     fn tell_decisions(&mut self, told: &mut Vec<Told>) -> Result<(), AllocError> {
-        let decisions = self.node.decisions();
+        let me = self.me();
+        let decisions = self.validator.decisions();
         for bundle in decisions.iter().skip(self.decisions_told) {
-            told.push(decision(self.me, bundle))?;
+            told.push(decision(me, bundle))?;
         }
-        self.decisions_told = decisions.len();
+        self.decisions_told = self.decisions_told.max(decisions.len());
         Ok(())
     }
 
     fn tell_messages(&mut self, told: &mut Vec<Told>) -> Result<(), EventFault> {
-        for frame in self.node.outgoing() {
+        for frame in self.validator.outgoing() {
             self.tell_frame(&frame, told)?;
         }
         Ok(())
@@ -149,31 +148,6 @@ impl<'a> Run<'a> {
         }
         Ok(())
     }
-}
-
-/// The node of the correct validator over an empty store, before it is settled.
-fn node_of(alloc: Global, world: &World) -> Result<NodeCore<MemoryStore>, AllocError> {
-    let me = world.correct;
-    let ring = ring_of(alloc, me, world.count(), world.clients.count)?;
-    let powers = world.powers.copy(alloc)?;
-    let journal = empty_journal(alloc, me, &powers)?;
-    Ok(NodeCore::new(alloc, Config { me, powers }, ring, journal))
-}
-
-/// A journal without records. A store in memory of which no call is to fail refuses for memory alone.
-fn empty_journal(
-    alloc: Global,
-    me: u16,
-    powers: &Powers,
-) -> Result<Journal<MemoryStore>, AllocError>
-    ensures state { IfOk result (λ journal. (journal.me ≡ me) × (journal.failed ≡ false)) }
-    ensures empty { IfOk result (λ journal. IsWhole powers.now me journal.store.bytes.items []) }
-{
-    let store = MemoryStore::new(Vec::new(alloc), 0, 0);
-    let Ok(opened) = Journal::open(alloc, store, me, powers) else {
-        return Err(AllocError);
-    };
-    opened.without_records().map_err(|_| AllocError)
 }
 
 fn decision(validator: u16, bundle: &Bundle) -> Told {

@@ -11,7 +11,7 @@ ghost use Rattle.schedule_text.specs.Lines.{value_at};
 ghost use Rattle.schedule_text.specs.declared.items.RightTags.TheVariants.{All};
 ghost use Rattle.schedule_text.specs.Events.{setting_of, IsContent, IsBundled, IsMessageCall, Makes, is_known, are_known, precommit_by};
 
-use crate::event::{Bundling, Event, Input, Proposing, Voting};
+use crate::event::{Bundling, Event, Failing, Input, Proposing, Voting};
 use crate::fault::EventFault;
 use crate::items::{RightTags, Tagged};
 use crate::keys::tags_of;
@@ -27,7 +27,7 @@ use transactions::{Duplicate, Fault, Id, Named, Seq, Tx, Value};
 /// The greatest number of precommits in a bundle.
 const MOST_PRECOMMITS: usize = 64;
 
-/// A call of a node.
+/// What a schedule asks for: a call of the node, its end and its opening again, or that a call of its store fails.
 #[derive(Drop)]
 pub(crate) enum Call {
     Settle,
@@ -36,6 +36,8 @@ pub(crate) enum Call {
     FireTimeout(Timeout),
     Ask,
     Resend,
+    Restart,
+    Fail(Failing),
 }
 
 /// The liars and the clients of a schedule, who make what comes to the correct validator.
@@ -92,6 +94,8 @@ impl<'a> Senders<'a> {
             Input::Timeout(timeout) => Ok(Call::FireTimeout(*timeout)),
             Input::Ask => Ok(Call::Ask),
             Input::Resend => Ok(Call::Resend),
+            Input::Restart => Ok(Call::Restart),
+            Input::Fail(failing) => Ok(Call::Fail(*failing)),
         }
     }
 

@@ -104,8 +104,13 @@ impl World {
             Input::Bundle(line) => {
                 self.may_lie(line.sender) && line.signers.iter().all(|one| self.may_lie(*one))
             }
-            Input::Submit(_) | Input::Frame(_) | Input::Timeout(_) | Input::Ask | Input::Resend =>
-                true,
+            Input::Submit(_)
+            | Input::Frame(_)
+            | Input::Timeout(_)
+            | Input::Ask
+            | Input::Resend
+            | Input::Restart
+            | Input::Fail(_) => true,
         };
         may_send && !self.liars.contains(event.receiver)
     }

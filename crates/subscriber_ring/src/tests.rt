@@ -194,6 +194,28 @@ fn relayed<R: Threads + Wait + Sync>(
     )
 }
 
+/// Offers the next item so many times: how often it was given back because the ring was full.
+fn times_full<R: Wait>(rt: &R, alloc: Global, feeder: &mut Feeder, count: u32) -> u32 {
+    let mut full = 0u32;
+    for _ in 0..count {
+        if matches!(offer_next(rt, alloc, feeder), Answer::Full(_)) {
+            full = full.saturating_add(1);
+        }
+    }
+    full
+}
+
+#[test]
+fn a_full_ring_loses_nothing(rt: HostRuntime) -> Result<(), Fail> {
+    let (mut feeder, mut subscription) = ring(rt.alloc(), 1, 8)?;
+    assert_eq!(rt; feed(&rt, rt.alloc(), &mut feeder, 8), 8);
+    assert_eq!(rt; times_full(&rt, rt.alloc(), &mut feeder, 1_000), 1_000);
+    assert_eq!(rt; feeder.next(), 9);
+    assert_eq!(rt; follow(&rt, &mut subscription, 1, 8), 8);
+    assert_eq!(rt; take_next(&rt, &mut subscription), None);
+    Ok(())
+}
+
 #[test]
 fn two_threads(rt: HostRuntime) -> Result<(), Fail> {
     let (mut feeder, mut subscription) = ring(rt.alloc(), 1, 8)?;

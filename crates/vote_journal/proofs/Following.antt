@@ -1,5 +1,5 @@
 -- What a validator of any run saves may follow what it saved before.
-use Rattle.std.proofs.Common.{ltb-true, eqb-true, sym, ◌≡◌, ℕ, suc, ◌+◌, ◌*◌, ◌<◌, ◌≤◌, inl, inr, Bool, true, false, cond, List, [], ◌∷◌, ◌++◌, refl, subst, Option, Some, None, eq-eqb, lt-ltb, option_to_list, ltb-false, arith}
+use Rattle.std.proofs.Common.{ltb-true, eqb-true, sym, ◌≡◌, ℕ, suc, ◌+◌, ◌*◌, ◌^◌, ◌<◌, ◌≤◌, inl, inr, Bool, true, false, cond, List, [], ◌∷◌, ◌++◌, refl, subst, Option, Some, None, eq-eqb, lt-ltb, option_to_list, ltb-false, arith}
 use Rattle.std.specs.Prelude.{◌==◌, ◌||◌, nat_lt}
 use Rattle.std.proofs.lemmas.Bool.{cond_both, and_from, and_parts, cases_Bool}
 use Rattle.powers.specs.Power.{IsQuorum, proposer}
@@ -28,12 +28,12 @@ use Rattle.vote_journal.specs.Stopping.{Fits}
 use Rattle.vote_journal.specs.Laws.{EachFollows, IsMade, EachMade, IsLawful, FollowsLaw}
 use Rattle.vote_journal.proofs.Deciding.{certificate_rising, certified_rising}
 
--- ---- a value that is decided might be delivered next
+-- ---- what is decided is of a height that decides, and its value might be delivered next
 
 abbrev OptionValid : List Record → Option Record → Type 0
 OptionValid j None = Unit {0}
 OptionValid j (Some (Own h r act)) = Unit {0}
-OptionValid j (Some (Decided b)) = valid (delivered_of j) b.value ≡ true
+OptionValid j (Some (Decided b)) = (b.height < 2 ^ 48) × (valid (delivered_of j) b.value ≡ true)
 
 starts_valid : (g : Context) (s : State) (r : ℕ) (v : Value) (j : List Record) → OptionValid j (starts g s r v)
 starts_valid g s r v j = cond_both (proposer g.powers s.height r == g.me) _ _ (OptionValid j) (λ _. by_value s.valid_value) (λ _. tt)
@@ -55,8 +55,8 @@ saved_valid g v s j AwaitPrevotes same h = tt
 saved_valid g v s j (Lock u) same h = cond_both (step_eq s.step Prevote) _ _ (OptionValid j) (λ _. tt) (λ _. tt)
 saved_valid g v s j PrecommitNil same h = tt
 saved_valid g v s j AwaitPrecommits same h = tt
-saved_valid g v s j (Decide r u) same h = subst (λ d. valid d u ≡ true) same (asked g s (Decide r u) h).is_valid
-saved_valid g v s j (DecideByBundle b) same h = subst (λ d. valid d b.value ≡ true) same (asked g s (DecideByBundle b) h).is_valid
+saved_valid g v s j (Decide r u) same h = let a = asked g s (Decide r u) h in (a.room, subst (λ d. valid d u ≡ true) same a.is_valid)
+saved_valid g v s j (DecideByBundle b) same h = let a = asked g s (DecideByBundle b) h in (omega (arith, a.height, a.room), subst (λ d. valid d b.value ≡ true) same a.is_valid)
 saved_valid g v s j (SkipRound r) same h = starts_valid g s r v j
 saved_valid g v s j (TimedOut t) same h = timed_valid g s v t.kind j
 
@@ -108,14 +108,14 @@ grown_follows : (powers : List ℕ) (h r : ℕ) (act : Act) (j : List Record) �
 unfolding may_follow
 grown_follows powers h r act j g = and_from _ _ (eq-eqb h (height_of j) g.0) (after_last (last_place j) r (step_of act) g.1)
 
-decided_follows : (powers : List ℕ) (b : Bundle) (j : List Record) → Grows (Decided b ∷ j) → IsQuorum powers (named_senders b) → valid (delivered_of j) b.value ≡ true → may_follow powers j (Decided b) ≡ true
+decided_follows : (powers : List ℕ) (b : Bundle) (j : List Record) → Grows (Decided b ∷ j) → b.height < 2 ^ 48 → IsQuorum powers (named_senders b) → valid (delivered_of j) b.value ≡ true → may_follow powers j (Decided b) ≡ true
 unfolding may_follow
-decided_follows powers b j g q v = and_from _ _ (and_from _ _ (eq-eqb b.height (height_of j) g.0) q) v
+decided_follows powers b j g few q v = and_from _ _ (and_from _ _ (and_from _ _ (eq-eqb b.height (height_of j) g.0) (lt-ltb _ _ few)) q) v
 
 record_follows : (c : Setting) (p : ℕ) (o : Option Record) (j : List Record) → Grows (option_to_list o ++ j) → OptionCertified c p o → OptionValid j o → EachFollows c.powers j → EachFollows c.powers (option_to_list o ++ j)
 record_follows c p None j g q v f = f
 record_follows c p (Some (Own h r act)) j g q v f = (grown_follows c.powers h r act j g, f)
-record_follows c p (Some (Decided b)) j g q v f = (decided_follows c.powers b j g q.1 v, f)
+record_follows c p (Some (Decided b)) j g q v f = (decided_follows c.powers b j g v.0 q.1 v.1, f)
 
 -- ---- how what a rule that holds decides is made
 
@@ -174,7 +174,7 @@ each_grows : (powers : List ℕ) (j : List Record) → EachFollows powers j → 
 unfolding may_follow
 each_grows powers [] f = tt
 each_grows powers (Own h r act ∷ rest) f = let a = and_parts _ _ f.0 in (eqb-true _ _ a.0, from_after (last_place rest) r (step_of act) a.1, each_grows powers rest f.1)
-each_grows powers (Decided b ∷ rest) f = let a = and_parts _ _ f.0 in let d = and_parts _ _ a.0 in (eqb-true _ _ d.0, each_grows powers rest f.1)
+each_grows powers (Decided b ∷ rest) f = (eqb-true _ _ (and_parts _ _ (and_parts _ _ (and_parts _ _ f.0).0).0).0, each_grows powers rest f.1)
 
 pub opened_lawful : (c : Setting) (p : ℕ) (j : List Record) → EachFollows c.powers j → EachMade p j → IsLawful c p (opened p j)
 opened_lawful c p j f m = record { tied = restart_tied p j (each_grows c.powers j f); keeps = opened_keeps c p j; follows = f; made = m }

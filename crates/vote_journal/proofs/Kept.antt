@@ -1,10 +1,13 @@
 -- What opening keeps of a journal's records, and what that tells.
 use Rattle.std.specs.Prelude.{◌==◌}
-use Rattle.std.proofs.Common.{◌≡◌, ℕ, cond, suc, not, is_none, unwrap_or, List, [], ◌∷◌, ◌++◌, length, reverse, map, flat_map, refl, sym, ap, subst, ◌∙◌, arith, length-append, eqb-true}
-use Rattle.std.proofs.lemmas.List.{append-nil, map-append, reverse-append, reverse-reverse, length-reverse}
-use Rattle.std.proofs.lemmas.Bool.{and_parts}
+use Rattle.std.specs.Prelude.{All, nat_lt, slice_index_or}
+use Rattle.std.proofs.Common.{◌≡◌, ℕ, zero, ◌<◌, ◌≤◌, ◌^◌, inl, inr, true, take, ltb-true, cond, suc, not, is_none, unwrap_or, List, [], ◌∷◌, ◌++◌, length, reverse, map, flat_map, refl, sym, ap, subst, ◌∙◌, arith, length-append, eqb-true}
+use Rattle.std.proofs.lemmas.List.{append-nil, map-append, reverse-append, reverse-reverse, length-reverse, take-append-le, get_or_append_left, get_or-map, length-map}
+use Rattle.std.proofs.lemmas.List.Elements.{All-append}
+use Rattle.std.proofs.Math.Seq.{take-append_seam, get_or-append_seam}
+use Rattle.std.proofs.lemmas.Bool.{and_parts, cases_eq}
 use Rattle.std.proofs.lemmas.Grind.{flat_map-append}
-use Rattle.protocol.specs.Values.{Item, items}
+use Rattle.protocol.specs.Values.{Item, items, valid}
 use Rattle.protocol.specs.Messages.{◌∈◌, OfBundle, Bundle, Body, Record, Own, Decided, body_of, below}
 use Rattle.protocol.specs.declared.types.Step.TheVariants.{Propose}
 use Rattle.protocol.specs.State.{fresh}
@@ -16,11 +19,11 @@ use Rattle.protocol.specs.Arrivals.{bundles_of}
 use Rattle.protocol.specs.Effects.{bundles_in}
 use Rattle.protocol.specs.declared.records.OwnMessage.{OwnMessage}
 use Rattle.protocol.specs.declared.records.Record.TheVariants as records
-use Rattle.vote_journal.specs.Grammar.{records_spelling, IsRecord}
+use Rattle.vote_journal.specs.Grammar.{records_spelling, IsDecision, IsRecord}
 use Rattle.vote_journal.specs.Order.{may_follow, AreLawful, Remembers}
 use Rattle.vote_journal.specs.declared.keeping.Kept.{Kept}
 use Rattle.vote_journal.specs.declared.standing.Standing.{Standing}
-use Rattle.vote_journal.specs.Kept.{said, own_in, Keeps, journal_of, IsToldBy, AreInPlace, KeptLaw}
+use Rattle.vote_journal.specs.Kept.{said, own_in, Keeps, journal_of, IsToldBy, AreReplayable, KeptLaw}
 use Rattle.vote_journal.specs.Planning.{IsOf}
 use Rattle.vote_journal.specs.Laws.{EachFollows, EachMade, IsLawful}
 use Rattle.vote_journal.proofs.Following.{opened_lawful}
@@ -211,7 +214,7 @@ unfolding may_follow below
 heights_told powers [] f = refl
 heights_told powers (Own h r act ∷ j) f = heights_told powers j f.1
 heights_told powers (Decided b ∷ j) f =
-    let here : b.height ≡ length (bundles_in j) = eqb-true _ _ (and_parts _ _ (and_parts _ _ f.0).0).0 ∙ height_told j in
+    let here : b.height ≡ length (bundles_in j) = eqb-true _ _ (and_parts _ _ (and_parts _ _ (and_parts _ _ f.0).0).0).0 ∙ height_told j in
     map-append (λ (d : Bundle). d.height) (bundles_in j) (b ∷ []) ∙ (λ i. heights_told powers j f.1 i ++ here i ∷ []) ∙ ap below (sym (more (bundles_in j) b))
 
 abbrev IsAt : ℕ → Record → Type 0
@@ -224,16 +227,75 @@ own_at powers [] f x k = absurd k
 own_at powers (Own h r act ∷ j) f x k = each_pushed (IsAt (height_of j)) (own_in j) (Own h r act) (own_at powers j f.1) (eqb-true _ _ (and_parts _ _ f.0).0) x k
 own_at powers (Decided b ∷ j) f x k = absurd k
 
-pub in_place : (powers : List ℕ) (me : ℕ) (rs : List Record) (decisions : List Bundle) (own : List OwnMessage) → Keeps rs decisions own → AreLawful powers me [] rs → AreInPlace decisions own
-in_place powers me rs decisions own k l =
-    let f : EachFollows powers (reverse rs) = subst (EachFollows powers) (append-nil (reverse rs)) (lawful_follows powers me [] rs l tt) in
+-- ---- what a restart is made of them
+
+abbrev EachSpelled : ℕ → List Record → Type 0
+EachSpelled me [] = Unit {0}
+EachSpelled me (r ∷ rest) = IsRecord me r × EachSpelled me rest
+
+lawful_spelled : (powers : List ℕ) (me : ℕ) (before rs : List Record) → AreLawful powers me before rs → EachSpelled me before → EachSpelled me (reverse rs ++ before)
+lawful_spelled powers me before [] l s = s
+lawful_spelled powers me before (r ∷ rs) l s = subst (EachSpelled me) (reverse_onto r rs before) (lawful_spelled powers me (r ∷ before) rs l.2 (l.0, s))
+
+all_one : {X : Type 0} (P : X → Type 0) (x : X) → P x → All P (x ∷ [])
+all_one P x p zero d lt = p
+all_one P x p (suc k) d lt = absurd (omega (arith, lt))
+
+decisions_spelled : (me : ℕ) (j : List Record) → EachSpelled me j → All (IsDecision me) (bundles_in j)
+decisions_spelled me [] s = λ k d lt. absurd (omega (arith, lt))
+decisions_spelled me (Own h r act ∷ j) s = decisions_spelled me j s.1
+decisions_spelled me (Decided b ∷ j) s = All-append (IsDecision me) (bundles_in j) (b ∷ []) (decisions_spelled me j s.1) (all_one (IsDecision me) b s.0)
+
+own_spelled : (me : ℕ) (j : List Record) → EachSpelled me j → All (IsRecord me) (own_in j)
+own_spelled me [] s = λ k d lt. absurd (omega (arith, lt))
+own_spelled me (Own h r act ∷ j) s = All-append (IsRecord me) (own_in j) (Own h r act ∷ []) (own_spelled me j s.1) (all_one (IsRecord me) (Own h r act) s.0)
+own_spelled me (Decided b ∷ j) s = λ k d lt. absurd (omega (arith, lt))
+
+few_told : (powers : List ℕ) (j : List Record) → EachFollows powers j → height_of j ≤ 2 ^ 48
+unfolding may_follow
+few_told powers [] f = omega arith
+few_told powers (Own h r act ∷ j) f = few_told powers j f.1
+few_told powers (Decided b ∷ j) f =
+    let here = and_parts (b.height == height_of j) (nat_lt b.height (2 ^ 48)) (and_parts _ _ (and_parts _ _ f.0).0).0 in
+    let same : b.height ≡ height_of j = eqb-true _ _ here.0 in
+    let less : b.height < 2 ^ 48 = ltb-true _ _ here.1 in
+    omega (arith, same, less)
+
+-- each is of a value that might be delivered behind those before it
+abbrev AreNext : List Bundle → Type 0
+AreNext bs = (i : ℕ) (d : Bundle) → i < length bs → valid (flat_map items_of (take i bs)) (slice_index_or bs i d).value ≡ true
+
+next_pushed : (bs : List Bundle) (b : Bundle) → AreNext bs → valid (flat_map items_of bs) b.value ≡ true → AreNext (bs ++ b ∷ [])
+next_pushed bs b next v i d lt = elim (cases_eq i (length bs)) [
+  | inl e ↦ rw (e, take-append_seam bs (b ∷ []), get_or-append_seam bs b [] d) v
+  | inr e ↦ (let less : i < length bs = omega (arith, lt, e, more bs b) in
+      rw (take-append-le i bs (b ∷ []) (omega (arith, less)), get_or_append_left bs (b ∷ []) d i less) (next i d less))
+]
+
+next_told : (powers : List ℕ) (j : List Record) → EachFollows powers j → AreNext (bundles_in j)
+unfolding may_follow
+next_told powers [] f = λ i d lt. absurd (omega (arith, lt))
+next_told powers (Own h r act ∷ j) f = next_told powers j f.1
+next_told powers (Decided b ∷ j) f = next_pushed (bundles_in j) b (next_told powers j f.1) (subst (λ (d : List Item). valid d b.value ≡ true) (delivered_told j) (and_parts _ _ f.0).1)
+
+pub replayable : (powers : List ℕ) (me : ℕ) (rs : List Record) (decisions : List Bundle) (own : List OwnMessage) → Keeps rs decisions own → AreLawful powers me [] rs → AreReplayable me decisions own
+replayable powers me rs decisions own k l =
+    let j = reverse rs in
+    let decided : bundles_in j ≡ decisions = sym k.decided in
+    let f : EachFollows powers j = subst (EachFollows powers) (append-nil j) (lawful_follows powers me [] rs l tt) in
+    let s : EachSpelled me j = subst (EachSpelled me) (append-nil j) (lawful_spelled powers me [] rs l tt) in
+    let height : height_of j ≡ length decisions = height_told j ∙ ap length decided in
     record {
-      heights = subst (λ (x : List Bundle). map (λ (b : Bundle). b.height) x ≡ below (length x)) (sym k.decided) (heights_told powers (reverse rs) f);
-      present = λ m i. own_at powers (reverse rs) f (said m) (subst (λ (x : List Record). said m ∈ x) k.since (map_in said m own i)) ∙ height_told (reverse rs) ∙ ap length (sym k.decided);
+      heights = subst (λ (x : List Bundle). map (λ (b : Bundle). b.height) x ≡ below (length x)) decided (heights_told powers j f);
+      few = subst (λ n. n ≤ 2 ^ 48) height (few_told powers j f);
+      spelled = subst (All (IsDecision me)) decided (decisions_spelled me j s);
+      follow = subst AreNext decided (next_told powers j f);
+      present = λ m i. own_at powers j f (said m) (subst (λ (x : List Record). said m ∈ x) k.since (map_in said m own i)) ∙ height;
+      own_spelled = λ i m lt. subst (IsRecord me) (get_or-map said own i m (said m) lt) (subst (All (IsRecord me)) (sym k.since) (own_spelled me j s) i (said m) (omega (arith, lt, length-map own said)));
     }
 
 pub kept_holds : KeptLaw
-kept_holds me rs decisions own k = (told me rs decisions own k, λ powers l. in_place powers me rs decisions own k l)
+kept_holds me rs decisions own k = (told me rs decisions own k, λ powers l. replayable powers me rs decisions own k l)
 
 -- ---- where nothing is kept
 

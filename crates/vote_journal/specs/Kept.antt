@@ -1,12 +1,13 @@
 -- What opening keeps of a journal's records, and that a restart needs no more.
-use Rattle.std.specs.Prelude.{◌≡◌, ℕ, List, [], ◌∷◌, ◌++◌, length, map, flat_map, reverse}
-use Rattle.protocol.specs.Values.{items}
+use Rattle.std.specs.Prelude.{◌≡◌, ℕ, ◌<◌, ◌≤◌, ◌^◌, true, List, [], ◌∷◌, ◌++◌, length, map, flat_map, reverse, take, slice_index_or, All}
+use Rattle.protocol.specs.Values.{items, valid}
 use Rattle.protocol.specs.Messages.{◌∈◌, Bundle, Record, Own, Decided, body_of, below}
 use Rattle.protocol.specs.Records.{act_of}
 use Rattle.protocol.specs.Restart.{delivered_of, height_of, last_place, lock_of, own_since, restart}
 use Rattle.protocol.specs.Arrivals.{bundles_of}
 use Rattle.protocol.specs.Effects.{bundles_in}
 use Rattle.protocol.specs.declared.records.OwnMessage.{OwnMessage}
+use Rattle.vote_journal.specs.Grammar.{IsDecision, IsRecord}
 use Rattle.vote_journal.specs.Order.{AreLawful}
 use Rattle.vote_journal.specs.Layout.{IsWhole}
 use Rattle.vote_journal.specs.Saving.{IsFoundIn}
@@ -48,12 +49,18 @@ pub record IsToldBy (me : ℕ) (journal : List Record) (decisions : List Bundle)
   pub state : restart me journal ≡ restart me (journal_of decisions own)
   pub asks : (height : ℕ) → bundles_of height journal ≡ bundles_of height (reverse (map Decided decisions))
 
--- Decisions stand at their heights, and own messages are of the height after the last.
-pub record AreInPlace (decisions : List Bundle) (own : List OwnMessage) : Type 0 where
+-- A restart can be made of them: the decisions have a spelling, stand at their heights, are no more than the algorithm makes,
+-- and each is of a value that may be delivered behind those before it; the own messages have one, and are of the height
+-- after the last.
+pub record AreReplayable (me : ℕ) (decisions : List Bundle) (own : List OwnMessage) : Type 0 where
   pub heights : map (λ (b : Bundle). b.height) decisions ≡ below (length decisions)
+  pub few : length decisions ≤ 2 ^ 48
+  pub spelled : All (IsDecision me) decisions
+  pub follow : (i : ℕ) (d : Bundle) → i < length decisions → valid (flat_map (λ (b : Bundle). items b.value) (take i decisions)) (slice_index_or decisions i d).value ≡ true
   pub present : (m : OwnMessage) → m ∈ own → m.height ≡ length decisions
+  pub own_spelled : All (λ (m : OwnMessage). IsRecord me (said m)) own
 
 abbrev pub KeptLaw : Type 0
 KeptLaw = (me : ℕ) (rs : List Record) (decisions : List Bundle) (own : List OwnMessage) → Keeps rs decisions own →
     IsToldBy me (reverse rs) decisions own
-    × ((powers : List ℕ) → AreLawful powers me [] rs → AreInPlace decisions own)
+    × ((powers : List ℕ) → AreLawful powers me [] rs → AreReplayable me decisions own)

@@ -10,3 +10,4 @@ pub mod History
 pub mod Laws
 pub mod Stopping
 pub mod Serving
+pub mod Striking

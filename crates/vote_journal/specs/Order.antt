@@ -1,5 +1,5 @@
 -- Which record may follow those of a journal, and what is remembered of these to tell.
-use Rattle.std.specs.Prelude.{◌≡◌, ℕ, Bool, true, ◌&&◌, ◌||◌, Option, Some, None, List, [], ◌∷◌, ◌==◌, false, nat_lt, Result, Ok, Err}
+use Rattle.std.specs.Prelude.{◌≡◌, ℕ, ◌^◌, Bool, true, ◌&&◌, ◌||◌, Option, Some, None, List, [], ◌∷◌, ◌==◌, false, nat_lt, Result, Ok, Err}
 use Rattle.transactions.specs.Grammar.{IsValue}
 use Rattle.powers.specs.Power.{power, is_quorum}
 use Rattle.protocol.specs.Values.{valid}
@@ -21,10 +21,10 @@ is_after None round step = true
 is_after (Some place) round step = nat_lt place.0 round || ((place.0 == round) && nat_lt (step_number place.1) (step_number step))
 
 -- Behind these records, the newest first, an own message is of the height that they leave, after the last one of that
--- height; a decision is that height's, by a quorum, of a value that may be delivered next.
+-- height; a decision is that height's, where that is below 2^48, by a quorum, of a value that may be delivered next.
 unfoldable pub may_follow : List ℕ → List Record → Record → Bool
 may_follow powers before (Own height round act) = (height == height_of before) && is_after (last_place before) round (step_of act)
-may_follow powers before (Decided b) = (b.height == height_of before) && is_quorum powers (power powers (named_senders b)) && valid (delivered_of before) b.value
+may_follow powers before (Decided b) = (b.height == height_of before) && nat_lt b.height (2 ^ 48) && is_quorum powers (power powers (named_senders b)) && valid (delivered_of before) b.value
 
 -- records, the oldest first, each of which has a spelling and may follow those before it
 abbrev pub AreLawful : List ℕ → ℕ → List Record → List Record → Type 0

@@ -25,6 +25,7 @@ mod scanning;
 mod spelling;
 mod standing;
 mod store;
+mod striking;
 
 pub use fault::JournalFault;
 pub use journal::Journal;
@@ -35,5 +36,6 @@ pub use laws::{
 pub use memory::MemoryStore;
 pub use opening::{NotOpened, Opened};
 pub use reading::read_record;
-pub use spelling::spell_record;
+pub use spelling::{body_of, spell_record};
 pub use store::{DeviceFailed, Store, StoreFault};
+pub use striking::{Strikes, StrikingStore};

@@ -1,6 +1,6 @@
 //! A store in memory whose calls can be made to fail.
 
-ghost use Rattle.std.specs.Prelude.{◌≡◌, true, false};
+ghost use Rattle.std.specs.Prelude.{◌≡◌, ◌++◌, take, IfErr};
 ghost use Rattle.vote_journal.specs.Store.{Grew};
 
 use crate::store::{DeviceFailed, Store, StoreFault};
@@ -41,18 +41,50 @@ impl MemoryStore {
         self.bytes.as_slice()
     }
 
-    /// Counts a call, and a failure where it is the one that fails.
+    /// Counts a call: whether it is the one that fails.
     fn fails(&mut self) -> bool
         ensures same { self.new.bytes ≡ self.old.bytes }
-        ensures less { result ≡ false → self.new.failures ≡ self.old.failures }
-        ensures more { result ≡ true → Grew self.old.failures self.new.failures }
+        ensures less { self.new.failures ≡ self.old.failures }
     {
         self.calls = self.calls.saturating_add(1);
-        if self.calls != self.failing {
-            return false;
-        }
+        self.calls == self.failing
+    }
+
+    /// A call that fails and does nothing.
+    pub(crate) fn fail(&mut self) -> DeviceFailed
+        ensures same { self.new.bytes ≡ self.old.bytes }
+        ensures more { Grew self.old.failures self.new.failures }
+    {
         self.failures = self.failures.saturating_add(1);
-        true
+        DeviceFailed
+    }
+
+    /// Makes room for this many bytes more.
+    pub(crate) fn reserve(&mut self, additional: usize) -> Result<(), StoreFault>
+        ensures same { (self.new.bytes.items ≡ self.old.bytes.items) × (self.new.failures ≡ self.old.failures) }
+        ensures memory { IfErr result (λ e. e ≡ StoreFault.OutOfMemory) }
+    {
+        self.bytes
+            .reserve(additional)
+            .map_err(|_| StoreFault::OutOfMemory)
+    }
+
+    /// An append that fails for the device, or for memory: the first `keep` bytes stay, or all where there are fewer.
+    pub(crate) fn append_beginning(&mut self, bytes: &[u8], keep: usize) -> StoreFault
+        ensures kept { result ≡ StoreFault.Device → self.new.bytes.items ≡ self.old.bytes.items ++ take keep bytes.now }
+        ensures counted { result ≡ StoreFault.Device → Grew self.old.failures self.new.failures }
+        ensures nothing { result ≡ StoreFault.OutOfMemory → (self.new.bytes.items ≡ self.old.bytes.items) × (self.new.failures ≡ self.old.failures) }
+    {
+        let beginning = if keep < bytes.len() {
+            &bytes[..keep]
+        } else {
+            bytes
+        };
+        if self.bytes.extend_from_slice(beginning).is_err() {
+            return StoreFault::OutOfMemory;
+        }
+        self.fail();
+        StoreFault::Device
     }
 }
 
@@ -74,24 +106,19 @@ impl Store for MemoryStore {
     }
 
     fn append(&mut self, bytes: &[u8]) -> Result<(), StoreFault> {
-        if self.bytes.reserve(bytes.len()).is_err() {
-            return Err(StoreFault::OutOfMemory);
+        self.reserve(bytes.len())?;
+        if self.fails() {
+            return Err(self.append_beginning(bytes, self.keep));
         }
-        if !self.fails() {
-            return match self.bytes.extend_from_slice(bytes) {
-                Ok(()) => Ok(()),
-                Err(_) => Err(StoreFault::OutOfMemory),
-            };
-        }
-        let keep = bytes.len().min(self.keep);
-        match self.bytes.extend_from_slice(&bytes[..keep]) {
-            Ok(()) | Err(_) => Err(StoreFault::Device),
+        match self.bytes.extend_from_slice(bytes) {
+            Ok(()) => Ok(()),
+            Err(_) => Err(StoreFault::OutOfMemory),
         }
     }
 
     fn cut(&mut self, len: usize) -> Result<(), DeviceFailed> {
         if self.fails() {
-            return Err(DeviceFailed);
+            return Err(self.fail());
         }
         self.bytes.truncate(len);
         Ok(())
@@ -99,7 +126,7 @@ impl Store for MemoryStore {
 
     fn sync(&mut self) -> Result<(), DeviceFailed> {
         if self.fails() {
-            return Err(DeviceFailed);
+            return Err(self.fail());
         }
         Ok(())
     }

@@ -12,12 +12,14 @@ ghost use Rattle.vote_journal.specs.Planning.{IsPlan};
 use crate::fault::JournalFault;
 use crate::journal::Journal;
 use crate::keeping::Kept;
+use crate::memory::MemoryStore;
 use crate::scanning::read_records;
 use crate::store::{Store, StoreFault};
+use crate::striking::{Strikes, StrikingStore};
 use messages::Bundle;
 use powers::Powers;
 use protocol::OwnMessage;
-use std::alloc::Global;
+use std::alloc::{AllocError, Global};
 
 /// What a journal begins with: the ASCII text TMJ1.
 const HEADER: [u8; 4] = [0x54, 0x4d, 0x4a, 0x31];
@@ -194,6 +196,44 @@ impl<S: Store + Drop> Journal<S> {
             }),
             Err(fault) => Err(NotOpened { fault, store }),
         }
+    }
+}
+
+impl Journal<MemoryStore> {
+    /// Validator `me`'s journal without records, over a store in memory of which no call fails: for programs and tests that
+    /// outlast no stop. It is refused for want of memory alone.
+    pub fn in_memory(alloc: Global, me: u16) -> Result<Journal<MemoryStore>, AllocError>
+        ensures state { IfOk result (λ journal. (journal.me ≡ me) × (journal.failed ≡ false)) }
+        ensures empty { IfOk result (λ journal. (powers : List ℕ) → IsWhole powers me journal.store.bytes.items []) }
+    {
+        let header = HEADER.to_vec(alloc)?;
+        Ok(Journal {
+            alloc,
+            store: MemoryStore::new(header, 0, 0),
+            me,
+            failed: false,
+        })
+    }
+}
+
+impl Journal<StrikingStore> {
+    /// Validator `me`'s journal without records, over a store in memory whose calls these strikes fail. It is refused for
+    /// want of memory alone, and makes no call that they count.
+    pub fn struck_by(
+        alloc: Global,
+        me: u16,
+        strikes: Strikes,
+    ) -> Result<Journal<StrikingStore>, AllocError>
+        ensures state { IfOk result (λ journal. (journal.me ≡ me) × (journal.failed ≡ false)) }
+        ensures empty { IfOk result (λ journal. (powers : List ℕ) → IsWhole powers me journal.store.store.bytes.items []) }
+    {
+        let header = HEADER.to_vec(alloc)?;
+        Ok(Journal {
+            alloc,
+            store: StrikingStore::new(header, strikes),
+            me,
+            failed: false,
+        })
     }
 }
 

@@ -12,9 +12,10 @@ use protocol::{Act, OwnMessage, Record};
 use std::alloc::{AllocError, Global};
 use transactions::{Duplicate, Value, len_of_value, put_u32, put_value};
 
-/// The message as a body, under the sender's number. The value of a proposal is shared, not copied.
+/// An own message as the body that goes to the others, under validator `me`'s number: what its record spells, and what is
+/// sent again after a restart. The value of a proposal is shared, not copied. It is refused for want of memory alone.
 #[tactic(auto, unfolding(protocol::specs::Values::id))]
-fn body_of(alloc: Global, me: u16, message: &OwnMessage) -> Result<Body, AllocError>
+pub fn body_of(alloc: Global, me: u16, message: &OwnMessage) -> Result<Body, AllocError>
     ensures { IfOk result (λ body. body ≡ body_of me message.now.height message.now.round (act_of message.now.act)) }
 {
     let (step, content) = match &message.act {

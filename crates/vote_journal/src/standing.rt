@@ -15,6 +15,9 @@ use proposal_validity::Frontier;
 use protocol::{Act, OwnMessage, Record, Step};
 use std::alloc::{AllocError, Global};
 
+/// This many heights are decided: the last is one below it.
+const MOST_HEIGHT: u64 = 1 << 48;
+
 /// The height after the last decision, the place of the last own message of that height, and what the decisions
 /// delivered.
 #[derive(Debug, Drop)]
@@ -89,9 +92,11 @@ impl Standing {
     fn admits_decision(&self, powers: &Powers, bundle: &Bundle) -> bool
         requires { IsValue bundle.now.value }
         ensures follows { (before : List AnyRecord) → Remembers before self.now → result ≡ may_follow powers.now before (Decided bundle.now) }
+        ensures few { result ≡ true → self.now.height < 2 ^ 48 }
         ensures valid { result ≡ true → (d : List Item) → IsFrontierOf d self.now.frontier → valid d bundle.now.value ≡ true }
     {
         bundle.height == self.height
+            && bundle.height < MOST_HEIGHT
             && powers.is_quorum(named_power(bundle, powers))
             && self.frontier.valid(&bundle.value)
     }
@@ -102,17 +107,14 @@ impl Standing {
         self.last = Some((message.round, step_of(&message.act)));
     }
 
-    /// That there are 2^64 decisions is told as want of memory: no journal has them.
     fn pass_decision(&mut self, bundle: &Bundle) -> Result<(), AllocError>
+        requires few { self.old.height < 2 ^ 48 }
         requires spelled { IsValue bundle.now.value }
         requires valid { (d : List Item) → IsFrontierOf d self.old.frontier → valid d bundle.now.value ≡ true }
         ensures { OnOk result ((before : List AnyRecord) → Remembers before self.old → Remembers (Decided bundle.now ∷ before) self.new) }
     {
-        let Some(next) = self.height.checked_add(1) else {
-            return Err(AllocError);
-        };
         self.frontier.extend(&bundle.value)?;
-        self.height = next;
+        self.height += 1;
         self.last = None;
         Ok(())
     }
@@ -144,7 +146,8 @@ impl Standing {
     ///
     /// Faults: those of `read_record`; `BadRecord` (3) for an own message of another height than the number of decisions
     /// before it, or whose round and step aren't above those of the message before it in its height; for a decision of
-    /// another height, without a quorum of distinct senders, or whose value may not be delivered next.
+    /// another height, of a height from 2^48 on, without a quorum of distinct senders, or whose value may not be delivered
+    /// next.
     pub(crate) fn take(
         &mut self,
         alloc: Global,

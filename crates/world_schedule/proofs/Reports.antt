@@ -73,7 +73,7 @@ own_decisions c s m p None e = absurd (let f : false ≡ true = e in cc)
 own_decisions c s m p (Some q) e = subst (λ i. flat_map decision_in (told_of_validator c s m (Some i)) ≡ map decision_of (decided_in c p (s.nodes p) m.call)) (eqb-true p q e) (named_decisions (decided_in c p (s.nodes p) m.call))
 
 -- another's call leaves the node
-stays : (c : Setting) (p : ℕ) (n : Node) (call : Call) → is_by p (validator_of call) ≡ false → moved c p n call ≡ n
+pub stays : (c : Setting) (p : ℕ) (n : Node) (call : Call) → is_by p (validator_of call) ≡ false → moved c p n call ≡ n
 stays c p n (Sent client op) e = refl
 stays c p n (Handed q input times) e = rw e refl
 stays c p n (Asked q) e = refl

@@ -7,3 +7,11 @@ pub mod Cores
 pub mod Handed
 pub mod Headline
 pub mod Answered
+pub mod Making
+pub mod Ends
+pub mod Standings
+pub mod Validators
+pub mod Events
+pub mod Worlds
+pub mod Restarting
+pub mod Outcome

@@ -4,6 +4,7 @@ ghost use Rattle.std.specs.Prelude.{ℕ};
 ghost use Rattle.protocol.specs.Tags.{Setting};
 ghost use Rattle.protocol.specs.State.{Node};
 ghost use Rattle.protocol.specs.History.{Settle, Given, Due};
+ghost use Rattle.node_core.specs.Calls.{TellsJournal};
 ghost use Rattle.world_schedule.specs.Answered.{IsAnsweredIn};
 ghost use Rattle.world_schedule.specs.Cores.{StandsIn};
 ghost use Rattle.world_schedule.specs.Handed.{told_numbers};
@@ -14,7 +15,8 @@ use vote_journal::Store;
 
 /// Hands one whole frame to a core: in every world that the core is of, the call is one of it.
 pub fn hand_frame<S: Store + Drop>(core: &mut NodeCore<S>, frame: &[u8]) -> Result<(), Refusal>
-    ensures { (c : Setting) (p : ℕ) (n : Node) → StandsIn c p n core.old → IsAnsweredIn c p n (Given frame.now) (told_numbers result) core.old core.new }
+    ensures answered { (c : Setting) (p : ℕ) (n : Node) → StandsIn c p n core.old → IsAnsweredIn c p n (Given frame.now) (told_numbers result) core.old core.new }
+    ensures journal { TellsJournal result core.old.journal core.new.journal }
 {
     core.handle(frame)
 }
@@ -24,14 +26,16 @@ pub fn hand_timeout<S: Store + Drop>(
     core: &mut NodeCore<S>,
     timeout: Timeout,
 ) -> Result<(), Refusal>
-    ensures { (c : Setting) (p : ℕ) (n : Node) → StandsIn c p n core.old → IsAnsweredIn c p n (Due timeout) (told_numbers result) core.old core.new }
+    ensures answered { (c : Setting) (p : ℕ) (n : Node) → StandsIn c p n core.old → IsAnsweredIn c p n (Due timeout) (told_numbers result) core.old core.new }
+    ensures journal { TellsJournal result core.old.journal core.new.journal }
 {
     core.fire_timeout(timeout)
 }
 
 /// Settles a core: at its opening, and after a call that was refused memory.
 pub fn settle<S: Store + Drop>(core: &mut NodeCore<S>) -> Result<(), Refusal>
-    ensures { (c : Setting) (p : ℕ) (n : Node) → StandsIn c p n core.old → IsAnsweredIn c p n Settle (told_numbers result) core.old core.new }
+    ensures answered { (c : Setting) (p : ℕ) (n : Node) → StandsIn c p n core.old → IsAnsweredIn c p n Settle (told_numbers result) core.old core.new }
+    ensures journal { TellsJournal result core.old.journal core.new.journal }
 {
     core.settle()
 }

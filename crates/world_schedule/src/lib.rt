@@ -8,23 +8,37 @@
 //! The types of a world's events and of its report stand here too.
 #![tactic(auto)]
 
+mod brought;
+mod chronicle;
+mod clients;
 mod core_laws;
+mod ending;
+mod ends_laws;
 mod event;
 mod fault;
 mod handing;
+mod happening;
 mod laws;
+mod numbering;
+mod opening;
+mod passing;
 mod report;
+mod restarting;
+mod stage;
+mod validator;
+mod validators;
+mod world;
 
 pub use core_laws::{
     answered_law, called_law, core_law, count_law, growing_law, handed_law, headline_law, kept_law,
     own_law, step_law,
 };
-pub use event::{Bundling, Event, Proposing, Tagged, Voting};
-pub use fault::{FaultNumber, RunFault};
+pub use ends_laws::{ends_law, outcome_law, scene_law};
+pub use event::Event;
+pub use fault::RunFault;
 pub use handing::{hand_frame, hand_timeout, settle};
 pub use laws::{delivered_law, made_law, past_law, report_law, ring_law, run_law, seeing_law};
 pub use protocol::{agree_law, begins_law, sent_law};
 pub use report::{Answer, Decision, End, Release, Report, Told, What};
-
-#[cfg(test)]
-mod tests;
+pub use world::World;
+pub use world_parties::{Bundling, FaultNumber, Parties, Proposing, Tagged, Voting};

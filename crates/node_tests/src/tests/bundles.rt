@@ -101,7 +101,7 @@ impl Node {
     }
 
     /// The frame that this validator lets out of a body.
-    fn own_frame(&self, rt: &impl Abort, body: &Body) -> Result<Vec<u8>, Fail> {
+    pub(super) fn own_frame(&self, rt: &impl Abort, body: &Body) -> Result<Vec<u8>, Fail> {
         let spelled = spell_body(self.alloc, body)?;
         assert!(rt; spelled.len() < 2_000);
         let others = hmac(&[0x44; 32], &spelled);

@@ -6,10 +6,11 @@ use node_core::Refusal;
 use std::alloc::Global;
 use std::process::Abort;
 use std::test::Fail;
+use transactions::Id;
 
 impl Node {
     /// Takes a proposal in, and answers what its prevote came to.
-    fn prevotes(&mut self, rt: &impl Abort) -> Result<super::Answer, Fail> {
+    pub(super) fn prevotes(&mut self, rt: &impl Abort) -> Result<super::Answer, Fail> {
         let proposal = self.proposal(0, 0, 0, 1)?;
         self.told(rt, 0x00, &proposal)
     }
@@ -26,14 +27,30 @@ impl Node {
         Ok(())
     }
 
-    /// It sends what it said in the height again, in order.
-    fn resends(&mut self, rt: &impl Abort) -> Result<(), Fail> {
+    /// It prevotes for a value and precommits it.
+    pub(super) fn locks(&mut self, rt: &impl Abort) -> Result<(), Fail> {
         assert_eq!(rt; self.prevotes(rt)?, Ok(()));
         let id = self.id(1)?;
+        self.takes_two_votes(rt, VoteStep::Prevote, id)
+    }
+
+    /// Validators 0 and 1 vote for an id.
+    pub(super) fn takes_two_votes(
+        &mut self,
+        rt: &impl Abort,
+        step: VoteStep,
+        id: Id,
+    ) -> Result<(), Fail> {
         for (sender, key) in [(0, 0x00), (1, 0x11)] {
-            let told = self.told(rt, key, &vote(VoteStep::Prevote, 0, sender, Some(id)))?;
+            let told = self.told(rt, key, &vote(step, 0, sender, Some(id)))?;
             assert_eq!(rt; told, Ok(()));
         }
+        Ok(())
+    }
+
+    /// It sends what it said in the height again, in order.
+    fn resends(&mut self, rt: &impl Abort) -> Result<(), Fail> {
+        self.locks(rt)?;
         self.resends_as_released(rt)
     }
 

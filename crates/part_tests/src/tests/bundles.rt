@@ -298,3 +298,19 @@ fn copies_of_decisions(rt: HostRuntime) -> Result<(), Fail> {
     assert!(rt; copy.len() == 2);
     Ok(())
 }
+
+/// The decision of height 0, out of a list.
+fn listed_decision(alloc: Global) -> Result<Decisions, Fail> {
+    let bundle = bundle(alloc, 0, 1, &[])?;
+    let mut bundles = Vec::new(alloc);
+    bundles.push(bundle)?;
+    Ok(Decisions::of(alloc, bundles))
+}
+
+#[test]
+fn decisions_of_a_list(rt: HostRuntime) -> Result<(), Fail> {
+    let decisions = listed_decision(rt.alloc())?;
+    assert!(rt; decisions.len() == 1);
+    assert!(rt; decisions.bundle_for(0).is_some());
+    Ok(())
+}

@@ -186,7 +186,17 @@ send 7 61
 close 7
 deliver 0 3
 pass
-restart 3";
+resend
+restart
+restart 0
+restart 3 3
+fail 3 1
+fail 0 1 -
+fail 3 - 1
+fail 3 1 -1
+fail 3 01 -
+fail 3 1 --
+fail 3 1 - -";
     assert_each_bad_in_world(&rt, rt.alloc(), lines)
 }
 

@@ -72,7 +72,11 @@ fn each_fault(rt: HostRuntime) -> Result<(), Fail> {
 4 tx 3 7:0:61/0
 2 raw 4 -
 2 timeout 4 propose 0 0
-2 ask 18446744073709551616";
+2 ask 18446744073709551616
+2 resend 4
+2 restart 4
+2 restart 18446744073709551616
+2 fail 4 0 -";
     assert_each_fails(&rt, rt.alloc(), rows)
 }
 

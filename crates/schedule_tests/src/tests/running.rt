@@ -34,6 +34,21 @@ fn sent_again(rt: HostRuntime) -> Result<(), Fail> {
     )
 }
 
+/// Of calls that never come nothing is told, however large their numbers.
+#[test]
+fn calls_that_never_come(rt: HostRuntime) -> Result<(), Fail> {
+    let lines = "\
+timeout 3 propose 0 0
+fail 3 0 -
+fail 3 340282366920938463463374607431768211456 0
+fail 3 18446744073709551615 340282366920938463463374607431768211456
+timeout 3 prevote 0 0
+restart 3
+";
+    let report = "0 v3 prevote 0 0 nil\n1 v3 precommit 0 0 nil\nv3 at 0 0:\n";
+    assert_report(&rt, rt.alloc(), lines, report)
+}
+
 /// Comments of any bytes and empty lines are skipped, and the last line may lack its line feed.
 #[test]
 fn skipped_lines(rt: HostRuntime) {

@@ -3,8 +3,8 @@ use Rattle.world_schedule.proofs.Answered.{answered_law}
 use Rattle.world_schedule.proofs.Clauses.{at_err, at_ok}
 use Rattle.world_schedule.proofs.handing.hand_frame.Goals as goal
 
-pub returns : goal.returns
-returns g c = λ s p n st. answered_law s p n c.args.core.now st (Given c.args.frame.now) c.handle.result c.handle.new.self (record {
+pub returns-clause-answered : goal.returns-clause-answered
+returns-clause-answered g c = λ s p n st. answered_law s p n c.args.core.now st (Given c.args.frame.now) c.handle.result c.handle.new.self (record {
   answer = c.handle.ensures.answer n st.stands;
   journal = c.handle.ensures.journal;
   done = c.handle.ensures.done n st.stands;

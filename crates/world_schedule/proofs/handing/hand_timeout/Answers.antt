@@ -3,8 +3,8 @@ use Rattle.world_schedule.proofs.Answered.{answered_law}
 use Rattle.world_schedule.proofs.Clauses.{at_err, at_ok}
 use Rattle.world_schedule.proofs.handing.hand_timeout.Goals as goal
 
-pub returns : goal.returns
-returns g c = λ s p n st. answered_law s p n c.args.core.now st (Due c.args.timeout) c.fire_timeout.result c.fire_timeout.new.self (record {
+pub returns-clause-answered : goal.returns-clause-answered
+returns-clause-answered g c = λ s p n st. answered_law s p n c.args.core.now st (Due c.args.timeout) c.fire_timeout.result c.fire_timeout.new.self (record {
   answer = c.fire_timeout.ensures.answer;
   journal = c.fire_timeout.ensures.journal;
   done = c.fire_timeout.ensures.done n st.stands;

@@ -3,8 +3,8 @@ use Rattle.world_schedule.proofs.Answered.{answered_law}
 use Rattle.world_schedule.proofs.Clauses.{at_err, at_ok}
 use Rattle.world_schedule.proofs.handing.settle.Goals as goal
 
-pub returns : goal.returns
-returns g c = λ s p n st. answered_law s p n c.args.core.now st Settle c.settle.result c.settle.new.self (record {
+pub returns-clause-answered : goal.returns-clause-answered
+returns-clause-answered g c = λ s p n st. answered_law s p n c.args.core.now st Settle c.settle.result c.settle.new.self (record {
   answer = c.settle.ensures.answer;
   journal = c.settle.ensures.journal;
   done = c.settle.ensures.done n st.stands;

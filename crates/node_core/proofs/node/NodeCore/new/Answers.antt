@@ -23,6 +23,8 @@ invariant_of-result g c = record {
   journal = rw (c.new-5.ensures, c.new.ensures) c.requires.journal.0;
   kept = λ _. record {
     records = [];
+    decisions = rw c.new-3.ensures refl;
+    said = rw c.new-4.ensures.items refl;
     whole = rw (c.new-5.ensures, c.new.ensures) c.requires.empty;
     lawful = rw c.new.ensures (let l = opened_lawful (setting c.args.config.powers c.args.config.me c.args.ring) c.args.config.me [] tt tt in record { tied = l.tied; keeps = l.keeps; follows = l.follows; made = l.made });
   };

@@ -1,0 +1,4 @@
+pub mod Behind
+pub mod Early
+pub mod Links
+pub mod Passing

@@ -1,0 +1,8 @@
+mod Walks
+mod Growing
+mod Replaying
+mod Feeds
+mod Stepping
+mod Certifying
+mod Places
+mod Meetings

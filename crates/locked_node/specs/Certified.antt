@@ -1,0 +1,34 @@
+-- The certificates of what a shared node decided, and how many items it delivered.
+use Rattle.std.specs.Prelude.{◌≡◌, ◌⊎◌, ℕ, true, false, List, All, length}
+use Rattle.powers.specs.Power.{IsQuorum}
+use Rattle.protocol.specs.Values.{id}
+use Rattle.protocol.specs.Messages.{Bundle, Record}
+use Rattle.protocol.specs.Refusals.{named_senders}
+use Rattle.protocol.specs.Restart.{opened}
+use Rattle.vote_journal.specs.Grammar.{is_rising}
+use Rattle.node_core.specs.Core.{Core, Stands, delivered_in}
+use Rattle.locked_node.specs.Locked.{Locked, IsLocked, count_of}
+
+-- The decision is of its value's id, and its precommits for that id, of its height and round, are of distinct validators, who are a quorum.
+pub record IsCertified (powers : List ℕ) (b : Bundle) : Type 0 where
+  pub name : b.id ≡ id b.value
+  pub distinct : is_rising b.precommits ≡ true
+  pub quorum : IsQuorum powers (named_senders b)
+
+-- The core was opened over a journal: it stood for the definitions' restart over its records.
+pub record WasOpened (base : Core) : Type 0 where
+  pub records : List Record  -- the newest first
+  pub stands : Stands (opened base.machine.me records) base
+  pub running : base.journal.failed ≡ false
+
+-- The node has not halted, or its core was opened over a journal.
+abbrev pub IsKnown : Locked → Type 0
+IsKnown l = (l.core.journal.failed ≡ false) ⊎ WasOpened l.base
+
+-- each decision of a shared node has its certificate
+abbrev pub CertificatesLaw : Type 0
+CertificatesLaw = (l : Locked) → IsLocked l → IsKnown l → All (IsCertified l.core.machine.powers) l.core.decisions
+
+-- what is told to be delivered is all of it
+abbrev pub CountLaw : Type 0
+CountLaw = (l : Locked) → IsLocked l → IsKnown l → count_of l.core ≡ length (delivered_in l.core.decisions)

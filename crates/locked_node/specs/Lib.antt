@@ -1,0 +1,7 @@
+pub mod History
+pub mod Calls
+pub mod Feeding
+pub mod Locked
+pub mod Certified
+pub mod Subscribing
+pub mod Meeting

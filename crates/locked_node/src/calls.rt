@@ -1,0 +1,24 @@
+//! An event, as a call of a core.
+
+ghost use Rattle.locked_node.specs.History.{heard};
+ghost use Rattle.locked_node.specs.Calls.{Does};
+
+use crate::event::Event;
+use node_core::{NodeCore, Refusal};
+use vote_journal::Store;
+
+/// Asks a core what the event says.
+pub(crate) fn ask_core<S: Store + Drop>(
+    core: &mut NodeCore<S>,
+    event: Event<'_>,
+) -> Result<(), Refusal>
+    ensures { Does (heard event.entry) result core.old core.new }
+{
+    match event {
+        Event::Frame(frame) => core.handle(frame),
+        Event::Timeout(timeout) => core.fire_timeout(timeout),
+        Event::Settle => core.settle(),
+        Event::Ask => core.ask(),
+        Event::Resend => core.resend(),
+    }
+}

@@ -1,0 +1,27 @@
+//! What a node is asked to do.
+
+use node_core::Refusal;
+use protocol::Timeout;
+
+/// What a node is asked to do.
+#[derive(Clone, Copy, Debug)]
+pub enum Event<'a> {
+    /// To take in one whole frame.
+    Frame(&'a [u8]),
+    /// To fire a timeout that is due.
+    Timeout(Timeout),
+    /// To fire rules until none is enabled.
+    Settle,
+    /// To release an ask for the decision of its height.
+    Ask,
+    /// To release its own messages of the height once more.
+    Resend,
+}
+
+/// What was asked, what was answered, and how often a rule fired by itself.
+#[derive(Drop)]
+pub(crate) struct Told<'a> {
+    pub(crate) event: Event<'a>,
+    pub(crate) answer: Result<(), Refusal>,
+    pub(crate) fired: u64,
+}

@@ -1,0 +1,20 @@
+//! One node, shared by threads.
+#![tactic(auto)]
+
+mod calls;
+mod event;
+mod feeding;
+mod history;
+mod laws;
+mod lent;
+mod meeting;
+mod node;
+mod place;
+mod subscription;
+
+pub use event::Event;
+pub use feeding::Stop;
+pub use laws::{certificates_law, count_law};
+pub use lent::{Done, Met, Offered, State, Stepped};
+pub use node::{LockedNode, words_for};
+pub use subscription::{SubscribeFault, Subscription};

@@ -1,0 +1,168 @@
+//! The node that threads share.
+
+ghost use Rattle.std.specs.Prelude.{◌≡◌, ◌≤◌, [], IfOk};
+ghost use Rattle.status_words.specs.Seen.{unseen, opened as opened_at, with_both};
+ghost use Rattle.status_words.specs.Ends.{opened_table, opened_words};
+ghost use Rattle.protocol.specs.State.{Node as ProtocolNode};
+ghost use Rattle.protocol.specs.History.{Settle, Given, Due};
+ghost use Rattle.node_core.specs.Core.{Stands};
+ghost use Rattle.locked_node.specs.History.{heard, Took, Asked, Resent};
+ghost use Rattle.locked_node.specs.Locked.{count_of};
+
+use crate::event::Event;
+use crate::lent::{Done, Met, State};
+use crate::place::count_from;
+use crate::subscription::{SubscribeFault, Subscription};
+use node_core::NodeCore;
+use protocol::Timeout;
+use status_words::{Node, Opened, Seat, Status, Words};
+use std::alloc::{AllocError, Global};
+use std::sync::{Mutex, Wait};
+use subscriber_ring::Delivered;
+use vote_journal::Store;
+
+/// One node, shared by threads. Its status is read without its lock.
+#[derive(Drop)]
+pub struct LockedNode<S: Store + Drop, J: Node> {
+    words: Words<J>,
+    state: Mutex<State<S, J>>,
+}
+
+/// The words for a core's status, at which its present one stands.
+pub fn words_for<S: Store + Drop>(alloc: Global, core: &NodeCore<S>) -> Result<Opened, AllocError>
+    ensures { IfOk result (λ o. opened_words o ≡ opened_at core.now.machine.state.height (count_of core.now)) }
+{
+    let status = Status {
+        height: core.height(),
+        delivered: count_from(0, core.decisions(), 0),
+    };
+    Opened::new(alloc, status)
+}
+
+impl<S: Store + Drop, J: Node> LockedNode<S, J> {
+    /// The node of a core and its words, by a name that the caller picks. It takes no memory.
+    pub fn new(alloc: Global, opened: Opened, core: NodeCore<S>) -> LockedNode<S, J>
+        requires named { opened_table opened ≡ J.table }
+        requires words { opened_words opened ≡ opened_at core.machine.state.height (count_of core) }
+        requires stands { (n : ProtocolNode) × Stands n core }
+    {
+        let (words, publisher) = opened.named::<J>();
+        LockedNode {
+            words,
+            state: Mutex::new(State::new(alloc, core, publisher)),
+        }
+    }
+
+    /// A seat that has seen 0 and 0.
+    pub fn seat<R: Wait>(&self, rt: &R) -> Seat<J>
+        ensures { result ≡ unseen }
+    {
+        self.state.lock(rt).seat(&self.words)
+    }
+
+    /// Hands in one whole frame.
+    pub fn handle<'a, R: Wait>(&self, rt: &R, seat: &mut Seat<J>, frame: &'a [u8]) -> Done<'a>
+        ensures event { result.event ≡ Took (Given frame.now) }
+        ensures seen { seat.new ≡ with_both seat.old result.height result.delivered }
+    {
+        self.act(rt, seat, Event::Frame(frame))
+    }
+
+    /// Fires a timeout that is due.
+    pub fn fire_timeout<R: Wait>(
+        &self,
+        rt: &R,
+        seat: &mut Seat<J>,
+        timeout: Timeout,
+    ) -> Done<'static>
+        ensures event { result.event ≡ Took (Due timeout) }
+        ensures seen { seat.new ≡ with_both seat.old result.height result.delivered }
+    {
+        self.act(rt, seat, Event::Timeout(timeout))
+    }
+
+    /// Fires rules until none is enabled.
+    pub fn settle<R: Wait>(&self, rt: &R, seat: &mut Seat<J>) -> Done<'static>
+        ensures event { result.event ≡ Took Settle }
+        ensures seen { seat.new ≡ with_both seat.old result.height result.delivered }
+    {
+        self.act(rt, seat, Event::Settle)
+    }
+
+    /// Releases an ask for the decision of its height.
+    pub fn ask<R: Wait>(&self, rt: &R, seat: &mut Seat<J>) -> Done<'static>
+        ensures event { result.event ≡ Asked }
+        ensures seen { seat.new ≡ with_both seat.old result.height result.delivered }
+    {
+        self.act(rt, seat, Event::Ask)
+    }
+
+    /// Releases its own messages of the height once more.
+    pub fn resend<R: Wait>(&self, rt: &R, seat: &mut Seat<J>) -> Done<'static>
+        ensures event { result.event ≡ Resent }
+        ensures seen { seat.new ≡ with_both seat.old result.height result.delivered }
+    {
+        self.act(rt, seat, Event::Resend)
+    }
+
+    /// One event under the lock: the core is asked, the rings are offered what was delivered, and the
+    /// status is published.
+    fn act<'a, R: Wait>(&self, rt: &R, seat: &mut Seat<J>, event: Event<'a>) -> Done<'a>
+        ensures event { result.event ≡ heard event.entry }
+        ensures seen { seat.new ≡ with_both seat.old result.height result.delivered }
+    {
+        let mut guard = self.state.lock(rt);
+        let state = &mut *guard;
+        let stepped = state.step(event);
+        let offered = state.offer_all(rt, stepped);
+        state.publish(&self.words, offered, seat)
+    }
+
+    /// Takes the frames that were released since the last call, in order.
+    pub fn take_outgoing<R: Wait>(&self, rt: &R) -> Vec<Vec<u8>> {
+        self.state.lock(rt).take_outgoing()
+    }
+
+    /// Takes the timeouts that were scheduled since the last call, in order.
+    pub fn take_scheduled<R: Wait>(&self, rt: &R) -> Vec<Timeout> {
+        self.state.lock(rt).take_scheduled()
+    }
+
+    /// A ring whose first item has this position, and which holds at most so many items at a time.
+    /// Nothing is offered to it yet. The faults are `FromAhead` (1), `BadCapacity` (3) and
+    /// `OutOfMemory` (2), in this order.
+    pub fn subscribe<R: Wait>(
+        &self,
+        rt: &R,
+        from: u64,
+        capacity: usize,
+    ) -> Result<Subscription, SubscribeFault>
+        ensures { IfOk result (λ s. s.ring ≡ record { ring = s.ring.ring; first = from; taken = [] }) }
+    {
+        self.state.lock(rt).subscribe(from, capacity)
+    }
+
+    /// Offers to the subscription's ring the delivered items that follow those that it was offered,
+    /// and answers how many were: 0 where its place has no ring. Refused memory for a copy, what was
+    /// offered stays.
+    pub fn fill<R: Wait>(&self, rt: &R, subscription: &Subscription) -> Result<u64, AllocError> {
+        self.state.lock(rt).fill(rt, subscription)
+    }
+
+    /// Asks whether the items, as a subscriber took them, follow one another in the delivered list, each
+    /// at its position. None at all do. It takes no memory.
+    pub fn meet<'a, R: Wait>(&self, rt: &R, items: &'a [Delivered]) -> Met<'a>
+        ensures { result.items ≡ items.now }
+    {
+        self.state.lock(rt).certify(items)
+    }
+
+    /// The height and the number of delivered items, neither less than the seat had seen. It waits for
+    /// nobody.
+    pub fn status(&self, seat: &mut Seat<J>) -> Status
+        ensures seen { seat.new ≡ with_both seat.old result.height result.delivered }
+        ensures later { (seat.old.height ≤ result.height) × (seat.old.delivered ≤ result.delivered) }
+    {
+        self.words.status(seat)
+    }
+}

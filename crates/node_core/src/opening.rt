@@ -1,0 +1,186 @@
+//! A validator comes back over its own journal.
+
+ghost use Rattle.std.specs.Prelude.{◌≡◌, ◌<◌, ◌≤◌, ◌^◌, ◌++◌, ℕ, List, [], true, false, None, IfOk, IfErr, OnOk, All, map, flat_map, reverse, length, take, slice_index_or};
+ghost use Rattle.transactions.specs.Grammar.{IsValue};
+ghost use Rattle.messages.specs.declared.body.Bundle.{Bundle as AnyBundle};
+ghost use Rattle.protocol.specs.Values.{items, valid};
+ghost use Rattle.protocol.specs.Tags.{Setting, Validator};
+ghost use Rattle.protocol.specs.Rings.{IsRingOf};
+ghost use Rattle.protocol.specs.Refusals.{context};
+ghost use Rattle.protocol.specs.Messages.{Record, Decided, body_of};
+ghost use Rattle.protocol.specs.Records.{act_of};
+ghost use Rattle.protocol.specs.Restart.{restart, opened as opened_over};
+ghost use Rattle.protocol.specs.State.{Context};
+ghost use Rattle.round_states.specs.Machine.{Agrees};
+ghost use Rattle.round_states.specs.Replaying.{IsActTold, HasProposedValue};
+ghost use Rattle.height_catchup.specs.Kept.{IsInPlace};
+ghost use Rattle.vote_journal.specs.Kept.{AreReplayable, said, journal_of};
+ghost use Rattle.vote_journal.specs.Layout.{IsWhole};
+ghost use Rattle.node_core.specs.Core.{Stands, IsSound};
+ghost use Rattle.node_core.specs.Opening.{IsRead, unfired};
+
+use crate::journal::NodeJournal;
+use crate::node::{Config, NodeCore};
+use authenticators::KeyRing;
+use frame_admission::is_genuine;
+use height_catchup::Decisions;
+use mempool::Mempool;
+use messages::{Body, Bundle};
+use protocol::{Act, OwnMessage};
+use round_states::State;
+use std::alloc::{AllocError, AllocFailed, Global};
+use vote_journal::{Opened, Store, body_of};
+
+/// What a validator makes of its own journal.
+#[derive(Drop)]
+struct Restart {
+    state: State,
+    said: Vec<Body>,
+}
+
+impl Restart {
+    /// Of these decisions, and of the own messages since the last, for a validator of which nothing is known yet.
+    fn of(
+        alloc: Global,
+        ring: &KeyRing,
+        mut state: State,
+        decisions: &[Bundle],
+        own: &[OwnMessage],
+    ) -> Result<Restart, AllocError>
+        requires new { state.state ≡ restart state.me [] }
+        requires replayable { AreReplayable state.me decisions.now own.now }
+        ensures state { IfOk result (λ r. r.state.state ≡ restart state.me (journal_of decisions.now own.now)) }
+        ensures agrees { (c : Setting) (p : ℕ) → IsRingOf c p ring.now → Agrees (context c p) state → IfOk result (λ r. Agrees (context c p) r.state) }
+        ensures said { IfOk result (λ r. r.said.items ≡ map (λ m. body_of state.me m.height m.round (act_of m.act)) own.now) }
+    {
+        let said = bodies_of(alloc, state.me(), own)?;
+        replay_decisions(&mut state, decisions)?;
+        replay_own(alloc, ring, &mut state, own)?;
+        Ok(Restart { state, said })
+    }
+}
+
+/// The own messages as the bodies that go to the others, in order.
+fn bodies_of(alloc: Global, me: u16, own: &[OwnMessage]) -> Result<Vec<Body>, AllocError>
+    ensures { IfOk result (λ bodies. bodies.items ≡ map (λ m. body_of me m.height m.round (act_of m.act)) own.now) }
+{
+    let mut bodies = Vec::with_capacity(alloc, own.len())?;
+    for message in own {
+        bodies.push(body_of(alloc, me, message)?)?;
+    }
+    Ok(bodies)
+}
+
+/// One height after the other begins behind its decision.
+fn replay_decisions(state: &mut State, decisions: &[Bundle]) -> Result<(), AllocError>
+    requires new { state.old.state ≡ restart state.old.me [] }
+    requires few { length decisions.now ≤ 2 ^ 48 }
+    requires fits { All (λ b. IsValue b.value) decisions.now }
+    requires follow { (i : ℕ) (d : AnyBundle) → i < length decisions.now → valid (flat_map (λ (b : AnyBundle). items b.value) (take i decisions.now)) (slice_index_or decisions.now i d).value ≡ true }
+    ensures restarts { OnOk result (state.new.state ≡ restart state.old.me (reverse (map Decided decisions.now))) }
+    ensures height { OnOk result (state.new.state.height ≡ length decisions.now) }
+    ensures me { OnOk result (state.new.me ≡ state.old.me) }
+    ensures agrees { OnOk result ((g : Context) → Agrees g state.old → Agrees g state.new) }
+{
+    for bundle in decisions {
+        state.replay_decision(&bundle.value)?;
+    }
+    Ok(())
+}
+
+/// The own messages of the present height are said once more, to the state alone.
+fn replay_own(
+    alloc: Global,
+    ring: &KeyRing,
+    state: &mut State,
+    own: &[OwnMessage],
+) -> Result<(), AllocError>
+    requires alone { state.old.state.valid_value ≡ None }
+    requires heights { All (λ m. m.height ≡ state.old.state.height) own.now }
+    requires fits { All (λ m. HasProposedValue (act_of m.act)) own.now }
+    ensures restarts { OnOk result ((before : List Record) → state.old.state ≡ restart state.old.me before → state.new.state ≡ restart state.old.me (reverse (map said own.now) ++ before)) }
+    ensures agrees { OnOk result ((c : Setting) (p : ℕ) → IsRingOf c p ring.now → Agrees (context c p) state.old → Agrees (context c p) state.new) }
+{
+    for message in own {
+        let genuine = is_act_genuine(alloc, ring, &message.act)?;
+        state.replay_own(message, genuine)?;
+    }
+    Ok(())
+}
+
+/// Whether the own tags of a proposed value's transactions are right. Of one with a valid round nobody asks, nor of votes.
+fn is_act_genuine(alloc: Global, ring: &KeyRing, act: &Act) -> Result<bool, AllocError>
+    requires { HasProposedValue (act_of act.now) }
+    ensures { (c : Setting) (p : ℕ) → IsRingOf c p ring.now → IfOk result (λ genuine. IsActTold (context c p) (act_of act.now) genuine) }
+{
+    match act {
+        Act::Proposing(None, value) => is_genuine(alloc, ring, value),
+        Act::Proposing(Some(_), _) | Act::Prevoting(_) | Act::Precommitting(_) => Ok(true),
+    }
+}
+
+impl<S: Store + Drop> NodeCore<S> {
+    /// A validator that comes back: it stands where it stood as its last record was saved, with its decisions, its lock, and
+    /// the own messages of its height, of which it says none anew. Its clients' queues are empty, and so is what came from
+    /// others. No rule fires: `settle` goes on, and `resend` sends the own messages of the height again.
+    ///
+    /// The ring is that of validator `me`, and has keys for as many validators as have a power. The journal is this
+    /// validator's, and was opened under these powers.
+    ///
+    /// It is refused for want of memory alone, and then what was opened is handed back.
+    pub fn open(
+        alloc: Global,
+        config: Config,
+        ring: KeyRing,
+        opened: Opened<S>,
+    ) -> Result<NodeCore<S>, AllocFailed<Opened<S>>>
+        requires owner { ring.me ≡ Validator config.me }
+        requires count { ring.count ≡ length config.powers }
+        requires me { config.me < length config.powers }
+        requires journal { (opened.journal.me ≡ config.me) × (opened.journal.failed ≡ false) }
+        requires read { IsRead config.powers config.me (S.seen opened.journal.store) opened.decisions.items opened.own.items }
+        ensures stands { IfOk result (λ core. (rs : List Record) → IsWhole config.powers config.me (S.seen opened.journal.store) rs → Stands (opened_over config.me (reverse rs)) core) }
+        ensures powers { IfOk result (λ core. core.machine.powers ≡ config.powers) }
+        ensures me { IfOk result (λ core. core.machine.me ≡ config.me) }
+        ensures ring { IfOk result (λ core. core.ring ≡ ring) }
+        ensures journal { IfOk result (λ core. core.journal ≡ record { bytes = S.seen opened.journal.store; me = opened.journal.me; failed = false; failures = S.failures opened.journal.store }) }
+        ensures empty { IfOk result (λ core. (core.outgoing ≡ []) × (core.scheduled ≡ []) × (core.fired ≡ 0)) }
+        ensures back { IfErr result (λ e. e.value ≡ opened) }
+    {
+        let Config { me, powers } = config;
+        // The two counts ensure that there are 2 to 64 validators, of whom the ring has the keys.
+        let _ = ring.count();
+        let _ = powers.count();
+        let state = State::new(alloc, powers, me);
+        match Restart::of(alloc, &ring, state, &opened.decisions, &opened.own) {
+            Ok(restart) => Ok(NodeCore::over(alloc, ring, restart, opened)),
+            Err(_) => Err(AllocFailed { value: opened }),
+        }
+    }
+
+    /// A node of which no rule has fired. It takes no memory.
+    fn over(alloc: Global, ring: KeyRing, restart: Restart, opened: Opened<S>) -> NodeCore<S>
+        requires placed { IsInPlace opened.decisions.items }
+        requires sound { IsSound (unfired restart.state ring opened.decisions.items restart.said.items (record { bytes = S.seen opened.journal.store; me = opened.journal.me; failed = opened.journal.failed; failures = S.failures opened.journal.store })) }
+        ensures { result ≡ unfired restart.state ring opened.decisions.items restart.said.items (record { bytes = S.seen opened.journal.store; me = opened.journal.me; failed = opened.journal.failed; failures = S.failures opened.journal.store }) }
+    {
+        let Restart { state, said } = restart;
+        let Opened {
+            journal,
+            decisions,
+            own: _,
+        } = opened;
+        NodeCore {
+            alloc,
+            ring,
+            state,
+            mempool: Mempool::new(alloc),
+            decisions: Decisions::of(alloc, decisions),
+            said,
+            journal: NodeJournal::new(journal),
+            outgoing: Vec::new(alloc),
+            scheduled: Vec::new(alloc),
+            fired: 0,
+        }
+    }
+}

@@ -1,0 +1,5 @@
+pub mod Tags
+pub mod KeyFiles
+pub mod KeyLines
+pub mod Rings
+pub mod Sets

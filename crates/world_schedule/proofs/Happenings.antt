@@ -1,0 +1,235 @@
+-- What an event leaves of a world.
+use Rattle.std.proofs.Common.{◌≡◌, ℕ, zero, suc, ◌+◌, ◌<◌, ◌⊎◌, inl, inr, Bool, true, false, Option, Some, None, Result, Ok, Err, OnOk, List, [], ◌∷◌, ◌++◌, map, set, length, length-append, eq-eqb, ne_eqb, refl, sym, ap, ap₂, ◌∙◌, subst, append_assoc, append-nil, arith}
+use Rattle.std.specs.Prelude.{slice_get, nat_lt, option_to_list, ◌==◌, ◌&&◌, ◌||◌, not}
+use Rattle.std.specs.List.{list_any}
+use Rattle.std.proofs.Math.ListN.{length-set}
+use Rattle.std.proofs.lemmas.Bool.{cases_eq}
+use Rattle.std.proofs.lemmas.List.Elements.{filter-append}
+use Rattle.std.proofs.lemmas.List.Folds.{list_any-append}
+use Rattle.protocol.specs.Values.{Op, Item, of}
+use Rattle.protocol.specs.Tags.{Setting}
+use Rattle.protocol.specs.Messages.{Body}
+use Rattle.protocol.specs.Queues.{is_close, is_closed}
+use Rattle.protocol.specs.World.{next_item}
+use Rattle.protocol.specs.History.{Settle, Given}
+use Rattle.world_parties.specs.Cast.{Cast, setting_of, is_correct, is_client, correct}
+use Rattle.world_parties.specs.declared.fault.FaultNumber.{FaultNumber}
+use Rattle.world_parties.specs.declared.fault.FaultNumber.TheVariants.{NoSuchMessage, NoSuchParty, ClientClosed}
+use Rattle.world_schedule.specs.Cores.{frame_in}
+use Rattle.world_schedule.specs.Calls.{Call, Sent, Handed, Asked, Resent, Reopened, adding}
+use Rattle.world_schedule.specs.Reports.{Made, validator_of, told, said, said_as, newly, released_from, noted, told_of_call}
+use Rattle.world_schedule.specs.Making.{Request, Hands, Asks, Scene, IsOne, IsInsisted, IsTurn, AreTurns, scene_next, scene_after}
+use Rattle.world_schedule.specs.Standings.{Holds, Says}
+use Rattle.world_schedule.specs.Validators.{AreUp, HaveTurned, places}
+use Rattle.world_schedule.specs.Events.{Course, Happens, turns, asked_of, comes, passes, unless, brought_by, course_after, cause_of}
+use Rattle.world_schedule.specs.Worlds.{LeadOn, HaveMet, HaveSent, sending_of, has_come, IsAt, IsMet, HasActed}
+use Rattle.world_schedule.specs.declared.event.Event.{Event}
+use Rattle.world_schedule.specs.declared.event.Event.TheVariants as events
+use Rattle.world_schedule.specs.declared.report.Told.{Told}
+use Rattle.world_schedule.specs.declared.clients.Clients.{Clients}
+use Rattle.world_schedule.specs.declared.validators.Validators.{Validators}
+use Rattle.world_schedule.specs.declared.chronicle.Chronicle.{Chronicle}
+use Rattle.world_schedule.specs.declared.clients.Sending.{Sending}
+use Rattle.world_schedule.specs.declared.brought.Brought.{Brought}
+use Rattle.world_schedule.specs.declared.stage.Stage.{Stage}
+use Rattle.world_schedule.proofs.Turning.{scene_append}
+use Rattle.world_schedule.proofs.InTurn.{turned_leads, passes_same}
+use Rattle.world_schedule.proofs.Others.{up_later, get_set_same, get_set_other}
+
+-- ---- validators' calls send nothing
+
+unsent_once : (c : Setting) (s : Scene) (m : Made) (p client : ℕ) → validator_of m.call ≡ Some p → (scene_next c s m).standing.sent client ≡ s.standing.sent client
+unsent_once c s m p client by = of_call m.call by
+  where
+    of_call : (call : Call) → validator_of call ≡ Some p → adding client (s.standing.sent client) call ≡ s.standing.sent client
+    of_call (Sent sender op) e = absurd (let f : None ≡ Some p = e in cc)
+    of_call (Handed q input times) e = refl
+    of_call (Asked q) e = refl
+    of_call (Resent q) e = refl
+    of_call (Reopened q cut) e = refl
+
+unsent_insisted : (c : Setting) (s : Scene) (k p : ℕ) (request : Request) (ms : List Made) (client : ℕ) → IsInsisted c s k p request ms → (scene_after c s ms).standing.sent client ≡ s.standing.sent client
+unsent_insisted c s k p request [] client i = absurd i
+unsent_insisted c s k p request (m ∷ []) client i = unsent_once c s m p client i.0.by
+unsent_insisted c s k p request (m ∷ settling ∷ []) client i = absurd i
+unsent_insisted c s k p request (m ∷ settling ∷ again ∷ []) client i =
+    unsent_once c (scene_next c (scene_next c s m) settling) again p client i.3.by ∙ unsent_once c (scene_next c s m) settling p client i.2.by ∙ unsent_once c s m p client i.0.by
+unsent_insisted c s k p request (m ∷ settling ∷ again ∷ more ∷ rest) client i = absurd i
+
+pub unsent_turn : (c : Setting) (s : Scene) (k p : ℕ) (request : Request) (ms : List Made) (client : ℕ) → IsTurn c s k p request ms → (scene_after c s ms).standing.sent client ≡ s.standing.sent client
+unsent_turn c s k p request ms client (inl t) = unsent_insisted c s k p request ms client t.1
+unsent_turn c s k p request ms client (inr t) =
+    subst (λ l. (scene_after c s l).standing.sent client ≡ s.standing.sent client) (sym t.1.2) (unsent_insisted c (scene_next c s t.1.0) k p request t.1.1 client t.1.4 ∙ unsent_once c s t.1.0 p client t.1.3.by)
+
+pub unsent_turns : (c : Setting) (s : Scene) (k : ℕ) (rs : List (ℕ × Request)) (ms : List Made) (client : ℕ) → AreTurns c s k rs ms → (scene_after c s ms).standing.sent client ≡ s.standing.sent client
+unsent_turns c s k [] ms client t = subst (λ l. (scene_after c s l).standing.sent client ≡ s.standing.sent client) (sym t) refl
+unsent_turns c s k (r ∷ rs) ms client t =
+    subst (λ l. (scene_after c s l).standing.sent client ≡ s.standing.sent client) (sym t.2)
+    (ap (λ (x : Scene). x.standing.sent client) (scene_append c s t.0 t.1) ∙ unsent_turns c (scene_after c s t.0) k rs t.1 client t.4 ∙ unsent_turn c s k r.0 r.1 t.0 client t.3)
+
+pub sent_same : (clients : ℕ) (sent later : ℕ → List Item) (each : List Sending) → ((client : ℕ) → later client ≡ sent client) → HaveSent clients sent each → HaveSent clients later each
+sent_same clients sent later each e h = (h.0, λ client l. h.1 client l ∙ ap (λ items. Some (sending_of client items)) (sym (e client)))
+
+-- ---- validators' turns
+
+-- after these calls of validators
+after_calls : (cast : Cast) (w : Course) (made : List Made) (old : Stage) (vs : Validators) (chronicle : Chronicle) → IsAt cast w old → LeadOn (setting_of cast) w.scene made old.validators.each.items vs.each.items old.chronicle chronicle
+    → ((client : ℕ) → (scene_after (setting_of cast) w.scene made).standing.sent client ≡ w.scene.standing.sent client) → IsAt cast (record { scene = scene_after (setting_of cast) w.scene made; brought = w.brought }) (record old { validators = vs; chronicle = chronicle })
+after_calls cast w made old vs chronicle at k unsent = record {
+  parties = at.parties;
+  correct_are = at.correct_are;
+  up = k.up;
+  places_are = k.places_are ∙ at.places_are;
+  holds = k.holds;
+  sent = sent_same cast.clients w.scene.standing.sent (scene_after (setting_of cast) w.scene made).standing.sent old.clients.each.items unsent at.sent;
+  brought = at.brought;
+}
+
+pub met_at : (cast : Cast) (w : Course) (p : ℕ) (request : Request) (old : Stage) (vs : Validators) (chronicle : Chronicle) → IsAt cast w old
+    → HaveTurned (setting_of cast) w.scene p request old.validators.each.items vs.each.items old.chronicle chronicle → IsMet cast w p request old (record old { validators = vs; chronicle = chronicle })
+met_at cast w p request old vs chronicle at k = record {
+  made = k.made;
+  turn = k.turn;
+  at = after_calls cast w k.made old vs chronicle at (turned_leads (setting_of cast) w.scene p request old.validators.each.items vs.each.items old.chronicle chronicle k) (λ client. unsent_turn (setting_of cast) w.scene old.chronicle.event p request k.made client k.turn);
+  told_is = k.told;
+}
+
+-- a cause that isn't
+pub passed_by : (holds : Bool) (fault : FaultNumber) (more : Option FaultNumber) → holds ≡ true → unless holds fault more ≡ more
+passed_by holds fault more e = rw e refl
+
+-- one validator had its turn, and nothing is noted of what was brought
+pub acted : (cast : Cast) (w : Course) (event : Event) (p : ℕ) (request : Request) (old new : Stage) → cause_of cast w.scene.standing event ≡ None
+    → ((k : ℕ) (made : List Made) → AreTurns (setting_of cast) w.scene k (asked_of request p ∷ []) made → Happens cast w k event made) → ((i q : ℕ) → brought_by w event i q ≡ w.brought i q) → IsMet cast w p request old new → HasActed cast w event old new
+acted cast w event p request old new possible happens same k = record {
+  made = k.made;
+  happens = happens old.chronicle.event k.made (k.made, [], sym (append-nil k.made), k.turn, refl);
+  possible = possible;
+  at = record {
+    parties = k.at.parties;
+    correct_are = k.at.correct_are;
+    up = k.at.up;
+    places_are = k.at.places_are;
+    holds = k.at.holds;
+    sent = k.at.sent;
+    brought = λ i q. k.at.brought i q ∙ sym (same i q);
+  };
+  told_is = k.told_is;
+}
+
+-- bytes came to a validator
+pub heard : (cast : Cast) (w : Course) (event : Event) (p q : ℕ) (wanted given : List ℕ) (old new : Stage) → q ≡ p → given ≡ wanted → cause_of cast w.scene.standing event ≡ None
+    → ((k : ℕ) (made : List Made) → AreTurns (setting_of cast) w.scene k (comes p wanted) made → Happens cast w k event made) → ((i r : ℕ) → brought_by w event i r ≡ w.brought i r) → IsMet cast w q (Hands (Given given)) old new → HasActed cast w event old new
+heard cast w event p q wanted given old new e f possible happens same k =
+    acted cast w event p (Hands (Given wanted)) old new possible happens same (subst (λ r. IsMet cast w r (Hands (Given wanted)) old new) e (subst (λ b. IsMet cast w q (Hands (Given b)) old new) f k))
+
+pub on_ok_two : {T E : Type 0} {P Q R : Type 0} (result : Result T E) → OnOk result P → OnOk result Q → (P → Q → R) → OnOk result R
+on_ok_two (Ok x) p q f = f p q
+on_ok_two (Err e) p q f = tt
+
+pub on_ok_always : {T E : Type 0} {P : Type 0} (result : Result T E) → P → OnOk result P
+on_ok_always (Ok x) p = p
+on_ok_always (Err e) p = tt
+
+-- ---- a message is brought
+
+pub delivered : (cast : Cast) (w : Course) (number p q : ℕ) (b : Body) (given : List ℕ) (old mid : Stage) (brought : Brought) → IsMet cast w q (Hands (Given given)) old mid → q ≡ p → given ≡ frame_in (setting_of cast) b → slice_get w.scene.standing.numbered number ≡ Some b
+    → nat_lt number (length w.scene.standing.numbered) ≡ true → is_correct cast p ≡ true → ((i r : ℕ) → has_come brought i r ≡ (has_come mid.brought i r || ((i == number) && (r == q)))) → HasActed cast w (events.Deliver number p) old (record mid { brought = brought })
+delivered cast w number p q b given old mid brought k e f at known correct noted =
+    let t : IsTurn (setting_of cast) w.scene old.chronicle.event p (Hands (Given (frame_in (setting_of cast) b))) k.made = subst (λ r. IsTurn (setting_of cast) w.scene old.chronicle.event r (Hands (Given (frame_in (setting_of cast) b))) k.made) e (subst (λ x. IsTurn (setting_of cast) w.scene old.chronicle.event q (Hands (Given x)) k.made) f k.turn) in
+    let asked : map (λ x. (p, Hands (Given (frame_in (setting_of cast) x)))) (option_to_list (slice_get w.scene.standing.numbered number)) ≡ asked_of (Hands (Given (frame_in (setting_of cast) b))) p ∷ [] = ap (λ o. map (λ x. (p, Hands (Given (frame_in (setting_of cast) x)))) (option_to_list o)) at in record {
+      made = k.made;
+      happens = subst (λ rs. AreTurns (setting_of cast) w.scene old.chronicle.event rs k.made) (sym asked) (k.made, [], sym (append-nil k.made), t, refl);
+      possible = passed_by _ NoSuchMessage _ known ∙ passed_by _ NoSuchParty _ correct;
+      at = record {
+        parties = k.at.parties;
+        correct_are = k.at.correct_are;
+        up = k.at.up;
+        places_are = k.at.places_are;
+        holds = k.at.holds;
+        sent = k.at.sent;
+        brought = λ i r. noted i r ∙ ap₂ (λ x y. x || ((i == number) && (r == y))) (k.at.brought i r) e;
+      };
+      told_is = k.told_is;
+    }
+
+-- ---- a pass
+
+pub passed : (cast : Cast) (w : Course) (old : Stage) (vs : Validators) (chronicle : Chronicle) (brought : Brought) (count : ℕ) → IsAt cast w old
+    → HaveMet (setting_of cast) w.scene (passes (setting_of cast) (has_come old.brought) old.correct.items 0 w.scene.standing.numbered) old.validators.each.items vs.each.items old.chronicle chronicle
+    → count ≡ length w.scene.standing.numbered → ((i p : ℕ) → has_come brought i p ≡ nat_lt i count) → HasActed cast w events.Pass old (record old { validators = vs; chronicle = chronicle; brought = brought })
+passed cast w old vs chronicle brought count at k size noted =
+    let same : passes (setting_of cast) (has_come old.brought) old.correct.items 0 w.scene.standing.numbered ≡ passes (setting_of cast) w.brought (correct cast) 0 w.scene.standing.numbered
+    = passes_same (setting_of cast) (has_come old.brought) w.brought old.correct.items 0 w.scene.standing.numbered at.brought ∙ ap (λ ps. passes (setting_of cast) w.brought ps 0 w.scene.standing.numbered) at.correct_are in
+    let after = after_calls cast w k.made old vs chronicle at k.leads (λ client. unsent_turns (setting_of cast) w.scene old.chronicle.event _ k.made client k.turn) in record {
+      made = k.made;
+      happens = subst (λ rs. AreTurns (setting_of cast) w.scene old.chronicle.event rs k.made) same k.turn;
+      possible = refl;
+      at = record {
+        parties = at.parties;
+        correct_are = at.correct_are;
+        up = k.leads.up;
+        places_are = after.places_are;
+        holds = k.leads.holds;
+        sent = after.sent;
+        brought = λ i p. noted i p ∙ ap (λ n. nat_lt i n) size;
+      };
+      told_is = k.leads.told;
+    }
+
+-- ---- a client sends
+
+closed_more : (client : ℕ) (op : Op) (items : List Item) → is_closed client items ≡ false → is_closed client (items ++ next_item client op items ∷ []) ≡ is_close op
+closed_more client op items unclosed =
+    let one : of client (next_item client op items ∷ []) ≡ next_item client op items ∷ [] = rw (eq-eqb client client refl) refl in
+    let last : (is_close op || false) ≡ is_close op = or_false (is_close op) in
+    ap (list_any (λ (t : Item). is_close t.op)) (filter-append (λ (t : Item). t.client == client) items (next_item client op items ∷ [])) ∙ list_any-append (λ (t : Item). is_close t.op) (of client items) (of client (next_item client op items ∷ []))
+    ∙ ap₂ (λ b l. b || list_any (λ (t : Item). is_close t.op) l) unclosed one ∙ last
+  where
+    or_false : (b : Bool) → (b || false) ≡ b
+    or_false true = refl
+    or_false false = refl
+
+added : (client : ℕ) (op : Op) (items : List Item) → is_closed client items ≡ false → adding client items (Sent client op) ≡ items ++ next_item client op items ∷ []
+added client op items unclosed = rw (eq-eqb client client refl, unclosed) refl
+
+sent_more : (clients client : ℕ) (op : Op) (sent : ℕ → List Item) (each : List Sending) (last : Sending) → HaveSent clients sent each → client < clients → is_closed client (sent client) ≡ false → last ≡ record { count = suc (length (sent client)); closed = is_close op }
+    → HaveSent clients (λ i. adding i (sent i) (Sent client op)) (set each client last)
+sent_more clients client op sent each last h known unclosed is = (
+  length-set each client last ∙ h.0,
+  λ i l. elim (cases_eq i client) [
+    | inl e ↦ (
+        let size : length (sent client ++ next_item client op (sent client) ∷ []) ≡ suc (length (sent client)) = length-append (sent client) (next_item client op (sent client) ∷ []) ∙ omega arith in
+        let counted : sending_of client (adding client (sent client) (Sent client op)) ≡ last = ap (sending_of client) (added client op (sent client) unclosed) ∙ ap₂ (λ n b. let x : Sending = record { count = n; closed = b } in x) size (closed_more client op (sent client) unclosed) ∙ sym is in
+        subst (λ x. slice_get (set each client last) x ≡ Some (sending_of x (adding x (sent x) (Sent client op)))) (sym e) (get_set_same each client last (omega (arith, known, h.0)) ∙ ap Some (sym counted)))
+    | inr n ↦ (
+        let none : adding i (sent i) (Sent client op) ≡ sent i = rw (ne_eqb i client n) refl in
+        get_set_other each client i last n ∙ h.1 i l ∙ ap (λ items. Some (sending_of i items)) (sym none))
+  ],
+)
+
+pub sends : (cast : Cast) (w : Course) (client : ℕ) (op : Op) (old : Stage) (chronicle : Chronicle) (clients : Clients) (last : Sending) → IsAt cast w old → is_client cast client ≡ true → client < cast.clients → is_closed client (w.scene.standing.sent client) ≡ false
+    → Says (setting_of cast) w.scene.standing.numbered None (said_as (next_item client op (w.scene.standing.sent client)) ∷ []) old.chronicle chronicle → last ≡ record { count = suc (length (w.scene.standing.sent client)); closed = is_close op } → clients.each.items ≡ set old.clients.each.items client last
+    → HasActed cast w (events.Send client op) old (record old { chronicle = chronicle; clients = clients })
+sends cast w client op old chronicle clients last at known within unclosed says is counted =
+    let m : Made = record { event = old.chronicle.event; call = Sent client op; answer = (0, 0) } in
+    let s : Scene = w.scene in
+    let said_here : said (setting_of cast) s.standing (Sent client op) ≡ said_as (next_item client op (s.standing.sent client)) ∷ [] = rw unclosed refl in record {
+      made = m ∷ [];
+      happens = refl;
+      possible = passed_by _ NoSuchParty _ known ∙ passed_by _ ClientClosed None (ap not unclosed);
+      at = record {
+        parties = at.parties;
+        correct_are = at.correct_are;
+        up = λ i v here. let u = at.up i v here in (u.0, up_later (setting_of cast) s m v refl u.1);
+        places_are = at.places_are;
+        holds = subst (λ l. Holds (setting_of cast) (s.standing.numbered ++ newly s.standing.numbered l) chronicle.messages) (sym said_here) says.holds;
+        sent = subst (HaveSent cast.clients (λ i. adding i (s.standing.sent i) (Sent client op))) (sym counted) (sent_more cast.clients client op s.standing.sent old.clients.each.items last at.sent within unclosed is);
+        brought = at.brought;
+      };
+      told_is = says.tells.told ∙ ap (λ l. old.chronicle.told.items ++ map (λ what. record { event = old.chronicle.event; validator = None; what = what }) (released_from (length s.standing.numbered) (newly s.standing.numbered l))) (sym said_here)
+          ∙ ap (λ l. old.chronicle.told.items ++ l) (sym (append-nil (noted_by m)));
+    }
+  where
+    noted_by : Made → List Told
+    noted_by m = noted m (told_of_call (setting_of cast) w.scene.standing m)

@@ -1,0 +1,29 @@
+use Rattle.std.proofs.Common.{refl, sym, subst}
+use Rattle.protocol.specs.History.{Given, Due}
+use Rattle.world_parties.specs.Cast.{is_correct}
+use Rattle.world_parties.specs.declared.fault.FaultNumber.TheVariants.{NoSuchParty}
+use Rattle.world_schedule.specs.Making.{Hands, Asks}
+use Rattle.world_schedule.specs.Worlds.{IsMet, HasActed}
+use Rattle.world_schedule.specs.declared.event.Event.TheVariants as events
+use Rattle.world_schedule.proofs.Happenings.{acted, passed_by, on_ok_two}
+use Rattle.world_schedule.proofs.stage.Stage.happen.Goals as goal
+
+pub returns-in-Timeout-clause-ok : goal.returns-in-Timeout-clause-ok
+returns-in-Timeout-clause-ok c = λ cast w at.
+    let p = c.in-Timeout.validator in
+    let t = c.in-Timeout.timeout in
+    on_ok_two c.turn.result (c.turn.ensures.met cast w at) (c.turn.ensures.known cast at.parties) (λ k e. subst (λ x. HasActed cast w x c.args.self.now c.turn.new.self) (sym c.in-Timeout.is)
+    (acted cast w (events.Timeout p t) p (Hands (Due t)) c.args.self.now c.turn.new.self (passed_by (is_correct cast p) NoSuchParty _ e) (λ j made x. x) (λ i r. refl) k))
+
+pub returns-in-Ask-clause-ok : goal.returns-in-Ask-clause-ok
+returns-in-Ask-clause-ok c = λ cast w at.
+    let p = c.in-Ask.validator in
+    on_ok_two c.turn-in-Ask.result (c.turn-in-Ask.ensures.met cast w at) (c.turn-in-Ask.ensures.known cast at.parties) (λ k e. subst (λ x. HasActed cast w x c.args.self.now c.turn-in-Ask.new.self) (sym c.in-Ask.is)
+    (acted cast w (events.Ask p) p Asks c.args.self.now c.turn-in-Ask.new.self (passed_by (is_correct cast p) NoSuchParty _ e) (λ j made x. x) (λ i r. refl) k))
+
+pub returns-in-Frame-clause-ok : goal.returns-in-Frame-clause-ok
+returns-in-Frame-clause-ok c = λ cast w at.
+    let p = c.in-Frame.validator in
+    let bytes = c.in-Frame.bytes in
+    on_ok_two c.turn-in-Frame.result (c.turn-in-Frame.ensures.met cast w at) (c.turn-in-Frame.ensures.known cast at.parties) (λ k e. subst (λ x. HasActed cast w x c.args.self.now c.turn-in-Frame.new.self) (sym c.in-Frame.is)
+    (acted cast w (events.Frame p bytes) p (Hands (Given bytes)) c.args.self.now c.turn-in-Frame.new.self (passed_by (is_correct cast p) NoSuchParty _ e) (λ j made x. x) (λ i r. refl) (subst (λ b. IsMet cast w p (Hands (Given b)) c.args.self.now c.turn-in-Frame.new.self) c.as_slice.ensures k)))

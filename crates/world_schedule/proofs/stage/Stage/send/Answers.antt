@@ -1,0 +1,37 @@
+use Rattle.std.proofs.Common.{◌≡◌, ◌∙◌, ◌<◌, ◌+◌, suc, true, Some, None, List, [], ◌∷◌, length, set, sym, ap, ap₂, subst, arith}
+use Rattle.std.specs.Prelude.{slice_get}
+use Rattle.messages.specs.Framing.{SpellsFrame}
+use Rattle.messages.proofs.MessageFormats.{frame_again}
+use Rattle.protocol.specs.Values.{Item}
+use Rattle.protocol.specs.Messages.{Body, tagged}
+use Rattle.protocol.specs.Queues.{is_close}
+use Rattle.protocol.specs.World.{next_item}
+use Rattle.world_parties.specs.Cast.{Cast, setting_of, is_client}
+use Rattle.world_schedule.specs.Reports.{said_as}
+use Rattle.world_schedule.specs.Worlds.{sending_of}
+use Rattle.world_schedule.specs.declared.clients.Sending.{Sending}
+use Rattle.world_schedule.proofs.Clauses.{at_ok}
+use Rattle.world_schedule.proofs.InTurn.{less_of}
+use Rattle.world_schedule.proofs.Happenings.{sends}
+use Rattle.world_schedule.proofs.stage.Stage.send.Goals as goal
+
+pub returns-in-Ok-clause-ok : goal.returns-in-Ok-clause-ok
+returns-in-Ok-clause-ok c = λ cast w at.
+    let client = c.args.client in
+    let op = c.args.op.now in
+    let number = c.in_ok-number.number in
+    let each = c.args.self.now.clients.each.items in
+    let items : List Item = w.scene.standing.sent client in
+    let same : c.in_ok-sender.sender ≡ client = c.in_ok-sender.ensures.ok.0 in
+    let known : is_client cast client ≡ true = subst (λ (x : Cast). is_client x client ≡ true) at.parties c.in_ok-sender.ensures.ok.1 in
+    let within : client < cast.clients = less_of client cast.clients known in
+    let next = c.in_ok-number.ensures.ok (sending_of client items) (ap (λ i. slice_get each i) same ∙ at.sent.1 client within) in
+    let size : number ≡ suc (length items) = let e : number ≡ length items + 1 = next.0 in omega (arith, e) in
+    let body : Body = said_as (next_item client op items) in
+    let is_next : said_as (record { client = c.in_ok-sender.sender; number = number; op = op }) ≡ body = ap₂ (λ i n. said_as (record { client = i; number = n; op = op })) same size in
+    let spelled : SpellsFrame c.in_ok-frame.frame.items (tagged (setting_of cast) body) = subst (λ b. SpellsFrame c.in_ok-frame.frame.items (tagged (setting_of cast) b)) is_next
+    (subst (λ (x : Cast). SpellsFrame c.in_ok-frame.frame.items (tagged (setting_of x) (said_as (record { client = c.in_ok-sender.sender; number = number; op = op })))) at.parties c.in_ok-frame.ensures) in
+    let says = at_ok _ c.tell_message.result (c.tell_message.ensures (setting_of cast) w.scene.standing.numbered body at.holds (c.deref.ensures.value ∙ spelled.same) (frame_again (tagged (setting_of cast) body) spelled.lawful)) c.in-Ok.is in
+    let last : Sending = record { count = number; closed = is_close op } in
+    sends cast w client op c.args.self.now c.tell_message.new.self c.note.new.self last at known within next.1 says
+    (ap (λ n. let x : Sending = record { count = n; closed = is_close op } in x) size) (c.note.ensures ∙ ap (λ i. set each i last) same)

@@ -1,0 +1,8 @@
+use Rattle.std.proofs.Common.{◌<◌, ◌^◌, arith}
+use Rattle.world_schedule.proofs.Meeting.{meets_ask}
+use Rattle.world_schedule.proofs.validator.Validator.ask.Goals as goal
+
+pub returns-clause-met : goal.returns-clause-met
+returns-clause-met c = λ s n st own served.
+    let high : c.args.self.now.core.machine.state.height < 2 ^ 64 = omega (arith, c.height-height.ensures, c.height-height.type_inv) in
+    meets_ask s c.args.self.now.number n c.args.self.now.core c.ask.new.self c.ask.result st served high own c.ask.ensures.refusal c.ask.ensures.ok c.ask.ensures.err

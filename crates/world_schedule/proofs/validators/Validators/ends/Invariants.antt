@@ -1,0 +1,6 @@
+use Rattle.std.proofs.Common.{◌≡◌, take, flat_map}
+use Rattle.world_schedule.specs.Worlds.{ends_in}
+use Rattle.world_schedule.proofs.validators.Validators.ends.Given as goal
+
+abbrev pub invariant-loop-place : goal.invariant-loop-place
+invariant-loop-place l = l.ends.items ≡ flat_map ends_in (take l.place-index l.self.each.items)

@@ -1,0 +1,96 @@
+-- What is done to a world, and which calls it comes to.
+use Rattle.std.specs.Prelude.{◌≡◌, ℕ, suc, Bool, true, false, cond, not, ◌&&◌, ◌||◌, Option, Some, None, List, [], ◌∷◌, ◌++◌, map, filter, length, nat_lt, option_to_list, ◌==◌}
+use Rattle.std.specs.List.{list_all, slice_get}
+use Rattle.messages.specs.Framing.{frame_spelling}
+use Rattle.protocol.specs.Tags.{Setting}
+use Rattle.protocol.specs.Messages.{Body, OfProposal, OfVote, OfBundle, Message, tagged}
+use Rattle.protocol.specs.Queues.{is_closed}
+use Rattle.protocol.specs.History.{Given, Due}
+use Rattle.world_parties.specs.Cast.{Cast, setting_of, is_correct, is_liar, is_client, correct}
+use Rattle.world_parties.specs.Sending.{proposed, voted, bundled, submitted}
+use Rattle.world_parties.specs.declared.fault.FaultNumber.{FaultNumber}
+use Rattle.world_parties.specs.declared.fault.FaultNumber.TheVariants.{NoSuchMessage, NoSuchParty, ClientClosed}
+use Rattle.world_schedule.specs.Calls.{Sent}
+use Rattle.world_schedule.specs.Cores.{frame_in}
+use Rattle.world_schedule.specs.Reports.{Made, Standing, is_by}
+use Rattle.world_schedule.specs.Making.{Request, Hands, Asks, Scene, beginning, scene_after, AreTurns}
+use Rattle.world_schedule.specs.Standings.{sayer}
+use Rattle.world_schedule.specs.declared.event.Event.{Event}
+use Rattle.world_schedule.specs.declared.event.Event.TheVariants as events
+
+-- how a world stands between events: and which message was brought to which validator, by their numbers
+pub record Course : Type 0 where
+  pub scene : Scene
+  pub brought : ℕ → ℕ → Bool
+
+-- ---- what comes to whom
+
+abbrev pub asked_of : Request → ℕ → ℕ × Request
+asked_of request p = (p, request)
+
+abbrev pub comes : ℕ → List ℕ → List (ℕ × Request)
+comes p bytes = (p, Hands (Given bytes)) ∷ []
+
+-- a message is still to come to a validator, which is not its sender
+abbrev pub is_wanting : (ℕ → ℕ → Bool) → ℕ → Option ℕ → ℕ → Bool
+is_wanting brought number sayer p = not (is_by p sayer) && not (brought number p)
+
+-- messages, numbered from this number on, each to those of these validators that want it
+abbrev pub passes : Setting → (ℕ → ℕ → Bool) → List ℕ → ℕ → List Body → List (ℕ × Request)
+passes c brought validators number [] = []
+passes c brought validators number (b ∷ bs) = map (asked_of (Hands (Given (frame_in c b)))) (filter (is_wanting brought number (sayer b)) validators) ++ passes c brought validators (suc number) bs
+
+-- what an event asks of validators, in turn
+abbrev pub turns : Cast → Course → Event → List (ℕ × Request)
+turns cast w (events.Send client op) = []
+turns cast w (events.Deliver number p) = map (λ b. (p, Hands (Given (frame_in (setting_of cast) b)))) (option_to_list (slice_get w.scene.standing.numbered number))
+turns cast w events.Pass = passes (setting_of cast) w.brought (correct cast) 0 w.scene.standing.numbered
+turns cast w (events.Timeout p t) = (p, Hands (Due t)) ∷ []
+turns cast w (events.Ask p) = (p, Asks) ∷ []
+turns cast w (events.Submit p line) = comes p (frame_spelling (submitted (length cast.powers) line))
+turns cast w (events.Propose p line) = comes p (frame_in (setting_of cast) (OfProposal (proposed line)))
+turns cast w (events.Vote p line) = comes p (frame_in (setting_of cast) (OfVote (voted line)))
+turns cast w (events.Bundle p line) = comes p (frame_in (setting_of cast) (OfBundle (bundled (setting_of cast) line)))
+turns cast w (events.Frame p bytes) = comes p bytes
+
+-- ---- events
+
+-- The calls that an event is, made at event k: a client sends, or each validator has its turn.
+abbrev pub Happens : Cast → Course → ℕ → Event → List Made → Type 0
+Happens cast w k (events.Send client op) made = made ≡ record { event = k; call = Sent client op; answer = (0, 0) } ∷ []
+Happens cast w k event made = AreTurns (setting_of cast) w.scene k (turns cast w event) made
+
+-- what was brought to whom after an event: a pass brings each message so far
+abbrev pub brought_by : Course → Event → ℕ → ℕ → Bool
+brought_by w (events.Deliver number to) i p = w.brought i p || ((i == number) && (p == to))
+brought_by w events.Pass i p = nat_lt i (length w.scene.standing.numbered)
+brought_by w event i p = w.brought i p
+
+abbrev pub course_after : Cast → Course → Event → List Made → Course
+course_after cast w event made = record { scene = scene_after (setting_of cast) w.scene made; brought = brought_by w event }
+
+-- ---- why an event can't happen
+
+abbrev pub unless : Bool → FaultNumber → Option FaultNumber → Option FaultNumber
+unless holds fault more = cond holds more (Some fault)
+
+-- the first cause, of those that are found before anything is spelled
+abbrev pub cause_of : Cast → Standing → Event → Option FaultNumber
+cause_of cast s (events.Send client op) = unless (is_client cast client) NoSuchParty (unless (not (is_closed client (s.sent client))) ClientClosed None)
+cause_of cast s (events.Deliver number p) = unless (nat_lt number (length s.numbered)) NoSuchMessage (unless (is_correct cast p) NoSuchParty None)
+cause_of cast s events.Pass = None
+cause_of cast s (events.Timeout p t) = unless (is_correct cast p) NoSuchParty None
+cause_of cast s (events.Ask p) = unless (is_correct cast p) NoSuchParty None
+cause_of cast s (events.Submit p line) = unless (is_correct cast p) NoSuchParty None
+cause_of cast s (events.Propose p line) = unless (is_correct cast p) NoSuchParty (unless (is_liar cast line.sender) NoSuchParty None)
+cause_of cast s (events.Vote p line) = unless (is_correct cast p) NoSuchParty (unless (is_liar cast line.sender) NoSuchParty None)
+cause_of cast s (events.Bundle p line) = unless (is_correct cast p) NoSuchParty (unless (list_all (is_liar cast) (line.sender ∷ line.signers)) NoSuchParty None)
+cause_of cast s (events.Frame p bytes) = unless (is_correct cast p) NoSuchParty None
+
+-- ---- events in turn
+
+-- Events, of which the first is the one after event k, are these calls, and leave the world so.
+abbrev pub HaveHappened : Cast → Course → ℕ → List Event → List Made → Course → Type 0
+HaveHappened cast w k [] made last = (made ≡ []) × (last ≡ w)
+HaveHappened cast w k (event ∷ more) made last = (first : List Made) × (rest : List Made) × (made ≡ first ++ rest) × (cause_of cast w.scene.standing event ≡ None) × Happens cast w (suc k) event first
+    × HaveHappened cast (course_after cast w event first) (suc k) more rest last

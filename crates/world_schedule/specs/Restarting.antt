@@ -1,0 +1,53 @@
+-- A validator that is opened again over its journal.
+use Rattle.std.specs.Prelude.{◌≡◌, ℕ, true, false, Option, Some, List, [], ◌++◌, length, slice_get}
+use Rattle.vote_journal.specs.Saving.{KeepsRecords}
+use Rattle.protocol.specs.Tags.{Setting}
+use Rattle.protocol.specs.State.{Node}
+use Rattle.protocol.specs.Restart.{opened}
+use Rattle.world_parties.specs.Cast.{Cast, is_validator}
+use Rattle.world_schedule.specs.Cores.{StandsIn}
+use Rattle.world_schedule.specs.Reports.{Made, told}
+use Rattle.world_schedule.specs.Making.{Scene, IsReopened, IsRestart, scene_after}
+use Rattle.world_schedule.specs.Standings.{Holds}
+use Rattle.world_schedule.specs.Validators.{LeadsTo, AreUp}
+use Rattle.world_schedule.specs.declared.validator.Validator.{Validator}
+use Rattle.world_schedule.specs.declared.restarting.Stopped.{Stopped}
+use Rattle.world_schedule.specs.declared.chronicle.Chronicle.{Chronicle}
+
+-- The validator has ended: its store has the records that its journal had.
+pub record HasStopped (powers : List ℕ) (old : Validator) (stopped : Stopped) : Type 0 where
+  pub number : stopped.number ≡ old.number
+  pub told : stopped.decisions_told ≡ old.decisions_told
+  pub kept : KeepsRecords powers old.number old.core.journal.bytes stopped.store.bytes.items
+
+-- It stands again where its journal tells, has released nothing since, and its journal serves.
+pub record IsBack (c : Setting) (n : Node) (old new : Validator) : Type 0 where
+  pub number : new.number ≡ old.number
+  pub told : new.decisions_told ≡ old.decisions_told
+  pub owes : new.owes ≡ false
+  pub stands : StandsIn c old.number (opened old.number n.journal) new.core
+  pub serves : new.core.journal.failed ≡ false
+  pub released : new.core.outgoing ≡ []
+
+-- The calls by which a validator was opened again, and those of a whole restart.
+abbrev pub HasReopened : Setting → Scene → Validator → Validator → Chronicle → Chronicle → Type 0
+HasReopened c s old new before after = (made : List Made) × IsReopened c s before.event old.number made × LeadsTo c s made old new before after
+
+abbrev pub HasRestarted : Setting → Scene → Validator → Validator → Chronicle → Chronicle → Type 0
+HasRestarted c s old new before after = (made : List Made) × IsRestart c s before.event old.number made × LeadsTo c s made old new before after
+
+-- ---- all validators
+
+-- each has a number of the world's
+abbrev pub AreKnown : Cast → List (Option Validator) → Type 0
+AreKnown cast validators = (i : ℕ) (v : Validator) → slice_get validators i ≡ Some (Some v) → is_validator cast v.number ≡ true
+
+-- A validator was restarted: all stand for their nodes after its calls, and these are told as the report has them.
+pub record HaveRestarted (c : Setting) (s : Scene) (p : ℕ) (old new : List (Option Validator)) (before after : Chronicle) : Type 0 where
+  pub made : List Made
+  pub restart : IsRestart c s before.event p made
+  pub up : AreUp c (scene_after c s made) new
+  pub holds : Holds c (scene_after c s made).standing.numbered after.messages
+  pub told : after.told.items ≡ before.told.items ++ told c s.standing made
+  pub event : after.event ≡ before.event
+  pub count : length new ≡ length old

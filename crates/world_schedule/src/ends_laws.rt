@@ -1,0 +1,22 @@
+//! What the ends of a report come to.
+
+ghost use Rattle.world_schedule.specs.Ends.{EndsLaw, SceneLaw};
+ghost use Rattle.world_schedule.specs.Outcome.{OutcomeLaw};
+
+/// Any two ends of one report, of correct validators: of their delivered lists one begins the other, each keeps every
+/// client's order, and a correct client's items in it begin what the client sent. The premises are on the very run that
+/// the report's calls are.
+pub fn ends_law()
+    ensures { EndsLaw }
+{}
+
+/// A scene after some calls has the nodes that the calls leave, and what the clients sent in them.
+pub fn scene_law()
+    ensures { SceneLaw }
+{}
+
+/// Any two ends of the report of a world's run, of correct validators, tell one list: of what they delivered one begins the
+/// other, each keeps every client's order, and a correct client's items in it begin what the client sent.
+pub fn outcome_law()
+    ensures { OutcomeLaw }
+{}

@@ -1,0 +1,5 @@
+//! Worlds of a few validators.
+
+mod calls;
+mod parties;
+mod worlds;

@@ -1,0 +1,92 @@
+//! The text of a fault, and that the calls of a core get on.
+
+ghost use Rattle.std.specs.Prelude.{◌≡◌, IfOk, length};
+ghost use Rattle.protocol.specs.Tags.{Validator};
+
+use authenticators::{KeyRing, Party};
+use node_core::{Config, NodeCore, Refusal};
+use powers::Powers;
+use protocol::{Step, Timeout};
+use std::alloc::{AllocError, Global};
+use std::process::Abort;
+use std::test::Fail;
+use transactions::Seq;
+use vote_journal::{Journal, MemoryStore};
+use world_schedule::{FaultNumber, RunFault, hand_frame, hand_timeout, settle};
+
+/// The keys of validator 1 of two.
+const KEYS: &[u8] = b"v0 v1 0000000000000000000000000000000000000000000000000000000000000000
+v1 v1 1111111111111111111111111111111111111111111111111111111111111111
+v1 v0 1111111111111111111111111111111111111111111111111111111111111111
+";
+
+/// Whether the fault of an event with this number shows as this text.
+fn shows(alloc: Global, event: u64, number: FaultNumber, wanted: &str) -> Result<bool, AllocError> {
+    let fault = RunFault {
+        event,
+        number,
+        told: Seq::new(alloc),
+    };
+    Ok(format!(in alloc; "{fault}")?.as_str() == wanted)
+}
+
+#[test]
+fn faults_show_their_event_and_number(rt: HostRuntime) {
+    let alloc = rt.alloc();
+    assert!(rt; shows(alloc, 1, FaultNumber::NoSuchMessage, "event 1: fault 1") == Ok(true));
+    assert!(rt;
+        shows(
+            alloc,
+            20,
+            FaultNumber::from(AllocError),
+            "event 20: fault 5"
+        ) == Ok(true)
+    );
+}
+
+fn own_ring(rt: &impl Abort, alloc: Global) -> Result<KeyRing, Fail>
+    ensures { IfOk result (λ ring. (ring.me ≡ Validator 1) × (ring.count ≡ 2)) }
+{
+    let ring = KeyRing::read(alloc, KEYS, Party::Validator(1), 2)?;
+    assert_ring(rt, &ring);
+    Ok(ring)
+}
+
+fn assert_ring(rt: &impl Abort, ring: &KeyRing)
+    ensures { (ring.now.me ≡ Validator 1) × (ring.now.count ≡ 2) }
+{
+    assert_eq!(rt; ring.me(), Party::Validator(1));
+    assert_eq!(rt; ring.count(), 2);
+}
+
+fn two_powers(rt: &impl Abort, alloc: Global) -> Result<Powers, Fail>
+    ensures { IfOk result (λ powers. length powers ≡ 2) }
+{
+    let powers = Powers::new(vec![in alloc; 1, 1]?)?;
+    assert_eq!(rt; powers.count(), 2);
+    Ok(powers)
+}
+
+/// Each call is made once.
+fn assert_calls(rt: &impl Abort, core: &mut NodeCore<MemoryStore>) {
+    let due = Timeout {
+        kind: Step::Propose,
+        height: 0,
+        round: 0,
+    };
+    assert_eq!(rt; settle(core), Ok(()));
+    assert_eq!(rt; hand_frame(core, &[0, 0, 0, 0]), Err(Refusal::Truncated));
+    assert_eq!(rt; hand_timeout(core, due), Ok(()));
+    assert!(rt; core.round() == 0 && core.fired() == 0);
+}
+
+#[test]
+fn calls_of_a_core(rt: HostRuntime) -> Result<(), Fail> {
+    let alloc = rt.alloc();
+    let ring = own_ring(&rt, alloc)?;
+    let powers = two_powers(&rt, alloc)?;
+    let journal = Journal::in_memory(alloc, 1)?;
+    let mut core = NodeCore::new(alloc, Config { me: 1, powers }, ring, journal);
+    assert_calls(&rt, &mut core);
+    Ok(())
+}

@@ -1,0 +1,226 @@
+//! Runs of worlds of four validators.
+
+use messages::Step;
+use powers::Powers;
+use protocol::{Step as Kind, Timeout};
+use std::alloc::Global;
+use std::process::Abort;
+use std::test::Fail;
+use transactions::{Op, Seq, read_value};
+use world_schedule::{Event, FaultNumber, Proposing, Report, RunFault, Told, Voting, What, World};
+
+/// Four validators, of whom these lie, and eight clients.
+fn world(alloc: Global, liars: &[u16]) -> Result<World, Fail> {
+    let powers = Powers::new(vec![in alloc; 1, 1, 1, 1]?)?;
+    Ok(World::new(alloc, powers, 8, liars)?)
+}
+
+/// A client's transaction, its close, and six passes.
+fn two_heights(alloc: Global) -> Result<Vec<Event>, Fail> {
+    let mut events = Vec::new(alloc);
+    events.push(Event::Send(7, Op::Bytes(Seq::from_vec(vec![in alloc; 97]?))))?;
+    events.push(Event::Send(7, Op::Close))?;
+    for _ in 0..6 {
+        events.push(Event::Pass)?;
+    }
+    Ok(events)
+}
+
+/// How many messages, decisions and refusals are told.
+fn told_of(told: &[Told]) -> (u64, u64, u64) {
+    let mut messages = 0;
+    let mut decisions = 0;
+    let mut refusals = 0;
+    for one in told {
+        match &one.what {
+            What::Released(_) => messages += 1,
+            What::Decided(_) => decisions += 1,
+            What::Answered(answer) if answer.number != 0 => refusals += 1,
+            What::Answered(_) => {}
+        }
+    }
+    (messages, decisions, refusals)
+}
+
+/// Whether each of four validators ends at height 2 with the client's two transactions.
+fn all_delivered(report: &Report) -> bool {
+    report.ends.len() == 4
+        && report.ends.as_slice().iter().all(|end| end.height == 2
+            && end.round == 0
+            && end.delivered.len() == 2)
+}
+
+/// Each validator decides twice; the second value has what the client sent.
+#[test]
+fn a_client_is_delivered(rt: HostRuntime) -> Result<(), Fail> {
+    let alloc = rt.alloc();
+    let mut world = world(alloc, &[])?;
+    let report = world.run(&two_heights(alloc)?)?;
+    assert_eq!(rt; told_of(report.told.as_slice()), (22, 8, 8));
+    assert!(rt; all_delivered(&report));
+    Ok(())
+}
+
+fn due(validator: u64, kind: Kind) -> Event {
+    Event::Timeout(
+        validator,
+        Timeout {
+            kind,
+            height: 0,
+            round: 0,
+        },
+    )
+}
+
+/// Liar 0 proposes a value to validators 1, 2 and 3, and prevotes for it at 1 alone.
+fn lies(alloc: Global) -> Result<Vec<Event>, Fail> {
+    let mut events = Vec::new(alloc);
+    for validator in 1..4 {
+        events.push(Event::Propose(
+            validator,
+            Proposing {
+                sender: 0,
+                height: 0,
+                round: 0,
+                valid_round: None,
+                value: read_value(alloc, &[0, 0])?,
+            },
+        ))?;
+    }
+    events.push(Event::Vote(
+        1,
+        Voting {
+            sender: 0,
+            step: Step::Prevote,
+            height: 0,
+            round: 0,
+            value: Some(read_value(alloc, &[0, 0])?),
+        },
+    ))?;
+    Ok(events)
+}
+
+/// Three correct validators decide what the liar proposed.
+#[test]
+fn a_liar_proposes(rt: HostRuntime) -> Result<(), Fail> {
+    let alloc = rt.alloc();
+    let mut world = world(alloc, &[0])?;
+    let first = world.run(&lies(alloc)?)?;
+    assert_eq!(rt; told_of(first.told.as_slice()), (3, 0, 0));
+    let second = world.run(&[Event::Pass, Event::Pass])?;
+    assert_eq!(rt; told_of(second.told.as_slice()).1, 3);
+    assert_eq!(rt; second.ends.len(), 3);
+    Ok(())
+}
+
+/// Nil is precommitted where timeouts come before anything else, and the next round begins.
+#[test]
+fn timeouts_end_a_round(rt: HostRuntime) -> Result<(), Fail> {
+    let alloc = rt.alloc();
+    let mut world = world(alloc, &[0])?;
+    let mut events = Vec::new(alloc);
+    for kind in [Kind::Propose, Kind::Prevote, Kind::Precommit] {
+        for validator in 1..4 {
+            events.push(due(validator, kind))?;
+        }
+        events.push(Event::Pass)?;
+    }
+    let report = world.run(&events)?;
+    assert!(rt;
+        report
+            .ends
+            .as_slice()
+            .iter()
+            .all(|end| end.height == 0 && end.round == 1)
+    );
+    Ok(())
+}
+
+/// The fault and event of a run of these events, in a world of which validator 0 lies.
+fn fault_of(alloc: Global, events: &[Event]) -> Result<Option<(u64, FaultNumber)>, Fail> {
+    let mut world = world(alloc, &[0])?;
+    match world.run(events) {
+        Ok(_) => Ok(None),
+        Err(
+            RunFault {
+                event,
+                number,
+                told: _,
+            },
+        ) => Ok(Some((event, number))),
+    }
+}
+
+/// Each fault, at the event that can't happen.
+#[test]
+fn events_that_cannot_happen(rt: HostRuntime) -> Result<(), Fail> {
+    let alloc = rt.alloc();
+    let nobody = Some((1, FaultNumber::NoSuchParty));
+    assert_eq!(rt;
+        fault_of(alloc, &[Event::Deliver(99, 0)])?,
+        Some((1, FaultNumber::NoSuchMessage))
+    );
+    assert_eq!(rt; fault_of(alloc, &[Event::Ask(0)])?, nobody);
+    assert_eq!(rt; fault_of(alloc, &[Event::Ask(4)])?, nobody);
+    assert_eq!(rt; fault_of(alloc, &[Event::Send(8, Op::Close)])?, nobody);
+    let closed = [Event::Send(7, Op::Close), Event::Send(7, Op::Close)];
+    assert_eq!(rt;
+        fault_of(alloc, &closed)?,
+        Some((2, FaultNumber::ClientClosed))
+    );
+    Ok(())
+}
+
+/// An item of more than 1,024 bytes has no spelling; the events before it stand and are told.
+#[test]
+fn what_is_too_long(rt: HostRuntime) -> Result<(), Fail> {
+    let alloc = rt.alloc();
+    let mut world = world(alloc, &[])?;
+    let long = Op::Bytes(Seq::from_vec(vec![in alloc; 0; 1025]?));
+    let ran = world.run(&[Event::Ask(1), Event::Send(7, long)]);
+    assert!(rt; is_too_long(&ran));
+    let after = world.run(&[Event::Deliver(2, 0)])?;
+    assert_eq!(rt; told_of(after.told.as_slice()), (0, 0, 1));
+    Ok(())
+}
+
+fn is_too_long(ran: &Result<Report, RunFault>) -> bool {
+    match ran {
+        Err(fault) => fault.event == 2
+            && fault.number == FaultNumber::TooLong
+            && told_of(fault.told.as_slice()) == (3, 0, 0),
+        Ok(_) => false,
+    }
+}
+
+/// What was delivered isn't passed again; a frame of any bytes is refused or taken in.
+#[test]
+fn brought_once(rt: HostRuntime) -> Result<(), Fail> {
+    let alloc = rt.alloc();
+    let mut world = world(alloc, &[])?;
+    let first = world.run(&[Event::Deliver(0, 1), Event::Pass, Event::Pass])?;
+    assert_eq!(rt; told_of(first.told.as_slice()).2, 0);
+    let bytes = Seq::from_vec(vec![in alloc; 0, 0]?);
+    let second = world.run(&[Event::Frame(1, bytes)])?;
+    assert_eq!(rt; told_of(second.told.as_slice()), (0, 0, 1));
+    Ok(())
+}
+
+/// A world of which a liar is no validator.
+#[test]
+fn no_such_liar(rt: HostRuntime) -> Result<(), Fail> {
+    let alloc = rt.alloc();
+    let powers = Powers::new(vec![in alloc; 1, 1, 1, 1]?)?;
+    let made = World::new(alloc, powers, 8, &[4]);
+    assert!(rt;
+        matches!(
+            made,
+            Err(RunFault {
+                event: 0,
+                number: FaultNumber::NoSuchParty,
+                ..
+            })
+        )
+    );
+    Ok(())
+}
