@@ -18,15 +18,17 @@ use Rattle.world_parties.specs.declared.fault.FaultNumber.TheVariants.{NoSuchMes
 use Rattle.world_schedule.specs.Cores.{frame_in}
 use Rattle.world_schedule.specs.Calls.{Call, Sent, Handed, Asked, Resent, Reopened, adding}
 use Rattle.world_schedule.specs.Reports.{Made, validator_of, told, said, said_as, newly, released_from, noted, told_of_call}
-use Rattle.world_schedule.specs.Making.{Request, Hands, Asks, Scene, IsOne, IsInsisted, IsTurn, AreTurns, scene_next, scene_after}
+use Rattle.world_schedule.specs.Making.{Request, Hands, Asks, Scene, IsOne, IsInsisted, IsTurn, AreTurns, IsReopened, IsRestart, scene_next, scene_after}
 use Rattle.world_schedule.specs.Standings.{Holds, Says}
 use Rattle.world_schedule.specs.Validators.{AreUp, HaveTurned, places}
+use Rattle.world_schedule.specs.Restarting.{HaveRestarted}
 use Rattle.world_schedule.specs.Events.{Course, Happens, turns, asked_of, comes, passes, unless, brought_by, course_after, cause_of}
 use Rattle.world_schedule.specs.Worlds.{LeadOn, HaveMet, HaveSent, sending_of, has_come, IsAt, IsMet, HasActed}
 use Rattle.world_schedule.specs.declared.event.Event.{Event}
 use Rattle.world_schedule.specs.declared.event.Event.TheVariants as events
 use Rattle.world_schedule.specs.declared.report.Told.{Told}
 use Rattle.world_schedule.specs.declared.clients.Clients.{Clients}
+use Rattle.world_schedule.specs.declared.validator.Validator.{Validator}
 use Rattle.world_schedule.specs.declared.validators.Validators.{Validators}
 use Rattle.world_schedule.specs.declared.chronicle.Chronicle.{Chronicle}
 use Rattle.world_schedule.specs.declared.clients.Sending.{Sending}
@@ -94,6 +96,22 @@ met_at cast w p request old vs chronicle at k = record {
   told_is = k.told;
 }
 
+-- ---- a restart
+
+unsent_reopened : (c : Setting) (s : Scene) (k p : ℕ) (ms : List Made) (client : ℕ) → IsReopened c s k p ms → (scene_after c s ms).standing.sent client ≡ s.standing.sent client
+unsent_reopened c s k p [] client i = absurd i
+unsent_reopened c s k p (m ∷ []) client i = unsent_once c s m p client i.0.by
+unsent_reopened c s k p (m ∷ again ∷ []) client i = unsent_once c (scene_next c s m) again p client i.2.by ∙ unsent_once c s m p client i.0.by
+unsent_reopened c s k p (m ∷ again ∷ more ∷ rest) client i = absurd i
+
+unsent_restart : (c : Setting) (s : Scene) (k p : ℕ) (ms : List Made) (client : ℕ) → IsRestart c s k p ms → (scene_after c s ms).standing.sent client ≡ s.standing.sent client
+unsent_restart c s k p ms client t =
+    subst (λ l. (scene_after c s l).standing.sent client ≡ s.standing.sent client) (sym t.2)
+    (ap (λ (x : Scene). x.standing.sent client) (scene_append c s t.0 t.1) ∙ unsent_turn c (scene_after c s t.0) k p (Hands Settle) t.1 client t.4 ∙ unsent_reopened c s k p t.0 client t.3)
+
+restarted_leads : (c : Setting) (s : Scene) (p : ℕ) (old new : List (Option Validator)) (before after : Chronicle) → (k : HaveRestarted c s p old new before after) → LeadOn c s k.made old new before after
+restarted_leads c s p old new before after k = record { up = k.up; places_are = k.places_are; holds = k.holds; told = k.told; event = k.event }
+
 -- a cause that isn't
 pub passed_by : (holds : Bool) (fault : FaultNumber) (more : Option FaultNumber) → holds ≡ true → unless holds fault more ≡ more
 passed_by holds fault more e = rw e refl
@@ -122,6 +140,26 @@ pub heard : (cast : Cast) (w : Course) (event : Event) (p q : ℕ) (wanted given
     → ((k : ℕ) (made : List Made) → AreTurns (setting_of cast) w.scene k (comes p wanted) made → Happens cast w k event made) → ((i r : ℕ) → brought_by w event i r ≡ w.brought i r) → IsMet cast w q (Hands (Given given)) old new → HasActed cast w event old new
 heard cast w event p q wanted given old new e f possible happens same k =
     acted cast w event p (Hands (Given wanted)) old new possible happens same (subst (λ r. IsMet cast w r (Hands (Given wanted)) old new) e (subst (λ b. IsMet cast w q (Hands (Given b)) old new) f k))
+
+pub restarts : (cast : Cast) (w : Course) (p q : ℕ) (old : Stage) (vs : Validators) (chronicle : Chronicle) → q ≡ p → is_correct cast p ≡ true → IsAt cast w old
+    → HaveRestarted (setting_of cast) w.scene q old.validators.each.items vs.each.items old.chronicle chronicle → HasActed cast w (events.Restart p) old (record old { validators = vs; chronicle = chronicle })
+restarts cast w p q old vs chronicle e known at k =
+    let c = setting_of cast in
+    let after = after_calls cast w k.made old vs chronicle at (restarted_leads c w.scene q old.validators.each.items vs.each.items old.chronicle chronicle k) (λ client. unsent_restart c w.scene old.chronicle.event q k.made client k.restart) in record {
+      made = k.made;
+      happens = subst (λ r. IsRestart c w.scene old.chronicle.event r k.made) e k.restart;
+      possible = passed_by (is_correct cast p) NoSuchParty None known;
+      at = record {
+        parties = after.parties;
+        correct_are = after.correct_are;
+        up = after.up;
+        places_are = after.places_are;
+        holds = after.holds;
+        sent = after.sent;
+        brought = λ i r. after.brought i r;
+      };
+      told_is = k.told;
+    }
 
 pub on_ok_two : {T E : Type 0} {P Q R : Type 0} (result : Result T E) → OnOk result P → OnOk result Q → (P → Q → R) → OnOk result R
 on_ok_two (Ok x) p q f = f p q

@@ -113,5 +113,5 @@ restarted c s i validators between old new before after up at within k =
       holds = k.2.holds;
       told = k.2.told;
       event = k.2.event;
-      count = ap length (sym same) ∙ length-set validators i (Some new);
+      places_are = ap places (sym same) ∙ same_places validators i old new at;
     }

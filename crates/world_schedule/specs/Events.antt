@@ -13,7 +13,7 @@ use Rattle.world_parties.specs.declared.fault.FaultNumber.TheVariants.{NoSuchMes
 use Rattle.world_schedule.specs.Calls.{Sent}
 use Rattle.world_schedule.specs.Cores.{frame_in}
 use Rattle.world_schedule.specs.Reports.{Made, Standing, is_by}
-use Rattle.world_schedule.specs.Making.{Request, Hands, Asks, Scene, beginning, scene_after, AreTurns}
+use Rattle.world_schedule.specs.Making.{Request, Hands, Asks, Resends, Scene, beginning, scene_after, AreTurns, IsRestart}
 use Rattle.world_schedule.specs.Standings.{sayer}
 use Rattle.world_schedule.specs.declared.event.Event.{Event}
 use Rattle.world_schedule.specs.declared.event.Event.TheVariants as events
@@ -40,13 +40,15 @@ abbrev pub passes : Setting → (ℕ → ℕ → Bool) → List ℕ → ℕ → 
 passes c brought validators number [] = []
 passes c brought validators number (b ∷ bs) = map (asked_of (Hands (Given (frame_in c b)))) (filter (is_wanting brought number (sayer b)) validators) ++ passes c brought validators (suc number) bs
 
--- what an event asks of validators, in turn
+-- what an event asks of validators, in turn: but for a restart, which is told by itself
 abbrev pub turns : Cast → Course → Event → List (ℕ × Request)
 turns cast w (events.Send client op) = []
 turns cast w (events.Deliver number p) = map (λ b. (p, Hands (Given (frame_in (setting_of cast) b)))) (option_to_list (slice_get w.scene.standing.numbered number))
 turns cast w events.Pass = passes (setting_of cast) w.brought (correct cast) 0 w.scene.standing.numbered
 turns cast w (events.Timeout p t) = (p, Hands (Due t)) ∷ []
 turns cast w (events.Ask p) = (p, Asks) ∷ []
+turns cast w (events.Resend p) = (p, Resends) ∷ []
+turns cast w (events.Restart p) = []
 turns cast w (events.Submit p line) = comes p (frame_spelling (submitted (length cast.powers) line))
 turns cast w (events.Propose p line) = comes p (frame_in (setting_of cast) (OfProposal (proposed line)))
 turns cast w (events.Vote p line) = comes p (frame_in (setting_of cast) (OfVote (voted line)))
@@ -55,9 +57,10 @@ turns cast w (events.Frame p bytes) = comes p bytes
 
 -- ---- events
 
--- The calls that an event is, made at event k: a client sends, or each validator has its turn.
+-- The calls that an event is, made at event k: a client sends, a validator is restarted, or each validator has its turn.
 abbrev pub Happens : Cast → Course → ℕ → Event → List Made → Type 0
 Happens cast w k (events.Send client op) made = made ≡ record { event = k; call = Sent client op; answer = (0, 0) } ∷ []
+Happens cast w k (events.Restart p) made = IsRestart (setting_of cast) w.scene k p made
 Happens cast w k event made = AreTurns (setting_of cast) w.scene k (turns cast w event) made
 
 -- what was brought to whom after an event: a pass brings each message so far
@@ -81,6 +84,8 @@ cause_of cast s (events.Deliver number p) = unless (nat_lt number (length s.numb
 cause_of cast s events.Pass = None
 cause_of cast s (events.Timeout p t) = unless (is_correct cast p) NoSuchParty None
 cause_of cast s (events.Ask p) = unless (is_correct cast p) NoSuchParty None
+cause_of cast s (events.Resend p) = unless (is_correct cast p) NoSuchParty None
+cause_of cast s (events.Restart p) = unless (is_correct cast p) NoSuchParty None
 cause_of cast s (events.Submit p line) = unless (is_correct cast p) NoSuchParty None
 cause_of cast s (events.Propose p line) = unless (is_correct cast p) NoSuchParty (unless (is_liar cast line.sender) NoSuchParty None)
 cause_of cast s (events.Vote p line) = unless (is_correct cast p) NoSuchParty (unless (is_liar cast line.sender) NoSuchParty None)

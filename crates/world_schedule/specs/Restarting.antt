@@ -1,15 +1,14 @@
 -- A validator that is opened again over its journal.
-use Rattle.std.specs.Prelude.{◌≡◌, ℕ, true, false, Option, Some, List, [], ◌++◌, length, slice_get}
+use Rattle.std.specs.Prelude.{◌≡◌, ℕ, false, Option, List, [], ◌++◌}
 use Rattle.vote_journal.specs.Saving.{KeepsRecords}
 use Rattle.protocol.specs.Tags.{Setting}
 use Rattle.protocol.specs.State.{Node}
 use Rattle.protocol.specs.Restart.{opened}
-use Rattle.world_parties.specs.Cast.{Cast, is_validator}
 use Rattle.world_schedule.specs.Cores.{StandsIn}
 use Rattle.world_schedule.specs.Reports.{Made, told}
 use Rattle.world_schedule.specs.Making.{Scene, IsReopened, IsRestart, scene_after}
 use Rattle.world_schedule.specs.Standings.{Holds}
-use Rattle.world_schedule.specs.Validators.{LeadsTo, AreUp}
+use Rattle.world_schedule.specs.Validators.{LeadsTo, AreUp, places}
 use Rattle.world_schedule.specs.declared.validator.Validator.{Validator}
 use Rattle.world_schedule.specs.declared.restarting.Stopped.{Stopped}
 use Rattle.world_schedule.specs.declared.chronicle.Chronicle.{Chronicle}
@@ -36,12 +35,6 @@ HasReopened c s old new before after = (made : List Made) × IsReopened c s befo
 abbrev pub HasRestarted : Setting → Scene → Validator → Validator → Chronicle → Chronicle → Type 0
 HasRestarted c s old new before after = (made : List Made) × IsRestart c s before.event old.number made × LeadsTo c s made old new before after
 
--- ---- all validators
-
--- each has a number of the world's
-abbrev pub AreKnown : Cast → List (Option Validator) → Type 0
-AreKnown cast validators = (i : ℕ) (v : Validator) → slice_get validators i ≡ Some (Some v) → is_validator cast v.number ≡ true
-
 -- A validator was restarted: all stand for their nodes after its calls, and these are told as the report has them.
 pub record HaveRestarted (c : Setting) (s : Scene) (p : ℕ) (old new : List (Option Validator)) (before after : Chronicle) : Type 0 where
   pub made : List Made
@@ -50,4 +43,4 @@ pub record HaveRestarted (c : Setting) (s : Scene) (p : ℕ) (old new : List (Op
   pub holds : Holds c (scene_after c s made).standing.numbered after.messages
   pub told : after.told.items ≡ before.told.items ++ told c s.standing made
   pub event : after.event ≡ before.event
-  pub count : length new ≡ length old
+  pub places_are : places new ≡ places old

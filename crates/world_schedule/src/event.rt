@@ -19,6 +19,11 @@ pub enum Event {
     Timeout(u64, Timeout),
     /// A correct validator lets an ask for its height go.
     Ask(u64),
+    /// A correct validator lets its own messages of its height go again.
+    Resend(u64),
+    /// A correct validator ends, is opened again over its journal as its store has it, and is settled. What its journal
+    /// holds that was never told is told then.
+    Restart(u64),
     /// A transaction comes to a correct validator.
     Submit(u64, Tagged),
     /// A liar's proposal comes to a correct validator.

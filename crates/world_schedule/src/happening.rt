@@ -33,6 +33,8 @@ impl Stage {
             Event::Pass => self.pass(),
             Event::Timeout(validator, timeout) => self.turn(*validator, Request::Expire(*timeout)),
             Event::Ask(validator) => self.turn(*validator, Request::Ask),
+            Event::Resend(validator) => self.turn(*validator, Request::Resend),
+            Event::Restart(validator) => self.restart(*validator),
             Event::Frame(validator, bytes) => {
                 self.turn(*validator, Request::Take(bytes.as_slice()))
             }
@@ -97,6 +99,21 @@ impl Stage {
         match self
             .validators
             .turn(validator, request, &mut self.chronicle)
+        {
+            Ok(()) => Ok(()),
+            Err(_) => Err(FaultNumber::OutOfMemory),
+        }
+    }
+
+    /// A correct validator is opened again over its journal. After a fault there may be no validator at its place.
+    fn restart(&mut self, validator: u64) -> Result<(), FaultNumber>
+        ensures ok { (cast : Cast) (w : Course) → IsAt cast w self.old → OnOk result (HasActed cast w (events.Restart validator) self.old self.new) }
+        ensures err { IfErr result (λ fault. fault ≢ FaultNumber.OutOfMemory → self.new ≡ self.old) }
+    {
+        let to = self.parties.correct_at(validator)?;
+        match self
+            .validators
+            .restart(&self.parties, to, &mut self.chronicle)
         {
             Ok(()) => Ok(()),
             Err(_) => Err(FaultNumber::OutOfMemory),

@@ -47,10 +47,10 @@ impl Validator {
         parties: &Parties,
         chronicle: &mut Chronicle,
     ) -> Result<Validator, FaultNumber>
-        requires known { is_validator parties.now self.number ≡ true }
         ensures { (s : Scene) → IsUp (setting_of parties.now) s self → Holds (setting_of parties.now) s.standing.numbered chronicle.old.messages
             → IfOk result (λ validator. HasRestarted (setting_of parties.now) s self validator chronicle.old chronicle.new) }
     {
+        let _known = parties.correct_at(u64::from(self.number))?;
         let mut validator = self.reopen(parties, chronicle)?;
         validator.turn(Request::Settle, chronicle)?;
         Ok(validator)

@@ -7,7 +7,7 @@ ghost use Rattle.world_parties.specs.Cast.{setting_of, is_validator, is_correct}
 ghost use Rattle.world_schedule.specs.Making.{Scene, beginning};
 ghost use Rattle.world_schedule.specs.Standings.{Holds};
 ghost use Rattle.world_schedule.specs.Validators.{request_of, IsUp, AreUp, HaveTurned, places};
-ghost use Rattle.world_schedule.specs.Restarting.{AreKnown, HaveRestarted};
+ghost use Rattle.world_schedule.specs.Restarting.{HaveRestarted};
 ghost use Rattle.world_schedule.specs.declared.validator.Validator.{Validator as Opened};
 
 use crate::chronicle::Chronicle;
@@ -60,7 +60,6 @@ impl Validators {
         number: u16,
         chronicle: &mut Chronicle,
     ) -> Result<(), FaultNumber>
-        requires known { AreKnown parties.now self.old.each.items }
         ensures { (s : Scene) → AreUp (setting_of parties.now) s self.old.each.items → Holds (setting_of parties.now) s.standing.numbered chronicle.old.messages
             → OnOk result (HaveRestarted (setting_of parties.now) s number self.old.each.items self.new.each.items chronicle.old chronicle.new) }
     {

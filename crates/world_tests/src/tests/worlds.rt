@@ -28,14 +28,14 @@ fn two_heights(alloc: Global) -> Result<Vec<Event>, Fail> {
 
 /// How many messages, decisions and refusals are told.
 fn told_of(told: &[Told]) -> (u64, u64, u64) {
-    let mut messages = 0;
-    let mut decisions = 0;
-    let mut refusals = 0;
+    let mut messages = 0_u64;
+    let mut decisions = 0_u64;
+    let mut refusals = 0_u64;
     for one in told {
         match &one.what {
-            What::Released(_) => messages += 1,
-            What::Decided(_) => decisions += 1,
-            What::Answered(answer) if answer.number != 0 => refusals += 1,
+            What::Released(_) => messages = messages.saturating_add(1),
+            What::Decided(_) => decisions = decisions.saturating_add(1),
+            What::Answered(answer) if answer.number != 0 => refusals = refusals.saturating_add(1),
             What::Answered(_) => {}
         }
     }
@@ -136,6 +136,40 @@ fn timeouts_end_a_round(rt: HostRuntime) -> Result<(), Fail> {
     Ok(())
 }
 
+/// A validator that is opened again says nothing a second time, and goes on where it was.
+#[test]
+fn opened_again_within_a_height(rt: HostRuntime) -> Result<(), Fail> {
+    let alloc = rt.alloc();
+    let mut world = world(alloc, &[0])?;
+    let first = world.run(&lies(alloc)?)?;
+    assert_eq!(rt; told_of(first.told.as_slice()), (3, 0, 0));
+    let opened = world.run(&[Event::Restart(1), Event::Resend(1)])?;
+    assert_eq!(rt; told_of(opened.told.as_slice()), (0, 0, 0));
+    assert_eq!(rt; opened.told.len(), 3);
+    let again = world.run(&lies(alloc)?)?;
+    assert_eq!(rt; told_of(again.told.as_slice()), (0, 0, 2));
+    let last = world.run(&[Event::Pass, Event::Pass])?;
+    assert_eq!(rt; told_of(last.told.as_slice()).1, 3);
+    Ok(())
+}
+
+/// What was delivered is delivered by a validator that is opened again, and its decisions aren't told twice.
+#[test]
+fn opened_again_after_decisions(rt: HostRuntime) -> Result<(), Fail> {
+    let alloc = rt.alloc();
+    let mut world = world(alloc, &[])?;
+    let first = world.run(&two_heights(alloc)?)?;
+    assert_eq!(rt; told_of(first.told.as_slice()).1, 8);
+    let mut restarts = Vec::new(alloc);
+    for validator in 0..4 {
+        restarts.push(Event::Restart(validator))?;
+    }
+    let second = world.run(&restarts)?;
+    assert_eq!(rt; told_of(second.told.as_slice()), (0, 0, 0));
+    assert!(rt; all_delivered(&second));
+    Ok(())
+}
+
 /// The fault and event of a run of these events, in a world of which validator 0 lies.
 fn fault_of(alloc: Global, events: &[Event]) -> Result<Option<(u64, FaultNumber)>, Fail> {
     let mut world = world(alloc, &[0])?;
@@ -162,6 +196,8 @@ fn events_that_cannot_happen(rt: HostRuntime) -> Result<(), Fail> {
     );
     assert_eq!(rt; fault_of(alloc, &[Event::Ask(0)])?, nobody);
     assert_eq!(rt; fault_of(alloc, &[Event::Ask(4)])?, nobody);
+    assert_eq!(rt; fault_of(alloc, &[Event::Resend(0)])?, nobody);
+    assert_eq!(rt; fault_of(alloc, &[Event::Restart(4)])?, nobody);
     assert_eq!(rt; fault_of(alloc, &[Event::Send(8, Op::Close)])?, nobody);
     let closed = [Event::Send(7, Op::Close), Event::Send(7, Op::Close)];
     assert_eq!(rt;

@@ -2,7 +2,7 @@ use Rattle.std.proofs.Common.{refl, sym, subst}
 use Rattle.protocol.specs.History.{Given, Due}
 use Rattle.world_parties.specs.Cast.{is_correct}
 use Rattle.world_parties.specs.declared.fault.FaultNumber.TheVariants.{NoSuchParty}
-use Rattle.world_schedule.specs.Making.{Hands, Asks}
+use Rattle.world_schedule.specs.Making.{Hands, Asks, Resends}
 use Rattle.world_schedule.specs.Worlds.{IsMet, HasActed}
 use Rattle.world_schedule.specs.declared.event.Event.TheVariants as events
 use Rattle.world_schedule.proofs.Happenings.{acted, passed_by, on_ok_two}
@@ -20,6 +20,12 @@ returns-in-Ask-clause-ok c = λ cast w at.
     let p = c.in-Ask.validator in
     on_ok_two c.turn-in-Ask.result (c.turn-in-Ask.ensures.met cast w at) (c.turn-in-Ask.ensures.known cast at.parties) (λ k e. subst (λ x. HasActed cast w x c.args.self.now c.turn-in-Ask.new.self) (sym c.in-Ask.is)
     (acted cast w (events.Ask p) p Asks c.args.self.now c.turn-in-Ask.new.self (passed_by (is_correct cast p) NoSuchParty _ e) (λ j made x. x) (λ i r. refl) k))
+
+pub returns-in-Resend-clause-ok : goal.returns-in-Resend-clause-ok
+returns-in-Resend-clause-ok c = λ cast w at.
+    let p = c.in-Resend.validator in
+    on_ok_two c.turn-in-Resend.result (c.turn-in-Resend.ensures.met cast w at) (c.turn-in-Resend.ensures.known cast at.parties) (λ k e. subst (λ x. HasActed cast w x c.args.self.now c.turn-in-Resend.new.self) (sym c.in-Resend.is)
+    (acted cast w (events.Resend p) p Resends c.args.self.now c.turn-in-Resend.new.self (passed_by (is_correct cast p) NoSuchParty _ e) (λ j made x. x) (λ i r. refl) k))
 
 pub returns-in-Frame-clause-ok : goal.returns-in-Frame-clause-ok
 returns-in-Frame-clause-ok c = λ cast w at.
