@@ -1,0 +1,136 @@
+//! Where peers come from.
+
+ghost use Rattle.std.specs.Prelude.{◌≡◌, ◌<◌, ◌+◌, ◌++◌, drop, length, take, IfOk};
+
+use crate::tcp_link::TcpLink;
+use log::{Log, warn};
+use peer_links::{Links, Next, Peer};
+use std::alloc::{AllocError, Global};
+use std::collections::VecDeque;
+use std::fmt::Display;
+use std::io::ErrorKind;
+use std::net::{Net, TcpListener, TcpStream, ToSocketAddrs};
+use std::sync::Wait;
+use std::time::{Clock, Duration};
+use std::{io, thread};
+
+/// How long a dial waits for its peer, in milliseconds.
+const DIAL_MS: u64 = 1_000;
+
+/// How long it waits where nobody dials, in milliseconds.
+const ACCEPT_MS: u64 = 10;
+
+/// The peers of a node: those that it dials, each once, and then those that dial it. What fails is
+/// logged, and is not tried again.
+#[derive(Drop)]
+pub struct TcpLinks<'a, N> {
+    alloc: Global,
+    net: &'a N,
+    listener: TcpListener,
+    /// The addresses that are still to be dialed.
+    others: VecDeque<&'a str>,
+}
+
+/// All addresses but this one, in order.
+fn others_of<'a>(
+    alloc: Global,
+    peers: &[&'a str],
+    me: usize,
+) -> Result<VecDeque<&'a str>, AllocError>
+    requires { me < length peers.now }
+    ensures { IfOk result (λ others. others.items ≡ take me peers.now ++ drop (me + 1) peers.now) }
+{
+    let mut others = peers.to_vec(alloc)?;
+    others.remove(me);
+    Ok(VecDeque::from(others))
+}
+
+impl<'a, N: Log + Net<Stream = TcpStream, Listener = TcpListener>> TcpLinks<'a, N> {
+    /// Listens on the address at the own place, and dials nobody yet. The addresses are host names or
+    /// numbers, each with a port.
+    pub fn bind(
+        alloc: Global,
+        net: &'a N,
+        peers: &[&'a str],
+        me: usize,
+    ) -> io::Result<TcpLinks<'a, N>>
+        requires { me < length peers.now }
+        ensures { IfOk result (λ links. links.others.items ≡ take me peers.now ++ drop (me + 1) peers.now) }
+    {
+        let others = others_of(alloc, peers, me)?;
+        let listener = TcpListener::bind(net, peers[me])?;
+        listener.set_nonblocking(true)?;
+        Ok(TcpLinks {
+            alloc,
+            net,
+            listener,
+            others,
+        })
+    }
+
+    /// Dials an address.
+    fn dial(&self, address: &str) -> Next<TcpLink> {
+        match connect(self.net, address) {
+            Ok(stream) => self.peer(stream, &address),
+            Err(error) => {
+                warn!(self.net; "{address}: cannot be reached: {error}");
+                Next::Idle
+            }
+        }
+    }
+
+    /// Takes who dials, or waits for a moment where nobody does.
+    fn accept<R: Clock>(&self, rt: &R) -> Next<TcpLink> {
+        match self.listener.accept() {
+            Ok((stream, address)) => self.peer(stream, &address),
+            Err(error) => {
+                if error.kind() != ErrorKind::WouldBlock {
+                    warn!(self.net; "a peer cannot be taken: {error}");
+                }
+                thread::sleep(rt, Duration::from_millis(ACCEPT_MS));
+                Next::Idle
+            }
+        }
+    }
+
+    /// The peer at the other end of a connection.
+    fn peer<A: Display>(&self, stream: TcpStream, address: &A) -> Next<TcpLink> {
+        match peer_of(self.alloc, stream, address) {
+            Ok(peer) => Next::Peer(peer),
+            Err(error) => {
+                warn!(self.net; "{address}: cannot be used: {error}");
+                Next::Idle
+            }
+        }
+    }
+}
+
+/// A connection to the first of the socket addresses that an address stands for.
+fn connect<N: Net<Stream = TcpStream>>(net: &N, address: &str) -> io::Result<TcpStream> {
+    match address.to_socket_addrs(net)?.next() {
+        Some(address) => TcpStream::connect_timeout(net, &address, Duration::from_millis(DIAL_MS)),
+        None => Err(ErrorKind::AddrNotAvailable.into()),
+    }
+}
+
+/// Both halves of a connection, under the name of the address.
+fn peer_of<A: Display>(alloc: Global, stream: TcpStream, address: &A) -> io::Result<Peer<TcpLink>> {
+    let (reader, writer) = TcpLink::halves(stream)?;
+    let name = format!(in alloc; "{address}")?;
+    Ok(Peer {
+        reader,
+        writer,
+        name,
+    })
+}
+
+impl<N: Log + Net<Stream = TcpStream, Listener = TcpListener>> Links for TcpLinks<'_, N> {
+    type Link = TcpLink;
+
+    fn next<R: Wait + Clock>(&mut self, rt: &R) -> Next<TcpLink> {
+        match self.others.pop_front() {
+            Some(address) => self.dial(address),
+            None => self.accept(rt),
+        }
+    }
+}
