@@ -1,9 +1,8 @@
 -- Calls keep a node's journal lawful, so each of its decisions has a certificate.
-use Rattle.std.proofs.Common.{◌≡◌, ℕ, zero, suc, ◌+◌, ◌*◌, ◌-◌, ◌^◌, ◌<◌, ◌≤◌, inl, inr, true, false, min, List, [], ◌∷◌, ◌++◌, All, length, reverse, Option, Some, None, option_map, refl, sym, ap, ◌∙◌, subst, arith, append-nil, length-append, eqb-true, ltb-true, leb-true}
-use Rattle.std.specs.Prelude.{unwrap_or, nat_lt, nat_le, ◌==◌}
+use Rattle.std.proofs.Common.{◌≡◌, ℕ, zero, suc, ◌+◌, ◌*◌, ◌-◌, ◌^◌, ◌<◌, ◌≤◌, inl, inr, true, false, min, List, [], ◌∷◌, ◌++◌, length, reverse, Option, Some, None, option_map, refl, sym, ap, ◌∙◌, subst, arith, append-nil, length-append, eqb-true, ltb-true, leb-true}
+use Rattle.std.specs.Prelude.{unwrap_or, nat_lt, nat_le, ◌==◌, ◌&&◌}
 use Rattle.std.proofs.lemmas.Bool.{and_parts}
 use Rattle.std.proofs.lemmas.List.{length-map, reverse-reverse}
-use Rattle.std.proofs.lemmas.List.Elements.{All-append}
 use Rattle.transactions.specs.Grammar.{value_spelling}
 use Rattle.messages.specs.Framing.{message_of}
 use Rattle.protocol.specs.Values.{Item, Value, item, items, fifo, keeps_limits, valid}
@@ -25,22 +24,28 @@ use Rattle.vote_journal.proofs.Kept.{lawful_opened}
 use Rattle.node_core.specs.Core.{Core, Stands, setting, setting_of, delivered_in}
 use Rattle.locked_node.specs.History.{Replayed}
 use Rattle.locked_node.specs.Locked.{Locked, IsLocked, count_of}
-use Rattle.locked_node.specs.Certified.{IsCertified, WasOpened, IsKnown, CertificatesLaw, CountLaw}
+use Rattle.locked_node.specs.Certified.{IsCertified, AreCertified, WasOpened, IsKnown, CertificatesLaw, CountLaw}
 use Rattle.locked_node.proofs.Feeds.{delivered_append}
 
 -- ---- what a lawful journal's decisions are
 
-one : (P : Bundle → Type 0) (b : Bundle) → P b → All P (b ∷ [])
-one P b p zero d lt = p
-one P b p (suc k) d lt = absurd (omega (arith, lt))
+one_more : (powers : List ℕ) (at : ℕ) (ds : List Bundle) (b : Bundle) → AreCertified powers at ds → IsCertified powers (at + length ds) b → AreCertified powers at (ds ++ b ∷ [])
+one_more powers at [] b c last = (subst (λ k. IsCertified powers k b) (omega arith) last, tt)
+one_more powers at (d ∷ ds) b c last = (c.0, one_more powers (at + 1) ds b c.1 (subst (λ k. IsCertified powers k b) (omega arith) last))
 
-each_certified : (powers : List ℕ) (me : ℕ) (j : List Record) → EachFollows powers j → EachMade me j → All (IsCertified powers) (bundles_in j)
+heights : (j : List Record) → length (bundles_in j) ≡ height_of j
+heights [] = refl
+heights (Own h r act ∷ j) = heights j
+heights (Decided b ∷ j) = omega (arith, length-append (bundles_in j) (b ∷ []), heights j)
+
+each_certified : (powers : List ℕ) (me : ℕ) (j : List Record) → EachFollows powers j → EachMade me j → AreCertified powers 0 (bundles_in j)
 unfolding may_follow
-each_certified powers me [] f m = λ k d lt. absurd (omega (arith, lt))
+each_certified powers me [] f m = tt
 each_certified powers me (Own h r act ∷ j) f m = each_certified powers me j f.1 m
 each_certified powers me (Decided b ∷ j) f m =
-    let quorum = (and_parts _ _ (and_parts _ _ f.0).0).1 in
-    All-append (IsCertified powers) (bundles_in j) (b ∷ []) (each_certified powers me j f.1 m.1) (one (IsCertified powers) b (record { name = m.0.name; distinct = m.0.order; quorum = quorum }))
+    let before = and_parts (b.height == height_of j && nat_lt b.height (2 ^ 48)) _ (and_parts _ _ f.0).0 in
+    let height : b.height ≡ height_of j = eqb-true _ _ (and_parts (b.height == height_of j) _ before.0).0 in
+    one_more powers 0 (bundles_in j) b (each_certified powers me j f.1 m.1) (record { height = omega (arith, height, heights j); name = m.0.name; distinct = m.0.order; quorum = before.1 })
 
 few_heights : (powers : List ℕ) (j : List Record) → EachFollows powers j → height_of j ≤ 2 ^ 48
 unfolding may_follow
@@ -133,7 +138,7 @@ of_lawful l h (inl running) = let o = h.replay.opened in running_lawful l.core _
 of_lawful l h (inr w) = replayed_lawful l h w
 
 pub certificates : CertificatesLaw
-certificates l h k = let o = of_lawful l h k in subst (All (IsCertified l.core.machine.powers)) (sym o.decisions) (each_certified l.core.machine.powers l.core.machine.me o.records o.follows o.made)
+certificates l h k = let o = of_lawful l h k in subst (AreCertified l.core.machine.powers 0) (sym o.decisions) (each_certified l.core.machine.powers l.core.machine.me o.records o.follows o.made)
 
 pub counts : CountLaw
 counts l h k =

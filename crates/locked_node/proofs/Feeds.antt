@@ -1,5 +1,5 @@
 -- Rings and places, as decisions are added.
-use Rattle.std.proofs.Common.{◌≡◌, ℕ, zero, suc, true, ◌+◌, ◌<◌, ◌≤◌, ◌-◌, List, [], ◌∷◌, ◌++◌, drop, take, length, refl, sym, ap, ◌∙◌, subst, arith, append_assoc, append-nil, length-append, get_or, slice_index_or, slice_set, Result, Ok, MatchResult, take-append-drop, length-take-le}
+use Rattle.std.proofs.Common.{false, ◌≡◌, ℕ, zero, suc, true, ◌+◌, ◌<◌, ◌≤◌, ◌-◌, List, [], ◌∷◌, ◌++◌, drop, take, length, refl, sym, ap, ◌∙◌, subst, arith, append_assoc, append-nil, length-append, get_or, slice_index_or, slice_set, Result, Ok, MatchResult, take-append-drop, length-take-le}
 use Rattle.std.proofs.lemmas.List.{map-append}
 use Rattle.std.proofs.lemmas.Bool.{false≢true}
 use Rattle.std.proofs.lemmas.List.{take_more, length-map}
@@ -115,7 +115,7 @@ are_fed_push d (x ∷ fs) f s new = (s.0, are_fed_push d fs f s.1 new)
 -- ---- one ring
 
 pub filled_set : {E : Type 0} (d : List Bundle) (place : ℕ) (fs : List Fed) (other g : Fed) (result : Result ℕ E) → place < length fs → IsOffered d (slice_index_or fs place other) g
-    → MatchResult result (λ n. length g.feeder.offered ≡ length (slice_index_or fs place other).feeder.offered + n) (λ e. g.stopped ≡ OutOfMemory) → HasFilled d place fs (slice_set fs place g) result
+    → MatchResult result (λ n. (length g.feeder.offered ≡ length (slice_index_or fs place other).feeder.offered + n) × (g.stopped ≡ OutOfMemory → ⊥)) (λ e. g.stopped ≡ OutOfMemory) → HasFilled d place fs (slice_set fs place g) result
 filled_set d place [] other g result h o r = absurd (omega (arith, h))
 filled_set d zero (f ∷ fs) other g result h o r = (o, refl, r)
 filled_set d (suc place) (f ∷ fs) other g result h o r = (refl, filled_set d place fs other g result (omega (arith, h)) o r)
@@ -126,10 +126,10 @@ filled_none d zero (f ∷ fs) result h r = absurd (omega (arith, h))
 filled_none d (suc place) (f ∷ fs) result h r = (refl, filled_none d place fs result (omega (arith, h)) r)
 
 pub filled_at : {E : Type 0} (d : List Bundle) (place : ℕ) (fs : List Fed) (o g : Fed) (result : Result ℕ E) → place < length fs → o ≡ slice_index_or fs place o → IsOffered d o g
-    → MatchResult result (λ n. length g.feeder.offered ≡ length o.feeder.offered + n) (λ e. g.stopped ≡ OutOfMemory) → HasFilled d place fs (slice_set fs place g) result
+    → MatchResult result (λ n. (length g.feeder.offered ≡ length o.feeder.offered + n) × (g.stopped ≡ OutOfMemory → ⊥)) (λ e. g.stopped ≡ OutOfMemory) → HasFilled d place fs (slice_set fs place g) result
 filled_at d place fs o g result h e offered r =
     filled_set d place fs o g result h (subst (λ (l : Fed). IsOffered d l g) e offered)
-    (subst (λ (l : Fed). MatchResult result (λ n. length g.feeder.offered ≡ length l.feeder.offered + n) (λ e. g.stopped ≡ OutOfMemory)) e r)
+    (subst (λ (l : Fed). MatchResult result (λ n. (length g.feeder.offered ≡ length l.feeder.offered + n) × (g.stopped ≡ OutOfMemory → ⊥)) (λ e. g.stopped ≡ OutOfMemory)) e r)
 
 pub is_memory : (s : Stop) → sameb the_type s OutOfMemory ≡ true → s ≡ OutOfMemory
 is_memory Unoffered p = absurd (false≢true p)
@@ -137,6 +137,9 @@ is_memory Full p = absurd (false≢true p)
 is_memory Gone p = absurd (false≢true p)
 is_memory NoneLeft p = absurd (false≢true p)
 is_memory OutOfMemory p = refl
+
+pub not_memory : (s : Stop) → sameb the_type s OutOfMemory ≡ false → s ≡ OutOfMemory → ⊥
+not_memory s p e = false≢true (sym (subst (λ t. sameb the_type t OutOfMemory ≡ false) e p))
 
 -- a ring's offered items are counted by its next position
 pub counted : (o g : Fed) (before after : ℕ) → before ≡ o.feeder.first + length o.feeder.offered → after ≡ g.feeder.first + length g.feeder.offered → AreMore o g → length g.feeder.offered ≡ length o.feeder.offered + (after - before)

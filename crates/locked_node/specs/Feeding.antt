@@ -73,10 +73,10 @@ AreOffered decisions zero olds news = news ≡ olds
 AreOffered decisions (suc n) (old ∷ olds) (new ∷ news) = IsOffered decisions old new × AreOffered decisions n olds news
 AreOffered decisions (suc n) olds news = ⊥
 
--- The ring at this place was offered the next items, so many of them, unless the stop is want of memory. Where none is there, nothing was done.
+-- The ring at this place was offered the next items, so many of them, just where the stop is not want of memory. Where none is there, nothing was done.
 abbrev pub HasFilled : {E : Type 0} → List Bundle → ℕ → List Fed → List Fed → Result ℕ E → Type 0
 HasFilled decisions place [] news result = (news ≡ []) × (result ≡ Ok 0)
 HasFilled decisions zero (old ∷ olds) [] result = ⊥
-HasFilled decisions zero (old ∷ olds) (new ∷ news) result = IsOffered decisions old new × (news ≡ olds) × MatchResult result (λ n. length new.feeder.offered ≡ length old.feeder.offered + n) (λ e. new.stopped ≡ OutOfMemory)
+HasFilled decisions zero (old ∷ olds) (new ∷ news) result = IsOffered decisions old new × (news ≡ olds) × MatchResult result (λ n. (length new.feeder.offered ≡ length old.feeder.offered + n) × (new.stopped ≡ OutOfMemory → ⊥)) (λ e. new.stopped ≡ OutOfMemory)
 HasFilled decisions (suc place) (old ∷ olds) [] result = ⊥
 HasFilled decisions (suc place) (old ∷ olds) (new ∷ news) result = (new ≡ old) × HasFilled decisions place olds news result

@@ -1,6 +1,6 @@
 //! The node that threads share.
 
-ghost use Rattle.std.specs.Prelude.{◌≡◌, ◌≤◌, [], IfOk};
+ghost use Rattle.std.specs.Prelude.{ℕ, ◌≡◌, ◌≤◌, [], true, IfOk, IfErr};
 ghost use Rattle.status_words.specs.Seen.{unseen, opened as opened_at, with_both};
 ghost use Rattle.status_words.specs.Ends.{opened_table, opened_words};
 ghost use Rattle.protocol.specs.State.{Node as ProtocolNode};
@@ -8,6 +8,8 @@ ghost use Rattle.protocol.specs.History.{Settle, Given, Due};
 ghost use Rattle.node_core.specs.Core.{Stands};
 ghost use Rattle.locked_node.specs.History.{heard, Took, Asked, Resent};
 ghost use Rattle.locked_node.specs.Locked.{count_of};
+ghost use Rattle.locked_node.specs.Subscribing.{subscribe_fault};
+ghost use Rattle.subscriber_ring.specs.Ends.{is_capacity};
 
 use crate::event::Event;
 use crate::lent::{Done, Met, State};
@@ -137,7 +139,9 @@ impl<S: Store + Drop, J: Node> LockedNode<S, J> {
         from: u64,
         capacity: usize,
     ) -> Result<Subscription, SubscribeFault>
-        ensures { IfOk result (λ s. s.ring ≡ record { ring = s.ring.ring; first = from; taken = [] }) }
+        ensures ok { IfOk result (λ s. s.ring ≡ record { ring = s.ring.ring; first = from; taken = [] }) }
+        ensures possible { IfOk result (λ s. is_capacity capacity ≡ true) }
+        ensures err { IfErr result (λ e. (d : ℕ) × (e ≡ subscribe_fault d from capacity)) }
     {
         self.state.lock(rt).subscribe(from, capacity)
     }

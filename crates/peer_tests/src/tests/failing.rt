@@ -1,0 +1,137 @@
+//! Links that fail, and a store that does.
+
+use super::frames::{ACCEPTED, OLD_NUMBER, own_vote, proposal, transaction};
+use super::running::{Course, Peers, STILL, Told, count, run};
+use log::Log;
+use messages::Step as VoteStep;
+use peer_links::Step;
+use peer_threads::{Ending, MOST_OPEN_LINKS};
+use status_words::Status;
+use std::alloc::Global;
+use std::process::Abort;
+use std::sync::Wait;
+use std::test::Fail;
+use std::thread::Threads;
+use std::time::Clock;
+
+const NOTHING: Status = Status {
+    height: 0,
+    delivered: 0,
+};
+
+/// One link, which fails once so many bytes of these came.
+fn broken(alloc: Global, bytes: Vec<u8>, after: usize) -> Result<Peers, Fail> {
+    let mut peers = Peers::new(alloc);
+    let wire = peers.wire()?;
+    let mut half = peers.half(&wire, 4_096)?;
+    half.add(Step::Bytes(bytes))?;
+    half.fail_after(after);
+    peers.add(wire, half)?;
+    Ok(peers)
+}
+
+/// Whether nothing is sent, and the node has taken nothing in, of a proposal of which so many bytes came.
+fn leaves_nothing<R: Abort + Threads + Wait + Clock + Log + Sync>(
+    rt: &R,
+    alloc: Global,
+    frame: &[u8],
+    after: usize,
+) -> Result<bool, Fail> {
+    let told = run(
+        rt,
+        alloc,
+        broken(alloc, frame.to_vec(alloc)?, after)?,
+        STILL,
+    )?;
+    let prevote = own_vote(rt, alloc, VoteStep::Prevote, 0)?;
+    let sent = count(rt, &told, 0, &prevote);
+    Ok(told.ending == Ending::Ended && told.status == NOTHING && sent == 0)
+}
+
+#[test]
+fn a_frame_that_is_cut_leaves_nothing(rt: HostRuntime) -> Result<(), Fail> {
+    let alloc = rt.alloc();
+    let frame = proposal(&rt, alloc, 0)?;
+    for after in 0..frame.len() {
+        assert!(rt; leaves_nothing(&rt, alloc, &frame, after)?);
+    }
+    assert!(rt; !leaves_nothing(&rt, alloc, &frame, frame.len())?);
+    Ok(())
+}
+
+/// A transaction, a frame of no kind, a length above the limit, and a transaction behind it, byte by byte.
+fn too_long(alloc: Global) -> Result<Peers, Fail> {
+    let mut peers = Peers::new(alloc);
+    let wire = peers.wire()?;
+    let mut half = peers.half(&wire, 1)?;
+    half.add(Step::Bytes(transaction(alloc, 0, 1)?))?;
+    half.add(Step::Bytes(vec![in alloc; 0u8, 0, 0, 1, 0x7f, 0, 0x10, 0, 1]?))?;
+    half.add(Step::Bytes(transaction(alloc, 0, 2)?))?;
+    peers.add(wire, half)?;
+    Ok(peers)
+}
+
+#[test]
+fn a_length_above_the_limit_ends_the_link(rt: HostRuntime) -> Result<(), Fail> {
+    let alloc = rt.alloc();
+    let told = run(&rt, alloc, too_long(alloc)?, STILL)?;
+    assert_eq!(rt; told.ending, Ending::Ended);
+    assert_eq!(rt; count(&rt, &told, 0, &ACCEPTED), 1);
+    Ok(())
+}
+
+/// A store whose third append or sync fails, as the node's first vote is saved.
+#[test]
+fn a_store_that_fails_halts(rt: HostRuntime) -> Result<(), Fail> {
+    let alloc = rt.alloc();
+    let mut peers = Peers::new(alloc);
+    let wire = peers.wire()?;
+    peers.add_steps(wire, [Step::Bytes(proposal(&rt, alloc, 0)?)])?;
+    let course = Course {
+        failing: 4,
+        ..STILL
+    };
+    let told = run(&rt, alloc, peers, course)?;
+    assert_eq!(rt; told.ending, Ending::Halted);
+    let prevote = own_vote(&rt, alloc, VoteStep::Prevote, 0)?;
+    assert_eq!(rt; count(&rt, &told, 0, &prevote), 0);
+    Ok(())
+}
+
+/// A link that brings a transaction and then nothing, until it fails.
+fn add_lasting(alloc: Global, peers: &mut Peers) -> Result<(), Fail> {
+    let wire = peers.wire()?;
+    let mut half = peers.half_of_turns(&wire, 4_096, 1_000)?;
+    half.add(Step::Bytes(transaction(alloc, 0, 1)?))?;
+    peers.add(wire, half)
+}
+
+/// One link more than may be open.
+fn crowd(alloc: Global) -> Result<Peers, Fail> {
+    let mut peers = Peers::new(alloc);
+    for _ in 0..=MOST_OPEN_LINKS {
+        add_lasting(alloc, &mut peers)?;
+    }
+    Ok(peers)
+}
+
+/// How many of these links were answered.
+fn answered<R: Wait>(rt: &R, told: &Told) -> usize {
+    let mut links = 0usize;
+    for link in 0..told.wires.len() {
+        links = links
+            .saturating_add(count(rt, told, link, &ACCEPTED))
+            .saturating_add(count(rt, told, link, &OLD_NUMBER));
+    }
+    links
+}
+
+#[test]
+fn a_link_too_many_is_closed(rt: HostRuntime) -> Result<(), Fail> {
+    let alloc = rt.alloc();
+    let told = run(&rt, alloc, crowd(alloc)?, STILL)?;
+    assert_eq!(rt; told.ending, Ending::Ended);
+    assert_eq!(rt; told.wires.len(), MOST_OPEN_LINKS + 1);
+    assert_eq!(rt; answered(&rt, &told), MOST_OPEN_LINKS);
+    Ok(())
+}

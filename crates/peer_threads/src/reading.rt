@@ -1,0 +1,117 @@
+//! The threads that read.
+
+use crate::outlets::Queue;
+use crate::shared::Shared;
+use edge_frames::LinkId;
+use log::{Log, warn};
+use messages::FrameReader;
+use peer_links::{Clock, Link, PIECE_BYTES, Received};
+use status_words::{Node, Seat};
+use std::sync::Wait;
+use std::time;
+use thiserror::Error;
+use transactions::Fault;
+use vote_journal::Store;
+
+/// Why a link is read no more.
+#[derive(Clone, Copy, Debug, Error, PartialEq, Eq)]
+enum Over {
+    #[error("it ended")]
+    Ended,
+    #[error("it fails")]
+    Failed,
+    #[error("a length is above the limit")]
+    TooLong,
+    #[error("memory is short")]
+    OutOfMemory,
+}
+
+impl From<Fault> for Over {
+    fn from(fault: Fault) -> Over {
+        match fault {
+            Fault::OutOfMemory => Over::OutOfMemory,
+            _ => Over::TooLong,
+        }
+    }
+}
+
+impl<S: Store + Drop, J: Node, C: Clock> Shared<'_, S, J, C> {
+    /// Reads a link until it is over or all ends, and hands in each whole frame.
+    pub(crate) fn read_link<L: Link + Drop, R: Wait + time::Clock + Log>(
+        &self,
+        rt: &R,
+        link: LinkId,
+        queue: Queue,
+        mut half: L,
+    ) {
+        let mut seat = self.node.seat(rt);
+        let mut frames = FrameReader::new(self.alloc);
+        for _ in rt.forever() {
+            if self.is_over(rt, link) {
+                break;
+            }
+            if let Err(over) = self.read_piece(
+                rt,
+                &mut seat,
+                &mut frames,
+                link,
+                &queue,
+                &mut half,
+            ) {
+                warn!(rt; "link {}: closed: {over}", link.0);
+                break;
+            }
+            self.look(rt, &mut seat);
+        }
+        self.forget(rt, link);
+    }
+
+    /// Whether all ends, or the link's other thread has closed it.
+    fn is_over<R: Wait>(&self, rt: &R, link: LinkId) -> bool {
+        self.has_ended(rt) || !self.outlets.lock(rt).is_open(link)
+    }
+
+    /// Closes the link, and forgets what it brought too early.
+    fn forget<R: Wait>(&self, rt: &R, link: LinkId) {
+        self.edge.lock(rt).forget(link);
+        self.leave(rt, link);
+    }
+
+    /// Reads a piece, and hands in the frames that it makes whole.
+    fn read_piece<L: Link, R: Wait + time::Clock + Log>(
+        &self,
+        rt: &R,
+        seat: &mut Seat<J>,
+        frames: &mut FrameReader,
+        link: LinkId,
+        queue: &Queue,
+        half: &mut L,
+    ) -> Result<(), Over> {
+        let mut piece = [0u8; PIECE_BYTES];
+        match half.recv(rt, &mut piece) {
+            Received::Piece(count) => frames.feed(&piece[..count])?,
+            Received::Idle => return Ok(()),
+            Received::Ended => return Err(Over::Ended),
+            Received::Failed => return Err(Over::Failed),
+        }
+        self.hand_in_whole(rt, seat, frames, link, queue)
+    }
+
+    /// Hands in each frame that is whole.
+    fn hand_in_whole<R: Wait + time::Clock + Log>(
+        &self,
+        rt: &R,
+        seat: &mut Seat<J>,
+        frames: &mut FrameReader,
+        link: LinkId,
+        queue: &Queue,
+    ) -> Result<(), Over> {
+        for _ in rt.forever() {
+            let Some(frame) = frames.next_frame()? else {
+                break;
+            };
+            self.take_in(rt, seat, link, queue, frame);
+        }
+        Ok(())
+    }
+}

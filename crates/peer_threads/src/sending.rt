@@ -1,0 +1,96 @@
+//! What the node lets go, and the threads that send it.
+
+ghost use Rattle.messages.specs.Replies.{IsReply};
+
+use crate::outlets::{Queue, offered};
+use crate::shared::Shared;
+use bytes::Bytes;
+use edge_frames::LinkId;
+use log::{Log, warn};
+use messages::{Reply, spell_reply};
+use peer_links::{Clock, Link};
+use status_words::Node;
+use std::sync::Wait;
+use std::time;
+use vote_journal::Store;
+
+impl<S: Store + Drop, J: Node, C: Clock> Shared<'_, S, J, C> {
+    /// Queues what the node released, for every link, and schedules what it scheduled.
+    pub(crate) fn release<R: Wait + time::Clock + Log>(&self, rt: &R) {
+        let dropped = self.queue_outgoing(rt);
+        if dropped > 0 {
+            warn!(rt; "{dropped} frames are dropped, since a link has no room");
+        }
+        self.schedule(rt);
+    }
+
+    /// Frames are queued in the order in which they were released, since they are taken under the lock
+    /// of the queues. Answers how many were dropped.
+    fn queue_outgoing<R: Wait>(&self, rt: &R) -> u64 {
+        let outlets = self.outlets.lock(rt);
+        let mut dropped = 0u64;
+        for frame in self.node.take_outgoing(rt) {
+            let lost = match Bytes::from_vec(frame) {
+                Ok(frame) => outlets.offer(rt, &frame),
+                Err(_) => 1,
+            };
+            dropped = dropped.saturating_add(lost);
+        }
+        dropped
+    }
+
+    /// Hands the plan what the node scheduled.
+    fn schedule<R: Wait + time::Clock + Log>(&self, rt: &R) {
+        let timeouts = self.node.take_scheduled(rt);
+        if timeouts.is_empty() {
+            return;
+        }
+        let now = self.clock.now_ms(rt);
+        let mut plan = self.plan.lock(rt);
+        for timeout in timeouts {
+            if plan.schedule(now, timeout).is_err() {
+                warn!(rt; "a timeout is lost, since memory is short");
+            }
+        }
+    }
+
+    /// Queues a reply for one link.
+    pub(crate) fn reply<R: Wait + Log>(&self, rt: &R, queue: &Queue, reply: Reply)
+        requires { IsReply reply }
+    {
+        let queued = match Bytes::copy_from_slice(self.alloc, &spell_reply(reply)) {
+            Ok(frame) => offered(rt, queue, &frame),
+            Err(_) => false,
+        };
+        if !queued {
+            warn!(rt; "a reply is dropped, since its link has no room");
+        }
+    }
+
+    /// Sends what is queued for a link, until its queue has ended or it fails.
+    pub(crate) fn write_link<L: Link + Drop, R: Wait + time::Clock + Log>(
+        &self,
+        rt: &R,
+        link: LinkId,
+        queue: Queue,
+        mut half: L,
+    ) {
+        for _ in rt.forever() {
+            let Ok(frame) = queue.take(rt) else {
+                break;
+            };
+            if half.send(rt, &frame).is_err() {
+                warn!(rt; "link {}: closed, since it fails", link.0);
+                break;
+            }
+        }
+        self.leave(rt, link);
+    }
+
+    /// A thread of a link has ended, and with it the link is closed.
+    pub(crate) fn leave<R: Wait>(&self, rt: &R, link: LinkId) {
+        let mut outlets = self.outlets.lock(rt);
+        outlets.close(rt, link);
+        outlets.leave(link);
+    }
+}

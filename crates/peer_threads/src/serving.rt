@@ -1,0 +1,188 @@
+//! The threads of a node, from their start to their end.
+
+ghost use denote.Param.Send.{IsSend};
+
+use crate::edge::Edge;
+use crate::outlets::{Outlets, Queue};
+use crate::shared::{Ending, Shared};
+use edge_frames::LinkId;
+use locked_node::LockedNode;
+use log::{Log, info, warn};
+use peer_links::{Clock, Link, Links, Next, Peer};
+use status_words::{Node, Seat};
+use std::alloc::Global;
+use std::sync::{Mutex, Wait};
+use std::thread::{Scope, Threads};
+use std::{thread, time};
+use timeouts::Plan;
+use vote_journal::Store;
+
+/// How long it waits for links to end, in milliseconds at a time.
+const TURN_MS: u64 = 10;
+
+/// Serves peers until `stop` items are delivered (`Stopped`), the source of peers has none any more
+/// and every link has ended (`Ended`), a call of the node answered 17 or 15 (`Halted`), or no thread
+/// can be started for the time (`OutOfMemory`).
+///
+/// The node settles first. Each peer has a thread that reads and hands in whole frames, and one that
+/// sends what its queue holds. What the node releases goes to every link, and a reply to the link that
+/// the transaction came on. At the end what was released by then is sent first. A link that ends,
+/// fails, or names a length above 1,048,576 is closed and logged, and nothing of a frame that isn't
+/// whole is handed in; so is one more than 128.
+pub fn serve<
+    S: Store + Drop + Send,
+    J: Node + Send + Sync,
+    C: Clock + Sync,
+    L: Links + Drop,
+    R: Threads + Wait + time::Clock + Log + Sync,
+>(
+    rt: &R,
+    alloc: Global,
+    node: &LockedNode<S, J>,
+    mut links: L,
+    clock: &C,
+    plan: Plan,
+    stop: Option<u64>,
+) -> Ending {
+    let now = clock.now_ms(rt);
+    let shared = Shared {
+        alloc,
+        node,
+        clock,
+        stop,
+        plan: Mutex::new(plan),
+        edge: Mutex::new(Edge::new(alloc, now)),
+        outlets: Mutex::new(Outlets::new(alloc)),
+        ending: Mutex::new(None),
+    };
+    shared.run(rt, &mut links)
+}
+
+impl<'n, S: Store + Drop + Send, J: Node + Send + Sync, C: Clock + Sync> Shared<'n, S, J, C> {
+    /// Settles, runs the threads, and says why they ended.
+    fn run<L: Links, R: Threads + Wait + time::Clock + Log + Sync>(
+        &self,
+        rt: &R,
+        links: &mut L,
+    ) -> Ending {
+        let mut seat = self.node.seat(rt);
+        self.settle(rt, &mut seat);
+        self.run_threads(rt, &mut seat, links);
+        (*self.ending.lock(rt)).unwrap_or(Ending::Ended)
+    }
+
+    /// The timer and the peers, in one scope.
+    fn run_threads<L: Links, R: Threads + Wait + time::Clock + Log + Sync>(
+        &self,
+        rt: &R,
+        seat: &mut Seat<J>,
+        links: &mut L,
+    ) {
+        thread::scope(
+            thread::scope_env(),
+            rt,
+            |scope|
+                requires { IsSend L.Link.row }
+            {
+                if scope.spawn(move || self.run_timer(rt)).is_err() {
+                    self.end(rt, Ending::OutOfMemory);
+                }
+                for _ in rt.forever() {
+                    if self.has_ended(rt) || !self.take_peer(rt, scope, links) {
+                        break;
+                    }
+                    self.look(rt, seat);
+                }
+                self.wait_for_links(rt);
+                self.end(rt, Ending::Ended);
+            },
+        );
+    }
+
+    /// Waits until every link has ended, or all is to end.
+    fn wait_for_links<R: Wait + time::Clock>(&self, rt: &R) {
+        for _ in rt.forever() {
+            if self.has_ended(rt) || self.outlets.lock(rt).is_empty() {
+                break;
+            }
+            self.clock.wait_ms(rt, TURN_MS);
+        }
+    }
+
+    /// Takes the next peer, and starts its threads: false where none comes any more.
+    fn take_peer<'s, E, L: Links, R: Threads + Wait + time::Clock + Log + Sync + 's>(
+        &'s self,
+        rt: &'s R,
+        scope: &Scope<'s, E>,
+        links: &mut L,
+    ) -> bool
+    where
+        S: 's,
+        J: 's,
+        C: 's,
+        L::Link: 's,
+    {
+        match links.next(rt) {
+            Next::Peer(peer) => {
+                self.start(rt, scope, peer);
+                true
+            }
+            Next::Idle => true,
+            Next::None => false,
+        }
+    }
+
+    /// Starts a peer's threads.
+    fn start<'s, E, L: Link + Send + Drop + 's, R: Threads + Wait + time::Clock + Log + Sync + 's>(
+        &'s self,
+        rt: &'s R,
+        scope: &Scope<'s, E>,
+        peer: Peer<L>,
+    )
+    where
+        S: 's,
+        J: 's,
+        C: 's,
+    {
+        let Peer {
+            reader,
+            writer,
+            name,
+        } = peer;
+        let opened = self.outlets.lock(rt).open();
+        match opened {
+            Ok(open) => {
+                info!(rt; "link {}: {name}", open.link.0);
+                self.start_reader(rt, scope, open.link, open.reader, reader);
+                self.start_writer(rt, scope, open.link, open.writer, writer);
+            }
+            Err(fault) => warn!(rt; "{name}: closed: {fault}"),
+        }
+    }
+
+    fn start_reader<
+        's,
+        E,
+        L: Link + Send + Drop + 's,
+        R: Threads + Wait + time::Clock + Log + Sync + 's,
+    >(&'s self, rt: &'s R, scope: &Scope<'s, E>, link: LinkId, queue: Queue, half: L) {
+        let started = scope.spawn(move || self.read_link(rt, link, queue, half));
+        if started.is_err() {
+            warn!(rt; "link {}: closed: no thread can be started", link.0);
+            self.leave(rt, link);
+        }
+    }
+
+    fn start_writer<
+        's,
+        E,
+        L: Link + Send + Drop + 's,
+        R: Threads + Wait + time::Clock + Log + Sync + 's,
+    >(&'s self, rt: &'s R, scope: &Scope<'s, E>, link: LinkId, queue: Queue, half: L) {
+        let started = scope.spawn(move || self.write_link(rt, link, queue, half));
+        if started.is_err() {
+            warn!(rt; "link {}: closed: no thread can be started", link.0);
+            self.leave(rt, link);
+        }
+    }
+}

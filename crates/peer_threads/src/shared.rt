@@ -1,0 +1,72 @@
+//! What the threads share.
+
+use crate::edge::Edge;
+use crate::outlets::Outlets;
+use locked_node::LockedNode;
+use log::Log;
+use peer_links::Clock;
+use status_words::{Node, Seat};
+use std::alloc::Global;
+use std::sync::{Mutex, Wait};
+use std::time;
+use timeouts::Plan;
+use vote_journal::Store;
+
+/// Why the threads ended.
+#[derive(Clone, Copy, Debug, PartialEq, Eq)]
+pub enum Ending {
+    /// As many items as were wanted are delivered.
+    Stopped,
+    /// No peer comes any more, and every link has ended.
+    Ended,
+    /// The journal's device failed, in a call (17) or before (15).
+    Halted,
+    /// No thread can be started for the timer.
+    OutOfMemory,
+}
+
+/// The node, what is beside it, and whether all is to end.
+#[derive(Drop)]
+pub(crate) struct Shared<'a, S: Store + Drop, J: Node, C: Clock> {
+    pub(crate) alloc: Global,
+    pub(crate) node: &'a LockedNode<S, J>,
+    pub(crate) clock: &'a C,
+    /// How many delivered items are enough.
+    pub(crate) stop: Option<u64>,
+    pub(crate) plan: Mutex<Plan>,
+    pub(crate) edge: Mutex<Edge>,
+    pub(crate) outlets: Mutex<Outlets>,
+    pub(crate) ending: Mutex<Option<Ending>>,
+}
+
+impl<S: Store + Drop, J: Node, C: Clock> Shared<'_, S, J, C> {
+    /// Whether all is to end.
+    pub(crate) fn has_ended<R: Wait>(&self, rt: &R) -> bool {
+        self.ending.lock(rt).is_some()
+    }
+
+    /// Lets all end, by the first cause that comes. What the node released by then is queued, and
+    /// nothing behind it.
+    pub(crate) fn end<R: Wait + time::Clock + Log>(&self, rt: &R, ending: Ending) {
+        self.release(rt);
+        self.note_ending(rt, ending);
+        self.outlets.lock(rt).close_all(rt);
+    }
+
+    fn note_ending<R: Wait>(&self, rt: &R, ending: Ending) {
+        let mut noted = self.ending.lock(rt);
+        if noted.is_none() {
+            *noted = Some(ending);
+        }
+    }
+
+    /// Looks whether enough is delivered, and lets all end if so.
+    pub(crate) fn look<R: Wait + time::Clock + Log>(&self, rt: &R, seat: &mut Seat<J>) {
+        let Some(stop) = self.stop else {
+            return;
+        };
+        if self.node.status(seat).delivered >= stop && !self.has_ended(rt) {
+            self.end(rt, Ending::Stopped);
+        }
+    }
+}
