@@ -6,7 +6,8 @@ usage: gate/wrong_bodies.py [--built] [CRATE [EDIT..]]
 Edits of different functions' bodies stand in one check together. An edit counts as refused where the prover names a
 goal of the function that it changes; what its group didn't name goes into a further group, and in the end is tried
 alone, as is an edit of a constant or a type. An edit of a definition has a line 'by: LAW', and that law has to be
-refused with it.
+refused with it. So may an edit of a function's body have, with the function in the law's place: where the whole check of its
+crate is dear, that function alone is checked.
 Beside them stand the edits of crates/NAME/equal/, which say the same in other words: each has to be proved, so that a
 run can't call everything refused.
 
@@ -283,6 +284,7 @@ def verdict_by_law(crate, edit):
     if is_proved:
         return False, f"{edit.label}: NOT REFUSED: {edit.law} is still proved with this edit"
     told = [it for it in lines if ": error: " in it and "was not admitted" not in it and not NAMES.search(it)]
+    told += [it for it in lines if re.match(r"note: src/\S+: it is not proved", it)]
     little = "" if told else " (only because a proof file names what the edit took away)"
     return True, f"{edit.label}: refused, as it must be{little}, by {edit.law}: {(told or [''])[0][:120]}"
 

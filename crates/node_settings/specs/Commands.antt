@@ -29,9 +29,13 @@ send_app = with_rules (new_app (codes "send"))
     (option (codes "id") true ∷ option (codes "validators") true ∷ option (codes "keys") true ∷ option (codes "to") true ∷ option (codes "number") true
     ∷ option (codes "data") false ∷ flag (codes "close") ∷ [])
 
--- `tmnode run ..` and `tmnode send ..`, with `--help` and `--version`, and no word `help`
+abbrev pub keys_app : App
+keys_app = with_rules (new_app (codes "keys"))
+    (option (codes "validators") true ∷ option (codes "clients") true ∷ option (codes "out") true ∷ [])
+
+-- `tmnode run ..`, `tmnode send ..` and `tmnode keys ..`, with `--help` and `--version`, and no word `help`
 abbrev pub node_app : App
 node_app =
     let top : App = new_app (codes "tmnode") in
     let named : App = record top { top = record top.top { has_version = true; disable_help_subcommand = true } } in
-    with_subcommand (with_subcommand named run_app.top) send_app.top
+    with_subcommand (with_subcommand (with_subcommand named run_app.top) send_app.top) keys_app.top

@@ -24,6 +24,8 @@ keys_number in_keys.Unreadable = 0
 keys_number in_keys.BadLine = 1
 keys_number in_keys.Missing = 2
 keys_number in_keys.Repeated = 3
+keys_number in_keys.Unwritten = 4
+keys_number in_keys.NoBytes = 5
 
 abbrev pub journal_number : JournalTrouble → ℕ
 journal_number in_journal.Unopened = 0

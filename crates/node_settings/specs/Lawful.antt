@@ -3,8 +3,9 @@ use Rattle.std.specs.Prelude.{◌≡◌, ◌<◌, ◌≤◌, ◌^◌, length}
 use Rattle.transactions.specs.Grammar.{IsOp}
 use Rattle.node_settings.specs.declared.invocation.RunSettings.{RunSettings}
 use Rattle.node_settings.specs.declared.invocation.SendSettings.{SendSettings}
+use Rattle.node_settings.specs.declared.invocation.KeysSettings.{KeysSettings}
 use Rattle.node_settings.specs.declared.invocation.Invocation.{Invocation}
-use Rattle.node_settings.specs.declared.invocation.Invocation.TheVariants.{Run, Send, Page}
+use Rattle.node_settings.specs.declared.invocation.Invocation.TheVariants.{Run, Send, Keys, Page}
 
 -- of a validator: it is one of those that have powers, each of which has an address
 pub record IsLawfulRun (s : RunSettings) : Type 0 where
@@ -22,7 +23,14 @@ pub record IsLawfulSend (s : SendSettings) : Type 0 where
   pub last : s.number ≤ 2 ^ 48
   pub op : IsOp s.op
 
+-- of the parties whose key files are made: as many as a cluster may have
+pub record IsLawfulKeys (s : KeysSettings) : Type 0 where
+  pub several : 2 ≤ s.validators
+  pub few : s.validators ≤ 64
+  pub clients : s.clients ≤ 1024
+
 abbrev pub IsLawful : Invocation → Type 0
 IsLawful (Run s) = IsLawfulRun s
 IsLawful (Send s) = IsLawfulSend s
+IsLawful (Keys s) = IsLawfulKeys s
 IsLawful (Page p) = Unit {0}

@@ -15,6 +15,7 @@ use Rattle.node_settings.specs.declared.invocation.SettingsFault.{SettingsFault}
 use Rattle.node_settings.specs.declared.invocation.SettingsFault.TheVariants.{Usage, OutOfMemory}
 use Rattle.node_settings.specs.declared.invocation.RunSettings.{RunSettings}
 use Rattle.node_settings.specs.declared.invocation.SendSettings.{SendSettings}
+use Rattle.node_settings.specs.declared.invocation.KeysSettings.{KeysSettings}
 use Rattle.node_settings.specs.declared.invocation.Invocation.{Invocation}
 use Rattle.node_settings.specs.declared.invocation.Invocation.TheVariants as asks
 
@@ -38,9 +39,15 @@ pub record Send : Type 0 where
   pub number : ℕ
   pub op : Op
 
+pub record Keys : Type 0 where
+  pub validators : ℕ
+  pub clients : ℕ
+  pub out : Text
+
 pub data Asked : Type 0 where
   run : Run → Asked
   send : Send → Asked
+  keys : Keys → Asked
   page : Asked
 
 abbrev pub run_words : RunSettings → Run
@@ -65,9 +72,13 @@ send_words s = record {
   op = s.op;
 }
 
+abbrev pub keys_words : KeysSettings → Keys
+keys_words s = record { validators = s.validators; clients = s.clients; out = s.out.now }
+
 abbrev pub invocation_words : Invocation → Asked
 invocation_words (asks.Run s) = run (run_words s)
 invocation_words (asks.Send s) = send (send_words s)
+invocation_words (asks.Keys s) = keys (keys_words s)
 invocation_words (asks.Page p) = page
 
 -- ---- what the words of each option make of them
@@ -82,7 +93,7 @@ cluster_of powers peers me = do
 unfoldable pub run_of : List Row → Result Run SettingsFault
 run_of rows = do
   me ← number_given 0 63 (codes "id") rows
-  keys ← given (codes "keys") rows
+  key_file ← given (codes "keys") rows
   journal ← given (codes "journal") rows
   start ← number_given 0 86400000 (codes "start") rows
   delta ← number_given 0 86400000 (codes "delta") rows
@@ -90,24 +101,38 @@ run_of rows = do
   powers ← given (codes "powers") rows
   peers ← given (codes "peers") rows
   both ← cluster_of powers peers me
-  Ok (record { me = me; powers = both.0; keys = keys; journal = journal; peers = both.1; start = start; delta = delta; stop = stop })
+  Ok (record { me = me; powers = both.0; keys = key_file; journal = journal; peers = both.1; start = start; delta = delta; stop = stop })
+
+-- how many validators there are
+unfoldable pub validators_of : List Row → Result ℕ SettingsFault
+validators_of rows = number_given 2 64 (codes "validators") rows
 
 unfoldable pub send_of : List Row → Result Send SettingsFault
 send_of rows = do
   client ← number_given 0 1023 (codes "id") rows
-  validators ← number_given 2 64 (codes "validators") rows
-  keys ← given (codes "keys") rows
+  validators ← validators_of rows
+  key_file ← given (codes "keys") rows
   to ← given (codes "to") rows
   number ← number_given 1 (2 ^ 48) (codes "number") rows
   op ← op_of (first_of (codes "data") rows) (is_flagged (codes "close") rows)
-  Ok (record { client = client; validators = validators; keys = keys; to = to; number = number; op = op })
+  Ok (record { client = client; validators = validators; keys = key_file; to = to; number = number; op = op })
+
+unfoldable pub keys_of : List Row → Result Keys SettingsFault
+keys_of rows = do
+  validators ← validators_of rows
+  clients ← number_given 0 1024 (codes "clients") rows
+  out ← given (codes "out") rows
+  Ok (record { validators = validators; clients = clients; out = out })
 
 -- ---- the whole command line
 
--- the settings of the subcommand that the words enter: `run`, or the only other one
+-- the settings of the subcommand that the words enter: `run`, `send`, or the only one left, `keys`
 abbrev pub entered_of : Option (Text × List Row) → Result Asked SettingsFault
 entered_of None = Err Usage
-entered_of (Some (name, rows)) = if bytes_eq name (codes "run") then (run_of rows >>= λ s. Ok (run s)) else (send_of rows >>= λ s. Ok (send s))
+entered_of (Some (name, rows)) =
+    if bytes_eq name (codes "run") then (run_of rows >>= λ s. Ok (run s))
+    else if bytes_eq name (codes "send") then (send_of rows >>= λ s. Ok (send s))
+    else (keys_of rows >>= λ s. Ok (keys s))
 
 -- what words ask for whose parse ends with a fault of this kind
 abbrev pub asked_by : ErrorKind → Result Asked SettingsFault

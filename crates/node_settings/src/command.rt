@@ -2,7 +2,7 @@
 
 ghost use Rattle.std.specs.Prelude.{◌≡◌, IfOk, map};
 ghost use Rattle.clap.specs.Words.{app_of};
-ghost use Rattle.node_settings.specs.Commands.{rule_for, with_rules, run_app, send_app, node_app};
+ghost use Rattle.node_settings.specs.Commands.{rule_for, with_rules, run_app, send_app, keys_app, node_app};
 
 use clap::{Arg, ArgAction, Command};
 use std::alloc::{AllocError, Global};
@@ -110,6 +110,27 @@ static SEND: [WordOption; 6] = [
     },
 ];
 
+static KEYS: [WordOption; 3] = [
+    WordOption {
+        name: "validators",
+        is_required: true,
+        value: "N",
+        help: "How many validators there are, 2 to 64",
+    },
+    WordOption {
+        name: "clients",
+        is_required: true,
+        value: "C",
+        help: "How many clients there are, 0 to 1024",
+    },
+    WordOption {
+        name: "out",
+        is_required: true,
+        value: "DIR",
+        help: "The folder that the key files are written into; it is made where it isn't there",
+    },
+];
+
 /// The command with these options added in turn.
 fn with_options<'a>(
     alloc: Global,
@@ -147,16 +168,27 @@ fn send_command<'a>(alloc: Global) -> Result<Command<'a>, AllocError>
     with_options(alloc, command, SEND.as_slice())?.arg(close)
 }
 
+fn keys_command<'a>(alloc: Global) -> Result<Command<'a>, AllocError>
+    ensures { IfOk result (λ made. app_of made ≡ keys_app) }
+{
+    let command = Command::new(alloc, "keys").about("Makes the key file of every party");
+    with_options(alloc, command, KEYS.as_slice())
+}
+
 /// The whole command line.
 pub fn node_command<'a>(alloc: Global) -> Result<Command<'a>, AllocError>
     ensures { IfOk result (λ made. app_of made ≡ node_app) }
 {
     let run = run_command(alloc)?;
     let send = send_command(alloc)?;
+    let keys = keys_command(alloc)?;
     Command::new(alloc, "tmnode")
-        .about("Runs a validator of an atomic broadcast, or sends it a transaction")
+        .about(
+            "Runs a validator of an atomic broadcast, sends it a transaction, or makes the key files",
+        )
         .version(VERSION)
         .disable_help_subcommand(true)
         .subcommand(run)?
-        .subcommand(send)
+        .subcommand(send)?
+        .subcommand(keys)
 }

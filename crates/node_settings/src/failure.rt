@@ -8,7 +8,7 @@ use authenticators::KeysFault;
 use std::fmt;
 use vote_journal::JournalFault;
 
-/// Why a key file gives no ring.
+/// Why a key file gives no ring, or isn't made.
 #[derive(Clone, Copy, Debug, PartialEq, Eq)]
 pub enum KeysTrouble {
     /// 0: the file can't be opened, or be read to its end.
@@ -19,10 +19,14 @@ pub enum KeysTrouble {
     Missing = 2,
     /// 3: a key comes twice.
     Repeated = 3,
+    /// 4: a key file can't be made or be written, or is there already.
+    Unwritten = 4,
+    /// 5: the system gave no random bytes.
+    NoBytes = 5,
 }
 
 impl KeysTrouble {
-    /// Its number, 0 to 3.
+    /// Its number, 0 to 5.
     pub fn number(self) -> u8
         ensures { result ≡ keys_number self }
     {

@@ -1,12 +1,12 @@
 //! What a command line asks for.
 
-ghost use Rattle.std.specs.Prelude.{◌≡◌, ◌<◌, IfOk, length, map, option_map};
+ghost use Rattle.std.specs.Prelude.{◌≡◌, ◌<◌, ◌≤◌, IfOk, length, map, option_map};
 ghost use Rattle.clap.specs.Words.{found_of, rows_of, kind_of, subcommand_rows_of};
 ghost use Rattle.transactions.specs.Grammar.{IsOp};
 ghost use Rattle.node_settings.specs.Words.{Gives, op_of};
 ghost use Rattle.node_settings.specs.Failures.{settings_number};
-ghost use Rattle.node_settings.specs.Lawful.{IsLawful, IsLawfulRun, IsLawfulSend};
-ghost use Rattle.node_settings.specs.Settings.{run_words, send_words, invocation_words, run_of, send_of, cluster_of, entered_of, settings_of, asked_by};
+ghost use Rattle.node_settings.specs.Lawful.{IsLawful, IsLawfulRun, IsLawfulSend, IsLawfulKeys};
+ghost use Rattle.node_settings.specs.Settings.{run_words, send_words, keys_words, invocation_words, run_of, validators_of, send_of, keys_of, cluster_of, entered_of, settings_of, asked_by};
 
 use crate::command::node_command;
 use crate::lists::{bytes_of, powers_of, words_of};
@@ -21,6 +21,9 @@ use transactions::Op;
 
 /// The greatest number of validators.
 const MOST_VALIDATORS: u64 = 64;
+
+/// The greatest number of clients.
+const MOST_CLIENTS: u64 = 1024;
 
 /// The greatest number of a client.
 const LAST_CLIENT: u64 = 1023;
@@ -110,6 +113,17 @@ pub struct SendSettings<'a> {
     pub op: Op,
 }
 
+/// The settings of `tmnode keys`.
+#[derive(Debug, Drop)]
+pub struct KeysSettings<'a> {
+    /// How many validators there are, 2 to 64.
+    pub validators: u16,
+    /// How many clients there are, at most 1,024.
+    pub clients: u16,
+    /// The name of the folder for the key files.
+    pub out: &'a str,
+}
+
 /// The page that `--help` or `--version` asks for, with its line feeds.
 #[derive(Debug, Drop)]
 pub struct Page(Error);
@@ -127,6 +141,8 @@ pub enum Invocation<'a> {
     Run(RunSettings<'a>),
     /// To send a transaction.
     Send(SendSettings<'a>),
+    /// To make the key file of every party.
+    Keys(KeysSettings<'a>),
     /// To print a page on standard output; the exit status is then 0.
     Page(Page),
 }
@@ -169,8 +185,10 @@ fn entered<'a>(alloc: Global, found: &ArgMatches<'a>) -> Result<Invocation<'a>, 
     };
     if name == "run" {
         Ok(Invocation::Run(RunSettings::read(alloc, inner)?))
-    } else {
+    } else if name == "send" {
         Ok(Invocation::Send(SendSettings::read(alloc, inner)?))
+    } else {
+        Ok(Invocation::Keys(KeysSettings::read(inner)?))
     }
 }
 
@@ -221,6 +239,15 @@ fn cluster<'a>(
     }
 }
 
+/// How many validators there are, 2 to 64.
+#[tactic(auto, unfolding(crate::specs::Settings::validators_of))]
+fn validators_of(found: &ArgMatches<'_>) -> Result<u16, SettingsFault>
+    ensures asked { result ≡ validators_of (rows_of (found_of found.now)) }
+    ensures lawful { IfOk result (λ count. (2 ≤ count) × (count ≤ 64)) }
+{
+    Ok(number(found, "validators", 2, MOST_VALIDATORS)? as u16)
+}
+
 impl<'a> SendSettings<'a> {
     /// Those of the words behind `send`.
     #[tactic(auto, unfolding(crate::specs::Settings::send_of))]
@@ -229,7 +256,7 @@ impl<'a> SendSettings<'a> {
         ensures lawful { IfOk result IsLawfulSend }
     {
         let client = number(found, "id", 0, LAST_CLIENT)? as u16;
-        let validators = number(found, "validators", 2, MOST_VALIDATORS)? as u16;
+        let validators = validators_of(found)?;
         let keys = word(found, "keys")?;
         let to = word(found, "to")?;
         let number = number(found, "number", 1, LAST_NUMBER)?;
@@ -242,6 +269,24 @@ impl<'a> SendSettings<'a> {
             to,
             number,
             op,
+        })
+    }
+}
+
+impl<'a> KeysSettings<'a> {
+    /// Those of the words behind `keys`.
+    #[tactic(auto, unfolding(crate::specs::Settings::keys_of))]
+    fn read(found: &ArgMatches<'a>) -> Result<KeysSettings<'a>, SettingsFault>
+        ensures asked { Gives keys_words result (keys_of (rows_of (found_of found.now))) }
+        ensures lawful { IfOk result IsLawfulKeys }
+    {
+        let validators = validators_of(found)?;
+        let clients = number(found, "clients", 0, MOST_CLIENTS)? as u16;
+        let out = word(found, "out")?;
+        Ok(KeysSettings {
+            validators,
+            clients,
+            out,
         })
     }
 }

@@ -5,7 +5,8 @@
 //!   is a validator: number I of those with these powers and addresses.
 //! - `tmnode send --id C --validators N --keys FILE --to ADDR --number M` with one of `--data HEX` and `--close` sends one
 //!   transaction of client C.
-//! - `--help`, also behind `run` or `send`, and `--version` ask for a page.
+//! - `tmnode keys --validators N --clients C --out DIR` makes the key file of each of so many validators and clients.
+//! - `--help`, also behind `run`, `send` or `keys`, and `--version` ask for a page.
 //!
 //! Numbers are decimal digits alone. Nothing here opens a file or a socket.
 #![tactic(auto)]
@@ -19,4 +20,6 @@ mod options;
 
 pub use answer::Answer;
 pub use failure::{Failure, JournalTrouble, KeysTrouble};
-pub use invocation::{Invocation, Page, RunSettings, SendSettings, SettingsFault, settings};
+pub use invocation::{
+    Invocation, KeysSettings, Page, RunSettings, SendSettings, SettingsFault, settings,
+};

@@ -1,6 +1,6 @@
 //! Command lines, and what they ask for.
 
-use node_settings::{Invocation, RunSettings, SendSettings, settings};
+use node_settings::{Invocation, KeysSettings, RunSettings, SendSettings, settings};
 use std::alloc::{AllocError, Global};
 use std::process::Abort;
 use std::test::Fail;
@@ -12,6 +12,7 @@ fn asked(alloc: Global, line: &str) -> Result<String, AllocError> {
     match settings(alloc, &words) {
         Ok(Invocation::Run(run)) => shown_run(alloc, &run),
         Ok(Invocation::Send(send)) => shown_send(alloc, &send),
+        Ok(Invocation::Keys(keys)) => shown_keys(alloc, &keys),
         Ok(Invocation::Page(page)) => format!(in alloc; "{page}"),
         Err(fault) => format!(in alloc; "{fault}"),
     }
@@ -42,6 +43,10 @@ fn shown_send(alloc: Global, send: &SendSettings<'_>) -> Result<String, AllocErr
         "{} to {} of {}, {}, {} {op}",
         send.client, send.to, send.validators, send.keys, send.number
     )
+}
+
+fn shown_keys(alloc: Global, keys: &KeysSettings<'_>) -> Result<String, AllocError> {
+    format!(in alloc; "{} and {} in {}", keys.validators, keys.clients, keys.out)
 }
 
 /// The line asks for this.
@@ -145,13 +150,44 @@ fn bad_send_lines(rt: HostRuntime) -> Result<(), Fail> {
 }
 
 #[test]
+fn keys_lines(rt: HostRuntime) -> Result<(), Fail> {
+    let alloc = rt.alloc();
+    assert_asked(
+        &rt,
+        alloc,
+        "tmnode keys --validators 64 --clients 1024 --out d/e",
+        "64 and 1024 in d/e",
+    )?;
+    assert_asked(
+        &rt,
+        alloc,
+        "tmnode keys --out=. --clients 0 --validators 2",
+        "2 and 0 in .",
+    )
+}
+
+#[test]
+fn bad_keys_lines(rt: HostRuntime) -> Result<(), Fail> {
+    let alloc = rt.alloc();
+    assert_usage(
+        &rt,
+        alloc,
+        "tmnode keys ",
+        "--validators 4 --clients 8\n--validators 4 --out d\n--clients 8 --out d\n--validators 1 --clients 8 --out d\n\
+--validators 65 --clients 8 --out d\n--validators 4 --clients 1025 --out d\n--validators 4 --clients -1 --out d\n\
+--validators 4 --clients  --out d\n--validators 4 --clients 8 --out d e\n--validators 4 --clients 8 --out d --out d\n\
+--validators 4 --clients 8 --out d --keys k\n--validators 4 --clients 8 --out",
+    )
+}
+
+#[test]
 fn other_lines(rt: HostRuntime) -> Result<(), Fail> {
     let alloc = rt.alloc();
     assert_usage(
         &rt,
         alloc,
         "tmnode",
-        "\n \n walk\n help\n --id 1\n run\n send\n -x",
+        "\n \n walk\n help\n --id 1\n run\n send\n keys\n -x",
     )
 }
 
@@ -161,7 +197,10 @@ fn pages(rt: HostRuntime) -> Result<(), Fail> {
     assert_asked(&rt, alloc, "tmnode --version", "tmnode 0.1.0\n")?;
     let page = asked(alloc, "tmnode --help")?;
     assert!(rt;
-        page.contains("run") && page.contains("send") && page.contains("--version"),
+        page.contains("run")
+            && page.contains("send")
+            && page.contains("keys")
+            && page.contains("--version"),
         "{page}"
     );
     let page = asked(alloc, "tmnode run --help")?;
@@ -172,6 +211,11 @@ fn pages(rt: HostRuntime) -> Result<(), Fail> {
     let page = asked(alloc, "tmnode send --help")?;
     assert!(rt;
         page.contains("--data <HEX>") && page.contains("--close"),
+        "{page}"
+    );
+    let page = asked(alloc, "tmnode keys --help")?;
+    assert!(rt;
+        page.contains("--clients <C>") && page.contains("--out <DIR>"),
         "{page}"
     );
     Ok(())

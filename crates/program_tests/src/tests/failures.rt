@@ -39,6 +39,20 @@ fn each_failure(rt: HostRuntime) -> Result<(), Fail> {
     assert_end(
         &rt,
         alloc,
+        Failure::Keys(KeysTrouble::Unwritten),
+        "tmnode: keys 4",
+        3,
+    )?;
+    assert_end(
+        &rt,
+        alloc,
+        Failure::Keys(KeysTrouble::NoBytes),
+        "tmnode: keys 5",
+        3,
+    )?;
+    assert_end(
+        &rt,
+        alloc,
         Failure::Journal(JournalTrouble::Unopened),
         "tmnode: journal 0",
         4,

@@ -17,7 +17,10 @@ returns c =
     ∙ ap with_no_help (ap app_of_fields c.version.ensures ∙ ap with_version (ap app_of_fields c.about.ensures ∙ c.new.ensures.app)) in
     let run_is = ap (λ (a : App). a.top) c.in_ok-run.ensures in
     let send_is = ap (λ (a : App). a.top) c.in_ok-send.ensures in
+    let keys_is = ap (λ (a : App). a.top) c.in_ok-keys.ensures in
     let run_plain = and_parts _ _ (and_parts _ _ (and_parts _ _ (ap (λ (s : Shape). s.is_plain) run_is)).1).1 in
     let send_plain = and_parts _ _ (and_parts _ _ (and_parts _ _ (ap (λ (s : Shape). s.is_plain) send_is)).1).1 in
+    let keys_plain = and_parts _ _ (and_parts _ _ (and_parts _ _ (ap (λ (s : Shape). s.is_plain) keys_is)).1).1 in
     let first_is = c.in_ok-subcommand.ensures.shape (not-true _ run_plain.0) ∙ ap₂ with_subcommand top_is run_is in
-    IfOk-weaker c.subcommand-2.result _ _ (λ made added. added.shape (not-true _ send_plain.0) ∙ ap₂ with_subcommand first_is send_is) c.subcommand-2.ensures
+    let second_is = c.in_ok-subcommand-2.ensures.shape (not-true _ send_plain.0) ∙ ap₂ with_subcommand first_is send_is in
+    IfOk-weaker c.subcommand-3.result _ _ (λ made added. added.shape (not-true _ keys_plain.0) ∙ ap₂ with_subcommand second_is keys_is) c.subcommand-3.ensures
