@@ -5,7 +5,8 @@ usage: gate/whole.py
 
 Its stages run in turn, each of which says 'N passed, M failed' on its last line: the files' layout; what must not
 compile; `rt ci`, which proves and tests each crate and runs each program; the schedules, by the program as both
-compilers made it; one of them with each write of the validator's journal failing; and the wrong bodies. Then come the
+compilers made it; one of them with each write of the validator's journal failing; what `tmnode` says of failures and what a
+cluster of it outlives, as processes; and the wrong bodies. Then come the
 processor seconds of each crate, and a last line that counts everything. Where the layout or `rt ci` fails, nothing behind
 it is tried.
 """
@@ -28,6 +29,7 @@ STAGES = {
     "schedules, as LLVM builds the program": ["schedules/check.sh", "--with", "crates/tmsim/out/tmsim"],
     "schedules, as Rattle's compiler builds it": ["schedules/check.sh", "--with", "crates/tmsim/out/tmsim.by-rattle"],
     "a stop at each write": ["schedules/each_stop.py", "--with", "crates/tmsim/out/tmsim"],
+    "the program as processes": ["test/processes.py", "--with", "crates/tmnode/out/tmnode"],
     "wrong bodies": ["gate/wrong_bodies.py", "--built"],
 }
 # What is said where a stage fails behind which nothing is tried.

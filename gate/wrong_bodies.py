@@ -3,7 +3,7 @@
 
 usage: gate/wrong_bodies.py [--built] [CRATE [EDIT..]]
 
-Edits of different functions' bodies stand in one check together. An edit counts as refused where the prover names a
+Edits of different functions' bodies stand in one check together, of those functions and what they call. An edit counts as refused where the prover names a
 goal of the function that it changes; what its group didn't name goes into a further group, and in the end is tried
 alone, as is an edit of a constant or a type. An edit of a definition has a line 'by: LAW', and that law has to be
 refused with it. So may an edit of a function's body have, with the function in the law's place: where the whole check of its
@@ -52,11 +52,30 @@ class BadEdit(Exception):
     """An edit that can't be tried: a fault of its own text."""
 
 
+def modules_of(file):
+    """The names of the modules that lead to a file."""
+    path = file[len("src/") : -len(".rt")].split("/")
+    return [it for it in path if it not in ("lib", "main", "mod")]
+
+
+def modules_of_types(folder):
+    """Returns where each type of a crate stands."""
+    found = {}
+    for above, _, names in os.walk(f"{folder}/src"):
+        for path in (f"{above}/{name}" for name in names if name.endswith(".rt")):
+            with open(path, encoding="utf-8") as it:
+                types = re.findall(r"(?m)^(?:pub(?:\(\w+\))? )?(?:struct|enum) (\w+)", it.read())
+            found.update(dict.fromkeys(types, modules_of(os.path.relpath(path, folder))))
+    return found
+
+
 class Function(NamedTuple):
-    """A function of a file in the layout of `rt fmt`: its lines, from 0 and from its attributes on, and where its body begins."""
+    """A function of a file in the layout of `rt fmt`: its lines, from 0 and from its attributes on, and where its body begins.
+    `owner` is the type or trait that it belongs to, and `block` what the check calls its `impl` or trait."""
 
     file: str
     owner: str
+    block: str
     name: str
     first: int
     body: int
@@ -66,10 +85,12 @@ class Function(NamedTuple):
     def key(self):
         return self.file, self.owner, self.name
 
+    def path(self, modules):
+        """Its path below the crate, as the check prints it: a type's own function stands where the type does."""
+        return "::".join(filter(None, [*modules.get(self.block, self.modules()), self.block, self.name]))
+
     def modules(self):
-        """The names of the modules that lead to its file."""
-        path = self.file[len("src/") : -len(".rt")].split("/")
-        return [it for it in path if it not in ("lib", "main", "mod")]
+        return modules_of(self.file)
 
     def has_proof_folder(self, folder):
         """Whether the proof files of this folder below proofs/ are the function's: a method's stand at its type."""
@@ -84,22 +105,32 @@ class Function(NamedTuple):
         return first == crate and self.has_proof_folder("/".join([*above, name]))
 
 
-def owner_of(head):
-    """Returns the type that an `impl` is of, or the trait that a `trait` declares."""
+def without_arguments(head):
+    """Returns the head of a block without what stands between angle brackets."""
     while re.search(r"<[^<>]*>", head):
         head = re.sub(r"<[^<>]*>", "", head)
-    return re.findall(r"\w+", head.split(" for ")[-1].replace("impl", "", 1).replace("trait", "", 1))[0]
+    return head
+
+
+def owner_of(head):
+    """Returns the type that an `impl` is of, or the trait that a `trait` declares, and what the check calls the block: an
+    `impl` of a trait by its type, the trait, and the type that the trait is given; another of a type that is given one by
+    both."""
+    given = re.findall(r"\bFrom<(\w+).* for ", head) or [f"+{it}" for it in re.findall(r"^impl \w+<([A-Z]\w+)> *$", head)]
+    parts = re.sub(r"^(unsafe )?(impl|trait)\b", "", without_arguments(head)).split(" for ")
+    names = [re.match(r"\W*(?:\w+::)*(\w+)", it)[1] for it in parts]
+    return names[-1], "".join([*reversed(names), *given])
 
 
 def functions_of(file, text):
     """Returns the functions of a file, by its layout: a body ends at the line that closes it at the head's indent."""
-    lines, found, owner = text.split("\n"), [], ""
+    lines, found, owner = text.split("\n"), [], ("", "")
     for at, line in enumerate(lines):
         head = re.match(r"(unsafe )?(impl\b|(pub )?trait ).*", line)
         if head:
             owner = owner_of(" ".join(lines[at : at + 4]).split("{")[0].replace("pub ", "", 1))
         elif line == "}":
-            owner = ""
+            owner = ("", "")
         head = re.match(r"( *)(pub(\([a-z]+\))? )?(const )?(unsafe )?fn (\w+)", line)
         if not head:
             continue
@@ -112,7 +143,7 @@ def functions_of(file, text):
             continue
         ended = (it for it in range(body + 1, len(lines)) if lines[it] == indent + "}")
         last = body if lines[body].endswith("{}") else next(ended, len(lines) - 1)
-        found.append(Function(file, owner if indent else "", name, first, body, last))
+        found.append(Function(file, *(owner if indent else ("", "")), name, first, body, last))
     return found
 
 
@@ -235,14 +266,22 @@ def is_proved(crate, function, text, lines):
 
 
 class Group:
-    """Edits of one crate in one check."""
+    """Edits of one crate in one check, of the functions that they change and what those call."""
 
     def __init__(self, crate, edits, kept):
         self.crate, self.texts = crate, texts_with(crate, edits)
-        ran = rt.checked(crate, self.texts.changed, ONE_JOB, kept)
+        where = modules_of_types(crate.folder)
+        paths = {it.path(where) for edit in edits for key in edit.functions for it in self.spans_of(key)}
+        ran = rt.checked(crate, self.texts.changed, [*ONE_JOB, *(word for it in sorted(paths) for word in ("--only", it))], kept)
+        if ran.returncode == 2 and paths:
+            # (a function that the check calls otherwise)
+            ran = rt.checked(crate, self.texts.changed, ONE_JOB, kept)
         self.lines = ran.stdout.rstrip("\n").split("\n")
-        reached = ran.returncode in (0, 1) and self.lines[-1].startswith("logic=")
+        reached = ran.returncode in (0, 1) and self.lines[-1].startswith(("logic=", "only="))
         self.is_read = reached and not any(rt.unread(it, self.texts.changed) for it in self.lines)
+
+    def spans_of(self, key):
+        return [it for it in functions_of(key[0], self.texts.of(key[0])) if it.key == key]
 
     def verdict(self, edit):
         """Returns whether all is well with the edit and what to say, or None where this check can't tell."""

@@ -43,3 +43,5 @@ impl Record {
         ensures { self.new.events ≡ event_of _numbers.now _bytes.now ∷ self.old.events }
     {}
 }
+
+unsafe impl Send for Record {}

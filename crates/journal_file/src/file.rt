@@ -10,6 +10,7 @@ use std::fs::{File, OpenOptions, TryLockError};
 use std::io;
 use std::io::{ErrorKind, Read, Write};
 use std::path::Path;
+use std::rt::Files;
 use thiserror::Error;
 use vote_journal::{DeviceFailed, Store, StoreFault};
 
@@ -43,7 +44,7 @@ pub struct FileStore {
 }
 
 /// Opens the file for reading and for appending, and makes one that is missing.
-fn open_or_make(rt: &HostRuntime, path: &str) -> io::Result<File> {
+fn open_or_make<R: Files<File = File>>(rt: &R, path: &str) -> io::Result<File> {
     let file = OpenOptions::new()
         .read(true)
         .append(true)
@@ -57,7 +58,7 @@ fn open_or_make(rt: &HostRuntime, path: &str) -> io::Result<File> {
 }
 
 /// Syncs the directory, so that a stop leaves a file that was made.
-fn sync_directory(rt: &HostRuntime, path: &str) -> io::Result<()> {
+fn sync_directory<R: Files<File = File>>(rt: &R, path: &str) -> io::Result<()> {
     let name = match Path::new(path).parent() {
         Some(parent) if !parent.as_str().is_empty() => parent.as_str(),
         _ => ".",
@@ -76,7 +77,10 @@ fn lock(file: &File) -> Result<(), FileFault> {
 impl FileStore {
     /// Opens the file at this path, or makes it, empty. It is synced before it is read, and its directory too, so that
     /// what it is found to hold is what a stop leaves.
-    pub fn open(rt: &HostRuntime, path: &str) -> Result<FileStore, FileFault>
+    pub fn open<R: Files<File = File> + AllocGlobal>(
+        rt: &R,
+        path: &str,
+    ) -> Result<FileStore, FileFault>
         ensures { IfOk result (λ store. IsSome store.found × (store.failures ≡ 0)) }
     {
         let mut file = open_or_make(rt, path)?;

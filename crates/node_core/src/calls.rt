@@ -9,12 +9,13 @@ ghost use Rattle.protocol.specs.Refusals.{answer};
 ghost use Rattle.protocol.specs.Calls.{timeout_answer};
 ghost use Rattle.protocol.specs.History.{Settle, Given, Due};
 ghost use Rattle.node_core.specs.Core.{Stands, setting_of, frame_by};
+ghost use Rattle.node_core.specs.Next.{HandlesNext};
 ghost use Rattle.node_core.specs.Calls.{Answers, IsDone, IsTaken, IsUnfired, IsUnchanged, TellsJournal};
 
 use crate::node::NodeCore;
 use crate::refusal::Refusal;
 use frame_admission::{admit, frame_for};
-use messages::{Ask, Body};
+use messages::{Ask, Body, FrameReader};
 use protocol::Timeout;
 use round_machine::{Rule, holds_timeout, timeout_refusal};
 use std::alloc::AllocError;
@@ -33,6 +34,23 @@ impl<S: Store + Drop> NodeCore<S> {
         let message = admit(self.alloc, &self.ring, frame)?;
         self.take(message)?;
         self.fire_all()
+    }
+
+    /// Takes in the next frame of a stream, where it stands whole in this reader: whether it does. Then the call is as `handle` of
+    /// that frame.
+    ///
+    /// `TooLong` also tells that the reader's next length is above the limit: the stream is of no more use.
+    pub fn handle_next(&mut self, reader: &mut FrameReader) -> Result<bool, Refusal>
+        ensures { HandlesNext reader.old result reader.new self.old self.new }
+    {
+        match reader.next_frame() {
+            Ok(Some(frame)) => match self.handle(frame) {
+                Ok(()) => Ok(true),
+                Err(refusal) => Err(refusal),
+            },
+            Ok(None) => Ok(false),
+            Err(_) => Err(Refusal::TooLong),
+        }
     }
 
     /// A timeout is due. One that doesn't fit the height, the round or the step fires no rule of its own.

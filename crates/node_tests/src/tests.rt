@@ -13,6 +13,7 @@ mod opening;
 mod proposer;
 mod queues;
 mod refusals;
+mod streams;
 mod timeouts;
 
 use authenticators::{KeyRing, Party, hmac};

@@ -84,7 +84,7 @@ impl Node {
     }
 
     /// Height 0 is decided, and the next has begun; so many frames have gone out.
-    fn has_decided(&mut self, rt: &impl Abort, frames: usize) -> Result<(), Fail> {
+    pub(super) fn has_decided(&mut self, rt: &impl Abort, frames: usize) -> Result<(), Fail> {
         assert_eq!(rt; self.core.height(), 1);
         assert_eq!(rt; self.core.delivered().len(), 1);
         assert_eq!(rt; self.core.decisions().len(), 1);

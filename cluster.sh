@@ -1,0 +1,92 @@
+#!/usr/bin/env bash
+# Runs four validators on this machine and two clients, kills one validator with -9 in the middle and starts it again over its
+# journal, and compares what they delivered: ./cluster.sh [PROGRAM], bin/tmnode of ./build.sh if none is named.
+# It takes some seconds and ends by itself. Key files, journals, lists and logs stay in a folder, whose name it prints. Its
+# status is other than 0 if a list differs, or isn't whole in two minutes.
+set -euo pipefail
+top=$(cd "$(dirname "${BASH_SOURCE[0]}")" && pwd)
+program=$(realpath -- "${1:-$top/bin/tmnode}")
+[ -x "$program" ] || { echo "cluster.sh: $program is no program; ./build.sh makes it" >&2; exit 2; }
+folder=$(mktemp -d "${TMPDIR:-/tmp}/tmnode_cluster.XXXXXX")
+cd "$folder"
+each=10                    # transactions of each client, with its close
+wanted=$((2 * each))
+deadline=$((SECONDS + 120))
+pids=(0 0 0 0)
+
+fail() {
+    echo "cluster.sh: $1; see $folder" >&2
+    exit 1
+}
+end_all() {
+    for pid in "${pids[@]}"; do
+        [ "$pid" = 0 ] || kill -9 "$pid" 2> ends.log || true
+    done
+}
+trap end_all EXIT
+
+# start ID LIST: a validator, whose list goes to this file
+start() {
+    "$program" run --id "$1" --powers 1,1,1,1 --keys "keys/v$1.keys" --journal "v$1.journal" --peers "$peers" \
+        --start 200 --delta 100 > "$2" 2>> "v$1.log" &
+    pids[$1]=$!
+}
+# send CLIENT VALIDATOR NUMBER WORD..: a transaction, again until it is accepted
+send() {
+    local client=$1 to=$2 number=$3
+    shift 3
+    until "$program" send --id "$client" --validators 4 --keys "keys/c$client.keys" --to "${addresses[$to]}" \
+        --number "$number" "$@" >> "c$client.log" 2>&1; do
+        [ $SECONDS -lt $deadline ] || fail "transaction $number of client $client was not accepted"
+        sleep 0.1
+    done
+}
+# send_some FROM TO: the transactions of both clients with these numbers
+send_some() {
+    for ((number = $1; number <= $2; number++)); do
+        send 7 0 "$number" --data "$(printf '61%04x' "$number")"
+        send 9 1 "$number" --data ""
+    done
+}
+# wait_for COUNT LIST..: until each list has so many lines
+wait_for() {
+    local count=$1
+    shift
+    for list in "$@"; do
+        until [ "$(wc -l < "$list")" -ge "$count" ]; do
+            [ $SECONDS -lt $deadline ] || fail "$list has $(wc -l < "$list") lines of $count"
+            sleep 0.1
+        done
+    done
+}
+
+ports=$(python3 -c '
+import socket
+each = [socket.socket() for _ in range(4)]
+for it in each: it.bind(("127.0.0.1", 0))
+print(*[it.getsockname()[1] for it in each])')
+addresses=()
+for port in $ports; do addresses+=("127.0.0.1:$port"); done
+peers=$(IFS=,; echo "${addresses[*]}")
+
+"$program" keys --validators 4 --clients 10 --out keys
+for id in 0 1 2 3; do start $id v$id.list; done
+half=$((each / 2))
+send_some 1 $half
+wait_for $((2 * half)) v0.list v1.list v2.list v3.list
+kill -9 "${pids[3]}"
+wait "${pids[3]}" 2> ends.log || true
+mv v3.list v3.first.list
+send_some $((half + 1)) $((each - 2))
+start 3 v3.list
+send_some $((each - 1)) $((each - 1))
+send 7 0 $each --close
+send 9 1 $each --close
+wait_for $wanted v0.list v1.list v2.list v3.list
+
+for list in v1.list v2.list v3.list; do
+    cmp -s v0.list $list || fail "v0.list and $list differ"
+done
+head -c "$(stat -c %s v3.first.list)" v0.list | cmp -s - v3.first.list || fail "v3.first.list is no beginning of v0.list"
+[ "$(wc -l < v0.list)" = $wanted ] || fail "v0.list has other than $wanted lines"
+echo "four lists of $wanted items are the same, also that of the validator that was killed; $folder"

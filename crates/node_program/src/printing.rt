@@ -1,0 +1,111 @@
+//! The delivered list on standard output.
+
+ghost use Rattle.std.specs.Prelude.{◌≡◌, ◌≤◌, ◌+◌};
+
+use crate::finish::Finish;
+use crate::item_line::ItemLine;
+use locked_node::{LockedNode, Subscription};
+use status_words::{Node, Seat};
+use std::alloc::{AllocError, Global};
+use std::io;
+use std::io::{BufWriter, Write};
+use std::sync::Wait;
+use std::time::Clock;
+use subscriber_ring::Delivered;
+use vote_journal::Store;
+
+/// What was printed. A line leaves by one write.
+#[derive(Drop)]
+pub(crate) struct Printout<W: Write + Drop> {
+    out: BufWriter<W>,
+    printed: u64,
+    most: u64,
+}
+
+impl<W: Write + Drop> Printout<W> {
+    /// Nothing is printed yet. After `most` items nothing more is. It is refused for want of memory alone.
+    pub(crate) fn new(alloc: Global, out: W, most: u64) -> io::Result<Printout<W>> {
+        Ok(Printout {
+            out: BufWriter::new(alloc, out)?,
+            printed: 0,
+            most,
+        })
+    }
+
+    /// Whether all is printed that is to be.
+    fn is_done(&self) -> bool {
+        self.printed >= self.most
+    }
+
+    /// Prints an item's line. A failed write is passed over.
+    fn print(&mut self, delivered: &Delivered) {
+        let _ = writeln!(self.out, "{}", ItemLine(delivered));
+        let _ = self.out.flush();
+        self.printed = self.printed.saturating_add(1);
+    }
+
+    /// Prints what waits in the ring.
+    fn print_waiting<R: Wait>(&mut self, rt: &R, subscription: &mut Subscription) {
+        for _ in rt.forever() {
+            if self.is_done() {
+                break;
+            }
+            let Some(delivered) = subscription.try_take(rt) else {
+                break;
+            };
+            self.print(&delivered);
+        }
+    }
+}
+
+/// Has the ring filled where items are delivered that were not printed: whether there is more to print.
+fn refill<S: Store + Drop, J: Node, W: Write + Drop, R: Wait>(
+    rt: &R,
+    node: &LockedNode<S, J>,
+    seat: &mut Seat<J>,
+    subscription: &Subscription,
+    printout: &Printout<W>,
+) -> Result<bool, AllocError> {
+    if printout.is_done() || node.status(seat).delivered <= printout.printed {
+        return Ok(false);
+    }
+    Ok(node.fill(rt, subscription)? > 0)
+}
+
+/// Prints all that is delivered by now.
+fn print_delivered<S: Store + Drop, J: Node, W: Write + Drop, R: Wait>(
+    rt: &R,
+    node: &LockedNode<S, J>,
+    seat: &mut Seat<J>,
+    subscription: &mut Subscription,
+    printout: &mut Printout<W>,
+) -> Result<(), AllocError> {
+    for _ in rt.forever() {
+        printout.print_waiting(rt, subscription);
+        if !refill(rt, node, seat, subscription, printout)? {
+            break;
+        }
+    }
+    Ok(())
+}
+
+/// Prints what is delivered, from the ring's first position on, until the node's threads have ended, or all is printed that
+/// is to be. What can't be had for want of memory is tried again until the end.
+pub(crate) fn print_until_end<S: Store + Drop, J: Node, W: Write + Drop, R: Wait + Clock>(
+    rt: &R,
+    node: &LockedNode<S, J>,
+    mut subscription: Subscription,
+    finish: &Finish,
+    mut printout: Printout<W>,
+) -> Result<(), AllocError> {
+    let mut seat = node.seat(rt);
+    for _ in rt.forever() {
+        let is_last = finish.has_come(rt);
+        let told = print_delivered(rt, node, &mut seat, &mut subscription, &mut printout);
+        if is_last || printout.is_done() {
+            return told;
+        }
+        finish.wait_turn(rt);
+    }
+    unreachable!()
+}

@@ -1,0 +1,84 @@
+//! The program, whatever its words are.
+
+ghost use Rattle.std.specs.Prelude.{◌≡◌, ◌≤◌, IfOk};
+
+use crate::validator::run;
+use client_program::send;
+use key_files::write_keys;
+use log::Log;
+use node_settings::{Failure, Invocation, Page, settings};
+use std::convert::AsStr;
+use std::fs::File;
+use std::io::Write;
+use std::net::{Net, TcpListener, TcpStream};
+use std::random::RandomSource;
+use std::rt::Files;
+use std::sync::Wait;
+use std::thread::Threads;
+use std::time::Clock;
+
+/// Runs the program with these words, of which the first is its name. Answers the exit status: 0 or 1, or that of the failure
+/// that is told on `err`. A write that fails is passed over. What happens to links is logged by `rt`.
+pub fn node_program<
+    R: Log
+        + Threads
+        + Wait
+        + Clock
+        + Net<Stream = TcpStream, Listener = TcpListener>
+        + Files<File = File>
+        + AllocGlobal
+        + RandomSource
+        + Sync,
+    T: AsStr,
+    W: Write + Send + Drop,
+    E: Write,
+>(rt: &R, words: &[T], out: W, err: &mut E) -> u8
+    ensures { result ≤ 7 }
+{
+    match outcome(rt, words, out) {
+        Ok(status) => status,
+        Err(failure) => tell(failure, err),
+    }
+}
+
+/// What comes of the words: the exit status, or why the program ends early.
+fn outcome<
+    R: Log
+        + Threads
+        + Wait
+        + Clock
+        + Net<Stream = TcpStream, Listener = TcpListener>
+        + Files<File = File>
+        + AllocGlobal
+        + RandomSource
+        + Sync,
+    T: AsStr,
+    W: Write + Send + Drop,
+>(rt: &R, words: &[T], mut out: W) -> Result<u8, Failure>
+    ensures { IfOk result (λ status. status ≤ 1) }
+{
+    match settings(rt.alloc(), words)? {
+        Invocation::Run(settings) => run(rt, settings, out),
+        Invocation::Send(settings) => send(rt, settings, &mut out),
+        Invocation::Keys(settings) => write_keys(rt, settings),
+        Invocation::Page(page) => Ok(print_page(&mut out, &page)),
+    }
+}
+
+/// Prints a page. A failed write is passed over.
+fn print_page<W: Write>(out: &mut W, page: &Page) -> u8
+    ensures { result ≡ 0 }
+{
+    let _ = write!(out, "{page}");
+    let _ = out.flush();
+    0
+}
+
+/// Tells a failure, and answers its exit status. A failed write is passed over.
+fn tell<E: Write>(failure: Failure, err: &mut E) -> u8
+    ensures { result ≤ 7 }
+{
+    let _ = writeln!(err, "{failure}");
+    let _ = err.flush();
+    failure.status()
+}

@@ -1,0 +1,184 @@
+//! `tmnode run`.
+
+ghost use Rattle.std.specs.Prelude.{◌≡◌, ◌<◌, ◌≤◌, IfOk, length};
+ghost use Rattle.status_words.specs.Seen.{opened as opened_at};
+ghost use Rattle.status_words.specs.Ends.{opened_table, opened_words};
+ghost use Rattle.protocol.specs.State.{Node as ProtocolNode};
+ghost use Rattle.node_core.specs.Core.{Stands};
+ghost use Rattle.locked_node.specs.Locked.{count_of};
+ghost use Rattle.node_settings.specs.Lawful.{IsLawfulRun};
+
+use crate::finish::Finish;
+use crate::opening::{open_core, unopened};
+use crate::printing::{Printout, print_until_end};
+use authenticators::Party;
+use journal_file::FileStore;
+use key_files::{memory_or, read_ring};
+use locked_node::{LockedNode, Subscription, words_for};
+use log::Log;
+use node_core::{Config, NodeCore};
+use node_settings::{Failure, RunSettings};
+use peer_threads::{Ending, serve};
+use status_words::{Node, Opened};
+use std::alloc::AllocError;
+use std::fs::File;
+use std::io::Write;
+use std::marker::Brand;
+use std::net::{Net, TcpListener, TcpStream};
+use std::rt::Files;
+use std::sync::Wait;
+use std::thread;
+use std::thread::Threads;
+use std::time::Clock;
+use tcp_links::{HostClock, TcpLinks};
+use timeouts::Plan;
+use vote_journal::Store;
+
+/// How many delivered items wait to be printed at most.
+const WAITING_ITEMS: usize = 1_024;
+
+/// How the validator serves: where, with which timeouts, and for how long.
+#[derive(Drop)]
+struct Service<'a, N> {
+    links: TcpLinks<'a, N>,
+    plan: Plan,
+    stop: Option<u64>,
+}
+
+/// Runs a validator until it ends. Answers the exit status 0.
+pub(crate) fn run<
+    R: Log
+        + Threads
+        + Wait
+        + Clock
+        + Net<Stream = TcpStream, Listener = TcpListener>
+        + Files<File = File>
+        + AllocGlobal
+        + Sync,
+    W: Write + Send + Drop,
+>(rt: &R, settings: RunSettings<'_>, out: W) -> Result<u8, Failure>
+    requires { IsLawfulRun settings }
+    ensures { IfOk result (λ status. status ≡ 0) }
+{
+    let core = validator_of(rt, &settings)?;
+    let Ok(opened) = words_for(rt.alloc(), &core) else {
+        return Err(Failure::OutOfMemory);
+    };
+    let service = service_of(rt, &settings)?;
+    serve_core::<FileStore, Brand, W, R>(rt, core, opened, service, out)
+}
+
+/// The validator of these settings, as its journal tells of it.
+fn validator_of<R: Files<File = File> + AllocGlobal>(
+    rt: &R,
+    settings: &RunSettings<'_>,
+) -> Result<NodeCore<FileStore>, Failure>
+    requires { IsLawfulRun settings.now }
+    ensures { IfOk result (λ core. (n : ProtocolNode) × Stands n core) }
+{
+    let alloc = rt.alloc();
+    let Ok(powers) = settings.powers.copy(alloc) else {
+        return Err(Failure::OutOfMemory);
+    };
+    let me = settings.me;
+    let ring = read_ring(rt, settings.keys, Party::Validator(me), powers.count())?;
+    let store = FileStore::open(rt, settings.journal).map_err(unopened)?;
+    open_core(alloc, Config { me, powers }, ring, store)
+}
+
+/// Listens on the own address, and makes ready what serving takes.
+fn service_of<'a, R: Log + Net<Stream = TcpStream, Listener = TcpListener> + AllocGlobal>(
+    rt: &'a R,
+    settings: &RunSettings<'a>,
+) -> Result<Service<'a, R>, Failure>
+    requires { IsLawfulRun settings.now }
+{
+    let alloc = rt.alloc();
+    let links = TcpLinks::bind(alloc, rt, &settings.peers, settings.me as usize).map_err(
+        |error| memory_or(&error, Failure::CannotListen),
+    )?;
+    let Ok(plan) = Plan::new(alloc, settings.start, settings.delta) else {
+        return Err(Failure::OutOfMemory);
+    };
+    Ok(Service {
+        links,
+        plan,
+        stop: settings.stop,
+    })
+}
+
+/// Serves as this node, and prints what it delivers.
+fn serve_core<
+    S: Store + Send + Drop,
+    J: Node + Send + Sync,
+    W: Write + Send + Drop,
+    R: Log
+        + Threads
+        + Wait
+        + Clock
+        + Net<Stream = TcpStream, Listener = TcpListener>
+        + AllocGlobal
+        + Sync,
+>(rt: &R, core: NodeCore<S>, opened: Opened, service: Service<'_, R>, out: W) -> Result<u8, Failure>
+    requires named { opened_table opened ≡ J.table }
+    requires words { opened_words opened ≡ opened_at core.machine.state.height (count_of core) }
+    requires stands { (n : ProtocolNode) × Stands n core }
+    ensures { IfOk result (λ status. status ≡ 0) }
+{
+    let node = LockedNode::<S, J>::new(rt.alloc(), opened, core);
+    let Ok(subscription) = node.subscribe(rt, 0, WAITING_ITEMS) else {
+        return Err(Failure::OutOfMemory);
+    };
+    let Ok(printout) = Printout::new(rt.alloc(), out, service.stop.unwrap_or(u64::MAX)) else {
+        return Err(Failure::OutOfMemory);
+    };
+    let (printed, ended) = serve_beside(rt, &node, service, subscription, printout);
+    status_after(ended, printed)
+}
+
+/// Serves in one thread and prints in another.
+fn serve_beside<
+    S: Store + Send + Drop,
+    J: Node + Send + Sync,
+    W: Write + Send + Drop,
+    R: Log
+        + Threads
+        + Wait
+        + Clock
+        + Net<Stream = TcpStream, Listener = TcpListener>
+        + AllocGlobal
+        + Sync,
+>(
+    rt: &R,
+    node: &LockedNode<S, J>,
+    service: Service<'_, R>,
+    subscription: Subscription,
+    printout: Printout<W>,
+) -> (Result<(), AllocError>, Ending) {
+    let finish = Finish::new();
+    let Service { links, plan, stop } = service;
+    let clock = HostClock::new();
+    thread::join(
+        rt,
+        || print_until_end(rt, node, subscription, &finish, printout),
+        || {
+            let ended = serve(rt, rt.alloc(), node, links, &clock, plan, stop);
+            finish.tell(rt);
+            ended
+        },
+    )
+}
+
+/// The exit status after serving and printing.
+fn status_after(ended: Ending, printed: Result<(), AllocError>) -> Result<u8, Failure>
+    ensures { IfOk result (λ status. status ≡ 0) }
+{
+    match ended {
+        Ending::Halted => Err(Failure::Halted),
+        Ending::OutOfMemory => Err(Failure::OutOfMemory),
+        Ending::Stopped | Ending::Ended => match printed {
+            Ok(()) => Ok(0),
+            Err(_) => Err(Failure::OutOfMemory),
+        },
+    }
+}

@@ -1,0 +1,30 @@
+//! A validator that serves its peers over TCP, or a client that sends one transaction.
+#![tactic(auto)]
+
+use node_program::node_program;
+use node_settings::Failure;
+use std::env;
+use std::io::Write;
+use std::process::ExitCode;
+use std::rt::Env;
+
+fn main(rt: HostRuntime) -> ExitCode {
+    let mut err = rt.stderr();
+    let status = match words(&rt) {
+        Some(words) => node_program(&rt, &words, rt.stdout(), &mut err),
+        None => {
+            let _ = writeln!(err, "{}", Failure::OutOfMemory);
+            Failure::OutOfMemory.status()
+        }
+    };
+    ExitCode::from(status)
+}
+
+/// The program's name and its arguments, where there is memory for them.
+fn words(rt: &(impl Env + AllocGlobal)) -> Option<Vec<String>> {
+    let mut words = Vec::new(rt.alloc());
+    for word in env::args(rt).ok()? {
+        words.push(word).ok()?;
+    }
+    Some(words)
+}
