@@ -3,19 +3,23 @@
 
 usage: gate/wrong_bodies.py [--built] [CRATE [EDIT..]]
 
-Edits of different functions' bodies stand in one check together, of those functions and what they call. An edit counts as refused where the prover names a
-goal of the function that it changes; what its group didn't name goes into a further group, and in the end is tried
-alone, as is an edit of a constant or a type. An edit of a definition has a line 'by: LAW', and that law has to be
-refused with it. So may an edit of a function's body have, with the function in the law's place: where the whole check of its
-crate is dear, that function alone is checked.
+Edits of functions' bodies stand in one check together, of those functions and what they call. Of several edits of one
+function the first is made in place, and each other in a copy of the function beside it, with the same contract and the same
+proof files; one more copy, in which nothing is edited, has to be proved there, or the copies tell nothing. An edit counts as
+refused where the prover names a goal of the function that it changes, or of its copy; what its group didn't name goes into a
+further group, and in the end is tried alone, as is an edit of a constant or a type. An edit of a definition has a line
+'by: LAW', and that law has to be refused with it. So may an edit of code have, with a function in the law's place: where the
+whole check of its crate is dear, that function alone is checked.
 Beside them stand the edits of crates/NAME/equal/, which say the same in other words: each has to be proved, so that a
 run can't call everything refused.
 
 All is tried on copies. --built takes the libraries as `rt ci` left them in out/; without it they are built first,
 where they are not up to date. The last line is 'N passed, M failed', and the status 0 where nothing failed.
 """
+import copy
 import os
 import re
+import shutil
 import subprocess
 import sys
 import tempfile
@@ -91,6 +95,10 @@ class Function(NamedTuple):
 
     def modules(self):
         return modules_of(self.file)
+
+    def is_of_trait(self):
+        """Whether it is a method that its type has by a trait: none can stand beside it under another name."""
+        return self.block.partition("+")[0] != self.owner
 
     def has_proof_folder(self, folder):
         """Whether the proof files of this folder below proofs/ are the function's: a method's stand at its type."""
@@ -169,6 +177,10 @@ class Edit:
         self.pairs = self.read_pairs()
         self.functions = [] if self.law else self.find_functions()
 
+    @property
+    def is_of_definitions(self):
+        return all(file.startswith("specs/") for file, _, _ in self.pairs)
+
     def read_pairs(self):
         why = rt.edited(self.text, self.crate.folder)[1]
         if why:
@@ -224,17 +236,72 @@ def texts_with(crate, edits):
     return texts if all(texts.replace(*pair) for edit in edits for pair in edit.pairs) else None
 
 
+class Together:
+    """Edits of a crate's functions that stand in one check, in place or in copies beside the functions."""
+
+    def __init__(self, crate):
+        self.crate, self.texts, self.original = crate, Texts(crate), Texts(crate)
+        # Where each edit stands, and the copy without an edit of each function that has copies.
+        self.places, self.controls = {}, {}
+
+    def add(self, edit):
+        """Whether the edit could join those that stand here."""
+        return self.add_in_place(edit) or self.add_copy(edit)
+
+    def add_in_place(self, edit):
+        taken = {key for places in self.places.values() for key in places}
+        trial = Texts(self.crate)
+        trial.changed = {**self.texts.changed}
+        if taken & {*edit.functions} or not all(trial.replace(*pair) for pair in edit.pairs):
+            return False
+        self.texts, self.places[edit] = trial, edit.functions
+        return True
+
+    def add_copy(self, edit):
+        key = edit.functions[0]
+        found = [it for it in functions_of(key[0], self.original.of(key[0])) if it.key == key]
+        if len(edit.functions) > 1 or len(found) > 1 or found[0].is_of_trait():
+            return False
+        function, text = found[0], self.text_of(found[0])
+        for file, old, new in edit.pairs:
+            if file != function.file or text.count(old) != 1:
+                return False
+            text = text.replace(old, new)
+        if key not in self.controls:
+            self.controls[key] = self.copied(function, self.text_of(function), "unedited")
+        self.places[edit] = [self.copied(function, text, f"edit_{len(self.places)}")]
+        return True
+
+    def text_of(self, function):
+        return "\n".join(self.original.of(function.file).split("\n")[function.first : function.last + 1])
+
+    def copied(self, function, text, ending):
+        """Puts a copy with this text behind the function, with the function's proof files, and returns its key."""
+        name = f"{function.name}_{ending}"
+        lines = self.texts.of(function.file).split("\n")
+        at = next(it.last for it in functions_of(function.file, "\n".join(lines)) if it.key == function.key)
+        lines[at + 1 : at + 1] = ["", *re.sub(rf"\bfn {function.name}\b", f"fn {name}", text, count=1).split("\n")]
+        self.texts.changed[function.file] = "\n".join(lines)
+        for above, _, files in os.walk(f"{self.crate.folder}/proofs"):
+            folder = os.path.relpath(above, f"{self.crate.folder}/proofs")
+            for file in files if function.has_proof_folder(folder) else []:
+                self.copy_proof(folder, file, f"{os.path.dirname(folder)}/{name}".lstrip("/"))
+        return function._replace(name=name).key
+
+    def copy_proof(self, folder, file, to):
+        with open(f"{self.crate.folder}/proofs/{folder}/{file}", encoding="utf-8") as it:
+            text = it.read()
+        path, named = re.escape(folder.replace("/", ".")), rf"\bRattle\.{self.crate.name}\.(proofs|specs\.contracts)\."
+        self.texts.changed[f"proofs/{to}/{file}"] = re.sub(rf"({named}){path}(?![\w-])", rf"\1{to.replace('/', '.')}", text)
+
+
 def grouped(crate, edits):
-    """Returns the edits in groups, each of edits of different functions."""
+    """Returns the edits in groups, each of which stands in one check."""
     groups = []
     for edit in edits:
-        for group in groups:
-            taken = {key for it in group for key in it.functions}
-            if not taken & {*edit.functions} and texts_with(crate, [*group, edit]):
-                group.append(edit)
-                break
-        else:
-            groups.append([edit])
+        if not any(it.add(edit) for it in groups):
+            groups.append(Together(crate))
+            groups[-1].add(edit)
     return groups
 
 
@@ -265,33 +332,52 @@ def is_proved(crate, function, text, lines):
     return bool(own) and all(it == "proved" for it in own)
 
 
-class Group:
-    """Edits of one crate in one check, of the functions that they change and what those call."""
+def checked(crate, texts, flags, kept):
+    """Checks a copy of the crate with these texts, some of files that it lacks."""
+    with tempfile.TemporaryDirectory(prefix="edits-") as room:
+        for part in rt.rtlib.PARTS:
+            if os.path.isdir(f"{crate.folder}/{part}"):
+                shutil.copytree(f"{crate.folder}/{part}", f"{room}/{part}")
+        for path, text in texts.items():
+            os.makedirs(os.path.dirname(f"{room}/{path}"), exist_ok=True)
+            with open(f"{room}/{path}", "w", encoding="utf-8") as it:
+                it.write(text)
+        edited = copy.copy(crate)
+        edited.folder = room
+        return rt.checked(edited, {}, flags, kept)
 
-    def __init__(self, crate, edits, kept):
-        self.crate, self.texts = crate, texts_with(crate, edits)
-        where = modules_of_types(crate.folder)
-        paths = {it.path(where) for edit in edits for key in edit.functions for it in self.spans_of(key)}
-        ran = rt.checked(crate, self.texts.changed, [*ONE_JOB, *(word for it in sorted(paths) for word in ("--only", it))], kept)
+
+class Group:
+    """The check of edits that stand together: of the functions that they change and what those call."""
+
+    def __init__(self, together, kept):
+        self.crate, self.together, self.texts = together.crate, together, together.texts
+        where = modules_of_types(self.crate.folder)
+        keys = [*together.controls.values(), *(key for places in together.places.values() for key in places)]
+        paths = {it.path(where) for key in keys for it in self.spans_of(key)}
+        ran = checked(self.crate, self.texts.changed, [*ONE_JOB, *(word for it in sorted(paths) for word in ("--only", it))], kept)
         if ran.returncode == 2 and paths:
             # (a function that the check calls otherwise)
-            ran = rt.checked(crate, self.texts.changed, ONE_JOB, kept)
+            ran = checked(self.crate, self.texts.changed, ONE_JOB, kept)
         self.lines = ran.stdout.rstrip("\n").split("\n")
         reached = ran.returncode in (0, 1) and self.lines[-1].startswith(("logic=", "only="))
-        self.is_read = reached and not any(rt.unread(it, self.texts.changed) for it in self.lines)
+        self.is_read = reached and not any(rt.unread(it, {}) for it in self.lines)
 
     def spans_of(self, key):
         return [it for it in functions_of(key[0], self.texts.of(key[0])) if it.key == key]
 
+    def has_proved(self, key):
+        return is_proved(self.crate, key, self.texts.of(key[0]), self.lines)
+
     def verdict(self, edit):
         """Returns whether all is well with the edit and what to say, or None where this check can't tell."""
-        if not self.is_read:
+        places = self.together.places[edit]
+        in_copy = places != edit.functions
+        if not self.is_read or in_copy and not self.has_proved(self.together.controls[edit.functions[0]]):
             return None
-        found = [(it, self.texts.of(it[0])) for it in edit.functions]
         if edit.is_equal:
-            well = all(is_proved(self.crate, key, text, self.lines) for key, text in found)
-            return (True, f"{edit.label}: proved, as it must be") if well else None
-        goals = [goal for key, text in found for goal in goals_of(key, text, self.lines)]
+            return (True, f"{edit.label}: proved, as it must be") if all(map(self.has_proved, places)) else None
+        goals = [goal for key in places for goal in goals_of(key, self.texts.of(key[0]), self.lines)]
         if not goals:
             return None
         told = [it for it in goals if not (it.startswith(("proofs/", "./proofs/")) and NAMES.search(it))]
@@ -304,8 +390,9 @@ def tried_alone(crate, edit, kept):
     if not edit.is_equal:
         well, text = rt.must_fail(crate, edit.path, ONE_JOB, kept)
         return well, f"{edit.label}: {text.partition(': ')[2]}"
-    group = Group(crate, [edit], kept)
-    return group.verdict(edit) or (False, f"{edit.label}: NOT PROVED, though it does the same")
+    together = Together(crate)
+    together.add(edit)
+    return Group(together, kept).verdict(edit) or (False, f"{edit.label}: NOT PROVED, though it does the same")
 
 
 def verdict_by_law(crate, edit):
@@ -347,8 +434,8 @@ def tried(crate, edits):
         while len(left) > 1:
             untold = []
             for together in grouped(crate, left):
-                group = Group(crate, together, kept)
-                for edit in together:
+                group = Group(together, kept)
+                for edit in together.places:
                     verdict = group.verdict(edit)
                     tell(*verdict) if verdict else untold.append(edit)
             if len(untold) == len(left):
@@ -372,7 +459,7 @@ def edits_of(crate, names):
             except (BadEdit, OSError, UnicodeDecodeError) as fault:
                 bad.append(str(fault))
     for kind in (False, True):
-        of_kind = [it.is_equal for it in found if bool(it.law) is kind]
+        of_kind = [it.is_equal for it in found if it.is_of_definitions is kind]
         if of_kind and not any(of_kind):
             what = "definitions" if kind else "code"
             bad.append(f"{crate.name}: no edit of {what} in equal/, so nothing shows that its checks can say yes")

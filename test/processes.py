@@ -173,6 +173,18 @@ class Cluster:
         ran = subprocess.run(self.words_of_send(client, to, number, *what), capture_output=True, text=True, timeout=30, check=False)
         return ran.returncode, (ran.stdout + ran.stderr).strip()
 
+    def file_of(self, lines):
+        with open(self.path("lines"), "w", encoding="utf-8") as out:
+            out.writelines(f"{it}\n" for it in lines)
+        return self.path("lines")
+
+    def send_file(self, client, number, file):
+        """Sends the transactions of a file to all validators, and returns what is told of them."""
+        words = self.words_of_send(client, 0, number, "--file", file)
+        words[words.index("--to") + 1] = ",".join(self.addresses)
+        ran = subprocess.run(words, capture_output=True, text=True, timeout=PATIENCE, check=False)
+        return ran.returncode, (ran.stdout + ran.stderr).strip()
+
     def send_to_one_that_hangs_up(self, listener):
         """Sends one transaction to validator 0's address, where this listener takes the connection and ends it."""
         words = self.words_of_send(7, 0, 1, "--close")
@@ -366,6 +378,64 @@ def what_a_client_is_told(cluster, _):
     want(told == (1, "refused 13 3"), f"an old number is told {told}")
 
 
+def send_of_many(cluster, _):
+    """A file of transactions goes to every validator: more of them than a client's queue holds."""
+    lines = [*(f"{it:08x}" for it in range(300)), "-", "close"]
+    file = cluster.file_of(lines)
+    for me in range(4):
+        cluster.start(me)
+    cluster.send_until_taken(9, 0, 1, "--data", "")
+    status, told = cluster.send_file(7, 1, file)
+    want(status in (0, 1), f"the file is told {status}, {told[:200]}")
+    answers = [it.split(" ", 2) for it in told.splitlines()]
+    for address in cluster.addresses:
+        mine = [it for it in answers if it[0] == address]
+        want([int(it[1]) for it in mine] == list(range(1, len(lines) + 1)), f"{address} tells {len(mine)} answers")
+        # (what stands in the list already has an old number)
+        want({it[2] for it in mine} <= {"accepted", "refused 13 3"}, f"{address} tells {sorted({it[2] for it in mine})}")
+    numbers = {it[1] for it in answers if it[2] == "accepted"}
+    want(len(numbers) == len(lines), f"{len(numbers)} transactions of {len(lines)} are accepted")
+    listed = [it.split()[2:] for it in cluster.want_same(len(lines) + 1, *range(4)) if it.split()[1] == "7"]
+    want(listed == [[str(at), it] for at, it in enumerate(lines, 1)], "the list has other transactions")
+
+
+def a_file_that_is_none(cluster, _):
+    told = cluster.send_file(7, 1, cluster.file_of(["61", "-", "6"]))
+    want(told == (8, "tmnode: line 3"), f"a bad line is told {told}")
+    told = cluster.send_file(7, 1 << 48, cluster.file_of(["61", "61"]))
+    want(told == (8, "tmnode: line 2"), f"a line behind the last number is told {told}")
+    told = cluster.send_file(7, 1, cluster.path("absent"))
+    want(told == (8, "tmnode: line 0"), f"an absent file is told {told}")
+
+
+def a_validator_that_is_gone_is_told(cluster, _):
+    """Those that can be reached take the transactions, and of the other it is said."""
+    for me in range(3):
+        cluster.start(me)
+    cluster.send_until_taken(9, 0, 1, "--data", "")
+    status, told = cluster.send_file(7, 1, cluster.file_of(["61", "62"]))
+    want(status == 5 and told.endswith("tmnode: cannot connect"), f"the file is told {status}, {told}")
+    gone = [it for it in told.splitlines() if it.startswith(cluster.addresses[3])]
+    want(gone == [f"{cluster.addresses[3]} {it} unanswered" for it in (1, 2)], f"of the one that is gone it is told {gone}")
+    cluster.want_same(3, *range(3))
+
+
+def nothing_to_do(cluster, _):
+    """Validators with nothing to propose rest, and a transaction wakes them."""
+    for me in range(4):
+        cluster.start(me, {"start": 4_000, "idle": 2_000})
+    cluster.send_until_taken(9, 0, 1, "--data", "")
+    cluster.want_same(1, *range(4))
+    before = cluster.decisions_of(0)
+    time.sleep(3)
+    want(cluster.decisions_of(0) - before <= 3, f"{cluster.decisions_of(0) - before} heights are decided in three seconds of rest")
+    began = time.monotonic()
+    cluster.send_file(7, 1, cluster.file_of(["61"]))
+    cluster.want_same(2, *range(4))
+    took = time.monotonic() - began
+    want(took < 1.5, f"a transaction waits for {took:.1f} s")
+
+
 def kills(cluster, is_long):
     """Kills a validator at a random moment while clients send, and starts it again."""
     for me in range(4):
@@ -393,7 +463,7 @@ def kills(cluster, is_long):
 
 def far_behind(cluster, _):
     """A validator that is a thousand heights behind catches up in the turns of a link, and not in those of a timer."""
-    quick = {"start": 2, "delta": 1}
+    quick = {"start": 2, "delta": 1, "idle": 0}
     for me in range(3):
         cluster.start(me, quick)
     cluster.wait_for_heights(1_000, 0, PATIENCE)
@@ -419,7 +489,7 @@ def a_prevote_that_reached_one_alone(cluster, _):
     wires = Wires(cluster.addresses, passes)
     for me in range(3):
         # (what validator 0 said before its links were there comes a second later)
-        cluster.start(me, {"peers": ",".join(wires.addresses_for(me, {0, 1, 2} - {me})), "start": 1_500, "delta": 0})
+        cluster.start(me, {"peers": ",".join(wires.addresses_for(me, {0, 1, 2} - {me})), "start": 1_500, "delta": 0, "idle": 0})
     for me in (1, 2):
         cluster.send_until_taken(7, me, 1, "--data", "61")
     with dial(cluster.addresses[0]) as link:
@@ -487,6 +557,10 @@ TESTS = (
     a_second_process_over_one_journal,
     four_print_the_same_and_end,
     what_a_client_is_told,
+    send_of_many,
+    a_file_that_is_none,
+    a_validator_that_is_gone_is_told,
+    nothing_to_do,
     a_full_disk,
     kills,
     far_behind,

@@ -1,11 +1,15 @@
 -- What a client sends.
-use Rattle.std.specs.Prelude.{ℕ, []}
+use Rattle.std.specs.Prelude.{◌≡◌, ◌⊎◌, ℕ, ◌≤◌, ◌^◌, List, [], Ok}
 use Rattle.authenticators.specs.Ring.{Ring, tags_of}
 use Rattle.transactions.specs.declared.tx.Op.{Op}
 use Rattle.messages.specs.Grammar.{body_spelling}
 use Rattle.messages.specs.declared.body.Body.{Body}
 use Rattle.messages.specs.declared.body.Body.TheVariants.{Tx}
 use Rattle.messages.specs.declared.body.Message.{Message}
+use Rattle.messages.specs.Framing.{SpellsFrame}
+use Rattle.node_settings.specs.Words.{line_op}
+use Rattle.node_settings.specs.declared.failure.Failure.{Failure}
+use Rattle.node_settings.specs.declared.failure.Failure.TheVariants.{OutOfMemory, Line}
 
 -- a transaction as a body, whose tags stand behind it
 abbrev pub sent_tx : ℕ → ℕ → Op → Body
@@ -14,3 +18,14 @@ sent_tx client number op = Tx (record { client = client; number = number; op = o
 -- the body with its sender's tag for each validator
 abbrev pub sent_message : Ring → Body → Message
 sent_message ring body = record { body = body; tags = tags_of ring (body_spelling body) }
+
+-- a frame is that of the transaction which a line tells, under this number
+pub record IsFrameOfLine (ring : Ring) (client number : ℕ) (line frame : List ℕ) : Type 0 where
+  pub op : Op
+  pub told : line_op line ≡ Ok op
+  pub numbered : number ≤ 2 ^ 48
+  pub spells : SpellsFrame frame (sent_message ring (sent_tx client number op))
+
+-- what is told of a line that gives no frame, unless memory runs out
+abbrev pub IsOfLine : Failure → Type 0
+IsOfLine failure = (failure ≡ OutOfMemory) ⊎ ((line : ℕ) × (failure ≡ Line line))

@@ -1,7 +1,9 @@
-//! The client of `tmnode send`: it signs one transaction with its keys, sends it to a validator, and prints the answer.
+//! The client of `tmnode send`: it signs transactions with its keys, sends them to validators, and prints the answers.
 #![tactic(auto)]
 
-mod exchange;
+mod connection;
+mod framing;
+mod many;
 mod sending;
 
 pub use sending::send;

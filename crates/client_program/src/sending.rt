@@ -1,62 +1,30 @@
-//! Sending a transaction.
+//! Sending transactions.
 
-ghost use Rattle.std.specs.Prelude.{◌≡◌, ◌≤◌, ℕ, List, IfOk, IfErr};
-ghost use Rattle.transactions.specs.declared.fault.Fault.TheVariants.{OutOfMemory as NoMemory};
-ghost use Rattle.node_settings.specs.declared.failure.Failure.TheVariants.{OutOfMemory};
-ghost use Rattle.messages.specs.Framing.{SpellsFrame};
+ghost use Rattle.std.specs.Prelude.{◌≡◌, ◌≤◌, IfOk};
 ghost use Rattle.node_settings.specs.Failures.{answer_status};
-ghost use Rattle.client_program.specs.Sending.{sent_message, sent_tx};
 
-use crate::exchange::exchange;
-use authenticators::{KeyRing, Party, tag_all};
+use crate::connection::Connection;
+use crate::framing::Sender;
+use crate::many::Delivery;
+use authenticators::Party;
 use key_files::{memory_or, read_ring};
-use messages::{Body, Message, spell, spell_body};
-use node_settings::{Answer, Failure, SendSettings};
-use std::alloc::Global;
+use node_settings::{Answer, Failure, SendSettings, Sending};
+use std::fs;
 use std::io::Write;
 use std::net::{Net, TcpStream};
 use std::rt::Files;
-use transactions::{Fault, Op, Seq, Tx};
+use std::sync::Wait;
+use std::thread::Threads;
+use std::time::Clock;
 
-/// Why a transaction has no spelling.
-fn failure_of(fault: Fault) -> Failure
-    ensures { fault ≡ NoMemory → result ≡ OutOfMemory }
-{
-    match fault {
-        Fault::OutOfMemory => Failure::OutOfMemory,
-        _ => Failure::Usage,
-    }
-}
-
-/// The transaction as a body.
-fn body_of(alloc: Global, client: u16, number: u64, op: Op) -> Body
-    ensures { result ≡ sent_tx client number op }
-{
-    Body::Tx(Tx {
-        client,
-        number,
-        op,
-        tags: Seq::new(alloc),
-    })
-}
-
-/// The frame of a body, with the tags for each validator under the keys of its sender.
-fn frame_with(alloc: Global, ring: &KeyRing, body: Body) -> Result<Vec<u8>, Failure>
-    ensures ok { IfOk result (λ frame. SpellsFrame frame.items (sent_message ring.now body)) }
-    // What has a frame is sent, unless memory runs out.
-    ensures only { (bytes : List ℕ) → SpellsFrame bytes (sent_message ring.now body) → IfErr result (λ failure. failure ≡ OutOfMemory) }
-{
-    let spelled = match spell_body(alloc, &body) {
-        Ok(spelled) => spelled,
-        Err(fault) => return Err(failure_of(fault)),
-    };
-    let Ok(tags) = tag_all(alloc, ring, &spelled) else {
-        return Err(Failure::OutOfMemory);
-    };
-    let tags = Seq::from_vec(tags);
-    match spell(alloc, &Message { body, tags }) {
-        Ok(frame) => Ok(frame),
-        Err(fault) => Err(failure_of(fault)),
+/// Connects to the validator at this address.
+pub(crate) fn connect<R: Net<Stream = TcpStream> + AllocGlobal>(
+    rt: &R,
+    address: &str,
+) -> Result<Connection<TcpStream>, Failure> {
+    match TcpStream::connect(rt, address) {
+        Ok(stream) => Ok(Connection::new(rt.alloc(), stream)),
+        Err(error) => Err(memory_or(&error, Failure::CannotConnect)),
     }
 }
 
@@ -66,11 +34,9 @@ fn ask_validator<R: Net<Stream = TcpStream> + AllocGlobal>(
     address: &str,
     frame: &[u8],
 ) -> Result<Answer, Failure> {
-    let mut stream = TcpStream::connect(rt, address).map_err(|error| memory_or(
-        &error,
-        Failure::CannotConnect,
-    ))?;
-    let reply = exchange(rt.alloc(), &mut stream, frame)?;
+    let mut connection = connect(rt, address)?;
+    connection.send(frame)?;
+    let reply = connection.reply()?;
     Ok(Answer { reply })
 }
 
@@ -84,12 +50,16 @@ fn print_answer<W: Write>(out: &mut W, answer: Answer) -> u8
     answer.status()
 }
 
-/// Sends one transaction, and prints what the validator says of it. Answers the exit status: 0 where it was accepted, else 1.
-pub fn send<R: Files + Net<Stream = TcpStream> + AllocGlobal, W: Write>(
-    rt: &R,
-    settings: SendSettings<'_>,
-    out: &mut W,
-) -> Result<u8, Failure>
+/// Sends transactions, and prints what validators say of them. Answers the exit status: 0 where all were accepted, else 1.
+///
+/// Of one transaction to one validator the answer is printed alone. Else there is a line `ADDRESS NUMBER ANSWER` for each of them
+/// and each validator, in order of the numbers for each validator; `ANSWER` is `unanswered` where the connection fails
+/// before, and then the failure is `CannotConnect` after all is done. Of a file all lines are looked at first, and with one that
+/// is no transaction (`Line`) nothing is sent.
+pub fn send<
+    R: Threads + Wait + Clock + Files + Net<Stream = TcpStream> + AllocGlobal + Sync,
+    W: Write + Send + Drop,
+>(rt: &R, settings: SendSettings<'_>, mut out: W) -> Result<u8, Failure>
     ensures { IfOk result (λ status. status ≤ 1) }
 {
     let SendSettings {
@@ -98,11 +68,33 @@ pub fn send<R: Files + Net<Stream = TcpStream> + AllocGlobal, W: Write>(
         keys,
         to,
         number,
-        op,
+        sending,
     } = settings;
     let ring = read_ring(rt, keys, Party::Client(client), validators)?;
-    let body = body_of(rt.alloc(), client, number, op);
-    let frame = frame_with(rt.alloc(), &ring, body)?;
-    let answer = ask_validator(rt, to, &frame)?;
-    Ok(print_answer(out, answer))
+    let sender = Sender {
+        client,
+        ring: &ring,
+    };
+    match sending {
+        Sending::One(op) => {
+            let frame = sender.frame_of(rt.alloc(), number, op)?;
+            match to.as_slice() {
+                [address] => Ok(print_answer(&mut out, ask_validator(rt, address, &frame)?)),
+                _ => Delivery::new(number, &[frame], out).send(rt, to.as_slice()),
+            }
+        }
+        Sending::Lines(file) => {
+            let text = text_of(rt, file)?;
+            let frames = sender.frames_of(rt.alloc(), number, &text)?;
+            Delivery::new(number, frames.as_slice(), out).send(rt, to.as_slice())
+        }
+    }
+}
+
+/// The text of the file of transactions.
+fn text_of<R: Files + AllocGlobal>(rt: &R, file: &str) -> Result<String, Failure> {
+    match fs::read_to_string(rt, file) {
+        Ok(text) => Ok(text),
+        Err(error) => Err(memory_or(&error, Failure::Line(0))),
+    }
 }

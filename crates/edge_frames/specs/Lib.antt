@@ -2,3 +2,4 @@ pub mod Behind
 pub mod Early
 pub mod Links
 pub mod Passing
+pub mod Holding

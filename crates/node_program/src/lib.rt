@@ -1,9 +1,9 @@
-//! The program `tmnode`: a validator that serves its peers over TCP, a client that sends one transaction, and the maker of
+//! The program `tmnode`: a validator that serves its peers over TCP, a client that sends transactions, and the maker of
 //! their key files.
 //!
 //! `tmnode run` reads its key file, opens its journal, and serves. From position 0 on, also after a restart, it prints each
 //! delivered item as a line `POSITION CLIENT NUMBER HEX`, with `close` for a close and `-` for no bytes. `tmnode send` prints
-//! what the validator answered. `tmnode keys` writes the key file of each validator and client, `v0.keys` and so on and
+//! what the validators answered. `tmnode keys` writes the key file of each validator and client, `v0.keys` and so on and
 //! `c0.keys` and so on, and prints nothing. A failure is a line on standard error, and the exit status tells which it was.
 #![tactic(auto)]
 

@@ -33,7 +33,7 @@ pub fn node_program<
     W: Write + Send + Drop,
     E: Write,
 >(rt: &R, words: &[T], out: W, err: &mut E) -> u8
-    ensures { result ≤ 7 }
+    ensures { result ≤ 8 }
 {
     match outcome(rt, words, out) {
         Ok(status) => status,
@@ -59,7 +59,7 @@ fn outcome<
 {
     match settings(rt.alloc(), words)? {
         Invocation::Run(settings) => run(rt, settings, out),
-        Invocation::Send(settings) => send(rt, settings, &mut out),
+        Invocation::Send(settings) => send(rt, settings, out),
         Invocation::Keys(settings) => write_keys(rt, settings),
         Invocation::Page(page) => Ok(print_page(&mut out, &page)),
     }
@@ -76,7 +76,7 @@ fn print_page<W: Write>(out: &mut W, page: &Page) -> u8
 
 /// Tells a failure, and answers its exit status. A failed write is passed over.
 fn tell<E: Write>(failure: Failure, err: &mut E) -> u8
-    ensures { result ≤ 7 }
+    ensures { result ≤ 8 }
 {
     let _ = writeln!(err, "{failure}");
     let _ = err.flush();

@@ -18,7 +18,7 @@ use locked_node::{LockedNode, Subscription, words_for};
 use log::Log;
 use node_core::{Config, NodeCore};
 use node_settings::{Failure, RunSettings};
-use peer_threads::{Ending, serve};
+use peer_threads::{Ending, Pace, serve_at_pace};
 use status_words::{Node, Opened};
 use std::alloc::AllocError;
 use std::fs::File;
@@ -37,12 +37,11 @@ use vote_journal::Store;
 /// How many delivered items wait to be printed at most.
 const WAITING_ITEMS: usize = 1_024;
 
-/// How the validator serves: where, with which timeouts, and for how long.
+/// How the validator serves: where, at which pace, and for how long.
 #[derive(Drop)]
 struct Service<'a, N> {
     links: TcpLinks<'a, N>,
-    plan: Plan,
-    stop: Option<u64>,
+    pace: Pace,
 }
 
 /// Runs a validator until it ends. Answers the exit status 0.
@@ -102,8 +101,11 @@ fn service_of<'a, R: Log + Net<Stream = TcpStream, Listener = TcpListener> + All
     };
     Ok(Service {
         links,
-        plan,
-        stop: settings.stop,
+        pace: Pace {
+            plan,
+            idle: settings.idle,
+            stop: settings.stop,
+        },
     })
 }
 
@@ -129,7 +131,7 @@ fn serve_core<
     let Ok(subscription) = node.subscribe(rt, 0, WAITING_ITEMS) else {
         return Err(Failure::OutOfMemory);
     };
-    let Ok(printout) = Printout::new(rt.alloc(), out, service.stop.unwrap_or(u64::MAX)) else {
+    let Ok(printout) = Printout::new(rt.alloc(), out, service.pace.stop.unwrap_or(u64::MAX)) else {
         return Err(Failure::OutOfMemory);
     };
     let (printed, ended) = serve_beside(rt, &node, service, subscription, printout);
@@ -156,13 +158,13 @@ fn serve_beside<
     printout: Printout<W>,
 ) -> (Result<(), AllocError>, Ending) {
     let finish = Finish::new();
-    let Service { links, plan, stop } = service;
+    let Service { links, pace } = service;
     let clock = HostClock::new();
     thread::join(
         rt,
         || print_until_end(rt, node, subscription, &finish, printout),
         || {
-            let ended = serve(rt, rt.alloc(), node, links, &clock, plan, stop);
+            let ended = serve_at_pace(rt, rt.alloc(), node, links, &clock, pace);
             finish.tell(rt);
             ended
         },

@@ -22,12 +22,12 @@ with_rules app rules = fold with_rule app rules
 abbrev pub run_app : App
 run_app = with_rules (new_app (codes "run"))
     (option (codes "id") true ∷ option (codes "powers") true ∷ option (codes "keys") true ∷ option (codes "journal") true ∷ option (codes "peers") true
-    ∷ option (codes "start") true ∷ option (codes "delta") true ∷ option (codes "stop") false ∷ [])
+    ∷ option (codes "start") true ∷ option (codes "delta") true ∷ option (codes "idle") false ∷ option (codes "stop") false ∷ [])
 
 abbrev pub send_app : App
 send_app = with_rules (new_app (codes "send"))
     (option (codes "id") true ∷ option (codes "validators") true ∷ option (codes "keys") true ∷ option (codes "to") true ∷ option (codes "number") true
-    ∷ option (codes "data") false ∷ flag (codes "close") ∷ [])
+    ∷ option (codes "data") false ∷ option (codes "file") false ∷ flag (codes "close") ∷ [])
 
 abbrev pub keys_app : App
 keys_app = with_rules (new_app (codes "keys"))

@@ -13,7 +13,7 @@ use Rattle.node_settings.specs.declared.failure.KeysTrouble.TheVariants as in_ke
 use Rattle.node_settings.specs.declared.failure.JournalTrouble.{JournalTrouble}
 use Rattle.node_settings.specs.declared.failure.JournalTrouble.TheVariants as in_journal
 use Rattle.node_settings.specs.declared.failure.Failure.{Failure}
-use Rattle.node_settings.specs.declared.failure.Failure.TheVariants.{Usage, Keys, Journal, CannotListen, CannotConnect, Halted, OutOfMemory}
+use Rattle.node_settings.specs.declared.failure.Failure.TheVariants.{Usage, Keys, Journal, CannotListen, CannotConnect, Halted, OutOfMemory, Line}
 
 abbrev pub settings_number : SettingsFault → ℕ
 settings_number words.Usage = 1
@@ -41,6 +41,7 @@ status_of CannotListen = 5
 status_of CannotConnect = 5
 status_of Halted = 6
 status_of OutOfMemory = 7
+status_of (Line number) = 8
 
 -- the line on standard error
 abbrev pub line_of : Failure → List ℕ
@@ -51,6 +52,7 @@ line_of CannotListen = codes "tmnode: cannot listen"
 line_of CannotConnect = codes "tmnode: cannot connect"
 line_of Halted = codes "tmnode: halted"
 line_of OutOfMemory = codes "tmnode: out of memory"
+line_of (Line number) = codes "tmnode: line " ++ decimal number
 
 -- ---- the faults of the parts
 

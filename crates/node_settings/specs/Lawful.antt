@@ -2,6 +2,8 @@
 use Rattle.std.specs.Prelude.{◌≡◌, ◌<◌, ◌≤◌, ◌^◌, length}
 use Rattle.transactions.specs.Grammar.{IsOp}
 use Rattle.node_settings.specs.declared.invocation.RunSettings.{RunSettings}
+use Rattle.node_settings.specs.declared.invocation.Sending.{Sending}
+use Rattle.node_settings.specs.declared.invocation.Sending.TheVariants.{One, Lines}
 use Rattle.node_settings.specs.declared.invocation.SendSettings.{SendSettings}
 use Rattle.node_settings.specs.declared.invocation.KeysSettings.{KeysSettings}
 use Rattle.node_settings.specs.declared.invocation.Invocation.{Invocation}
@@ -13,15 +15,21 @@ pub record IsLawfulRun (s : RunSettings) : Type 0 where
   pub addressed : length s.peers.items ≡ length s.powers
   pub start : s.start ≤ 86400000
   pub delta : s.delta ≤ 86400000
+  pub idle : s.idle ≤ s.start
 
--- of a transaction: it has a spelling
+-- one transaction has a spelling
+abbrev pub IsLawfulSending : Sending → Type 0
+IsLawfulSending (One op) = IsOp op
+IsLawfulSending (Lines file) = Unit {0}
+
+-- of a client and what it sends
 pub record IsLawfulSend (s : SendSettings) : Type 0 where
   pub client : s.client ≤ 1023
   pub several : 2 ≤ s.validators
   pub few : s.validators ≤ 64
   pub first : 1 ≤ s.number
   pub last : s.number ≤ 2 ^ 48
-  pub op : IsOp s.op
+  pub sending : IsLawfulSending s.sending
 
 -- of the parties whose key files are made: as many as a cluster may have
 pub record IsLawfulKeys (s : KeysSettings) : Type 0 where

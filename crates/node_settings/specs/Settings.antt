@@ -1,5 +1,5 @@
 -- What a command line asks for.
-use Rattle.std.specs.Prelude.{ℕ, ◌-◌, ◌^◌, ◌&&◌, List, [], ◌∷◌, length, map, Option, Some, None, Result, Ok, Err, nat_lt, ◌==◌, if◌then◌else◌, codes}
+use Rattle.std.specs.Prelude.{ℕ, ◌-◌, ◌/◌, ◌^◌, Bool, false, ◌&&◌, List, [], ◌∷◌, length, map, Option, Some, None, Result, Ok, Err, nat_lt, ◌==◌, if◌then◌else◌, codes}
 use Rattle.std.specs.List.{slice_split}
 use Rattle.std.specs.Str.{bytes_eq}
 use Rattle.clap.specs.Walk.{Row, Text, first_of}
@@ -14,6 +14,8 @@ use Rattle.node_settings.specs.Words.{◌>>=◌, given, number_given, number_or_
 use Rattle.node_settings.specs.declared.invocation.SettingsFault.{SettingsFault}
 use Rattle.node_settings.specs.declared.invocation.SettingsFault.TheVariants.{Usage, OutOfMemory}
 use Rattle.node_settings.specs.declared.invocation.RunSettings.{RunSettings}
+use Rattle.node_settings.specs.declared.invocation.Sending.{Sending}
+use Rattle.node_settings.specs.declared.invocation.Sending.TheVariants as sends
 use Rattle.node_settings.specs.declared.invocation.SendSettings.{SendSettings}
 use Rattle.node_settings.specs.declared.invocation.KeysSettings.{KeysSettings}
 use Rattle.node_settings.specs.declared.invocation.Invocation.{Invocation}
@@ -29,15 +31,21 @@ pub record Run : Type 0 where
   pub peers : List Text
   pub start : ℕ
   pub delta : ℕ
+  pub idle : ℕ
   pub stop : Option ℕ
+
+-- one transaction, or one for each line of the file of this name
+pub data Sent : Type 0 where
+  one : Op → Sent
+  lines : Text → Sent
 
 pub record Send : Type 0 where
   pub client : ℕ
   pub validators : ℕ
   pub keys : Text
-  pub to : Text
+  pub to : List Text
   pub number : ℕ
-  pub op : Op
+  pub sent : Sent
 
 pub record Keys : Type 0 where
   pub validators : ℕ
@@ -59,17 +67,22 @@ run_words s = record {
   peers = map (λ peer. peer.now) s.peers.items;
   start = s.start;
   delta = s.delta;
+  idle = s.idle;
   stop = s.stop;
 }
+
+abbrev pub sent_words : Sending → Sent
+sent_words (sends.One op) = one op
+sent_words (sends.Lines file) = lines file.now
 
 abbrev pub send_words : SendSettings → Send
 send_words s = record {
   client = s.client;
   validators = s.validators;
   keys = s.keys.now;
-  to = s.to.now;
+  to = map (λ address. address.now) s.to.items;
   number = s.number;
-  op = s.op;
+  sent = sent_words s.sending;
 }
 
 abbrev pub keys_words : KeysSettings → Keys
@@ -90,6 +103,16 @@ cluster_of powers peers me = do
   let addresses : List Text = slice_split is_comma peers
   if nat_lt me (length each) && length addresses == length each then Ok (each, addresses) else Err Usage
 
+-- how long a proposal of no transactions waits: half of the propose timeout, or another time that is no longer than it
+abbrev pub idle_or : ℕ → Option ℕ → ℕ
+idle_or start None = start / 2
+idle_or start (Some idle) = idle
+
+unfoldable pub idle_of : ℕ → List Row → Result ℕ SettingsFault
+idle_of start rows = do
+  idle ← number_or_none 0 start (codes "idle") rows
+  Ok (idle_or start idle)
+
 unfoldable pub run_of : List Row → Result Run SettingsFault
 run_of rows = do
   me ← number_given 0 63 (codes "id") rows
@@ -97,15 +120,24 @@ run_of rows = do
   journal ← given (codes "journal") rows
   start ← number_given 0 86400000 (codes "start") rows
   delta ← number_given 0 86400000 (codes "delta") rows
+  idle ← idle_of start rows
   stop ← number_or_none 1 (2 ^ 64 - 1) (codes "stop") rows
   powers ← given (codes "powers") rows
   peers ← given (codes "peers") rows
   both ← cluster_of powers peers me
-  Ok (record { me = me; powers = both.0; keys = key_file; journal = journal; peers = both.1; start = start; delta = delta; stop = stop })
+  Ok (record { me = me; powers = both.0; keys = key_file; journal = journal; peers = both.1; start = start; delta = delta; idle = idle; stop = stop })
 
 -- how many validators there are
 unfoldable pub validators_of : List Row → Result ℕ SettingsFault
 validators_of rows = number_given 2 64 (codes "validators") rows
+
+-- what is sent: one of `--data`, `--close` and `--file` is there
+abbrev pub sent_of : Option Text → Bool → Option Text → Result Sent SettingsFault
+sent_of digits close None = do
+  op ← op_of digits close
+  Ok (one op)
+sent_of None false (Some file) = Ok (lines file)
+sent_of _ _ (Some file) = Err Usage
 
 unfoldable pub send_of : List Row → Result Send SettingsFault
 send_of rows = do
@@ -114,8 +146,8 @@ send_of rows = do
   key_file ← given (codes "keys") rows
   to ← given (codes "to") rows
   number ← number_given 1 (2 ^ 48) (codes "number") rows
-  op ← op_of (first_of (codes "data") rows) (is_flagged (codes "close") rows)
-  Ok (record { client = client; validators = validators; keys = key_file; to = to; number = number; op = op })
+  sent ← sent_of (first_of (codes "data") rows) (is_flagged (codes "close") rows) (first_of (codes "file") rows)
+  Ok (record { client = client; validators = validators; keys = key_file; to = slice_split is_comma to; number = number; sent = sent })
 
 unfoldable pub keys_of : List Row → Result Keys SettingsFault
 keys_of rows = do

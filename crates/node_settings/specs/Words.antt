@@ -112,3 +112,11 @@ op_of (Some digits) false = do
   bytes ← bytes_of digits
   Ok (Bytes bytes)
 op_of _ _ = Err Usage
+
+-- what a line of a file is to do: `close`, `-` for no bytes, or digits, which an empty line has none of
+unfoldable pub line_op : Text → Result Op SettingsFault
+line_op line =
+    if bytes_eq line (codes "close") then Ok Close
+    else if bytes_eq line (codes "-") then Ok (Bytes [])
+    else if length line == 0 then Err Usage
+    else op_of (Some line) false

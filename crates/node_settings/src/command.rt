@@ -20,7 +20,7 @@ struct WordOption {
     help: &'static str,
 }
 
-static RUN: [WordOption; 8] = [
+static RUN: [WordOption; 9] = [
     WordOption {
         name: "id",
         is_required: true,
@@ -64,6 +64,12 @@ static RUN: [WordOption; 8] = [
         help: "How much longer one of each further round lasts, at most a day",
     },
     WordOption {
+        name: "idle",
+        is_required: false,
+        value: "MS",
+        help: "How long a proposal of no transactions waits, at most --start; else half of it",
+    },
+    WordOption {
         name: "stop",
         is_required: false,
         value: "K",
@@ -71,7 +77,7 @@ static RUN: [WordOption; 8] = [
     },
 ];
 
-static SEND: [WordOption; 6] = [
+static SEND: [WordOption; 7] = [
     WordOption {
         name: "id",
         is_required: true,
@@ -93,20 +99,26 @@ static SEND: [WordOption; 6] = [
     WordOption {
         name: "to",
         is_required: true,
-        value: "ADDR",
-        help: "The address of the validator that it is sent to",
+        value: "ADDR,ADDR,..",
+        help: "The address of each validator that it is sent to",
     },
     WordOption {
         name: "number",
         is_required: true,
         value: "M",
-        help: "The place among the client's transactions, from 1 on",
+        help: "The place among the client's transactions, from 1 on; of a file's first one",
     },
     WordOption {
         name: "data",
         is_required: false,
         value: "HEX",
         help: "Send these bytes, at most 1024 of them",
+    },
+    WordOption {
+        name: "file",
+        is_required: false,
+        value: "FILE",
+        help: "Send a transaction for each line of the file: HEX, - for no bytes, or close",
     },
 ];
 
@@ -160,7 +172,7 @@ fn run_command<'a>(alloc: Global) -> Result<Command<'a>, AllocError>
 fn send_command<'a>(alloc: Global) -> Result<Command<'a>, AllocError>
     ensures { IfOk result (λ made. app_of made ≡ send_app) }
 {
-    let command = Command::new(alloc, "send").about("Sends one transaction of a client");
+    let command = Command::new(alloc, "send").about("Sends transactions of a client");
     let close = Arg::new(alloc, "close")
         .long("close")
         .help("Send the client's last transaction")
@@ -184,7 +196,7 @@ pub fn node_command<'a>(alloc: Global) -> Result<Command<'a>, AllocError>
     let keys = keys_command(alloc)?;
     Command::new(alloc, "tmnode")
         .about(
-            "Runs a validator of an atomic broadcast, sends it a transaction, or makes the key files",
+            "Runs a validator of an atomic broadcast, sends it transactions, or makes the key files",
         )
         .version(VERSION)
         .disable_help_subcommand(true)

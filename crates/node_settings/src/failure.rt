@@ -69,10 +69,12 @@ pub enum Failure {
     Halted,
     /// Memory was refused.
     OutOfMemory,
+    /// This line of the file of transactions, from 1 on, is none, or has no number any more; 0 where the file can't be read.
+    Line(u64),
 }
 
 impl Failure {
-    /// The exit status, 2 to 7.
+    /// The exit status, 2 to 8.
     pub fn status(self) -> u8
         ensures { result ≡ status_of self }
     {
@@ -83,6 +85,7 @@ impl Failure {
             Failure::CannotListen | Failure::CannotConnect => 5,
             Failure::Halted => 6,
             Failure::OutOfMemory => 7,
+            Failure::Line(_) => 8,
         }
     }
 }
@@ -99,6 +102,7 @@ impl fmt::Display for Failure {
             Failure::CannotConnect => f.write_str("tmnode: cannot connect"),
             Failure::Halted => f.write_str("tmnode: halted"),
             Failure::OutOfMemory => f.write_str("tmnode: out of memory"),
+            Failure::Line(number) => write!(f, "tmnode: line {number}"),
         }
     }
 }

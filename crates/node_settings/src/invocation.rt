@@ -3,10 +3,10 @@
 ghost use Rattle.std.specs.Prelude.{◌≡◌, ◌<◌, ◌≤◌, IfOk, length, map, option_map};
 ghost use Rattle.clap.specs.Words.{found_of, rows_of, kind_of, subcommand_rows_of};
 ghost use Rattle.transactions.specs.Grammar.{IsOp};
-ghost use Rattle.node_settings.specs.Words.{Gives, op_of};
+ghost use Rattle.node_settings.specs.Words.{Gives, op_of, line_op};
 ghost use Rattle.node_settings.specs.Failures.{settings_number};
-ghost use Rattle.node_settings.specs.Lawful.{IsLawful, IsLawfulRun, IsLawfulSend, IsLawfulKeys};
-ghost use Rattle.node_settings.specs.Settings.{run_words, send_words, keys_words, invocation_words, run_of, validators_of, send_of, keys_of, cluster_of, entered_of, settings_of, asked_by};
+ghost use Rattle.node_settings.specs.Lawful.{IsLawful, IsLawfulRun, IsLawfulSending, IsLawfulSend, IsLawfulKeys};
+ghost use Rattle.node_settings.specs.Settings.{run_words, sent_words, send_words, keys_words, invocation_words, idle_of, run_of, validators_of, sent_of, send_of, keys_of, cluster_of, entered_of, settings_of, asked_by};
 
 use crate::command::node_command;
 use crate::lists::{bytes_of, powers_of, words_of};
@@ -17,7 +17,7 @@ use powers::Powers;
 use std::alloc::{AllocError, AllocFailed, Global};
 use std::convert::AsStr;
 use std::fmt;
-use transactions::Op;
+use transactions::{Op, Seq};
 
 /// The greatest number of validators.
 const MOST_VALIDATORS: u64 = 64;
@@ -92,8 +92,19 @@ pub struct RunSettings<'a> {
     pub start: u64,
     /// How much longer one of each further round lasts, in milliseconds: at most a day.
     pub delta: u64,
+    /// How long a proposal of no transactions waits, in milliseconds: at most `start`.
+    pub idle: u64,
     /// After how many delivered items the program ends, from 1 on.
     pub stop: Option<u64>,
+}
+
+/// What a client sends.
+#[derive(Debug, Drop)]
+pub enum Sending<'a> {
+    /// One transaction: at most 1,024 bytes, or the close.
+    One(Op),
+    /// A transaction for each line of the file of this name.
+    Lines(&'a str),
 }
 
 /// The settings of `tmnode send`.
@@ -105,12 +116,12 @@ pub struct SendSettings<'a> {
     pub validators: u16,
     /// The key file's name.
     pub keys: &'a str,
-    /// The address of the validator that it is sent to.
-    pub to: &'a str,
-    /// The place among the client's transactions, from 1 to 2^48.
+    /// The address of each validator that it is sent to.
+    pub to: Vec<&'a str>,
+    /// The place of the first among the client's transactions, from 1 to 2^48.
     pub number: u64,
-    /// At most 1,024 bytes, or the close.
-    pub op: Op,
+    /// What is sent.
+    pub sending: Sending<'a>,
 }
 
 /// The settings of `tmnode keys`.
@@ -139,7 +150,7 @@ impl fmt::Display for Page {
 pub enum Invocation<'a> {
     /// To run a validator.
     Run(RunSettings<'a>),
-    /// To send a transaction.
+    /// To send transactions.
     Send(SendSettings<'a>),
     /// To make the key file of every party.
     Keys(KeysSettings<'a>),
@@ -204,6 +215,7 @@ impl<'a> RunSettings<'a> {
         let journal = word(found, "journal")?;
         let start = number(found, "start", 0, MOST_MILLISECONDS)?;
         let delta = number(found, "delta", 0, MOST_MILLISECONDS)?;
+        let idle = idle_of(found, start)?;
         let stop = number_or_none(found, "stop", 1, u64::MAX)?;
         let (powers, peers) = cluster(alloc, word(found, "powers")?, word(found, "peers")?, me)?;
         Ok(RunSettings {
@@ -214,8 +226,21 @@ impl<'a> RunSettings<'a> {
             peers,
             start,
             delta,
+            idle,
             stop,
         })
+    }
+}
+
+/// How long a proposal of no transactions waits, in milliseconds: at most as long as the propose timeout of round 0.
+#[tactic(auto, unfolding(crate::specs::Settings::idle_of))]
+fn idle_of(found: &ArgMatches<'_>, start: u64) -> Result<u64, SettingsFault>
+    ensures asked { result ≡ idle_of start (rows_of (found_of found.now)) }
+    ensures lawful { IfOk result (λ idle. idle ≤ start) }
+{
+    match number_or_none(found, "idle", 0, start)? {
+        Some(idle) => Ok(idle),
+        None => Ok(start / 2),
     }
 }
 
@@ -258,17 +283,17 @@ impl<'a> SendSettings<'a> {
         let client = number(found, "id", 0, LAST_CLIENT)? as u16;
         let validators = validators_of(found)?;
         let keys = word(found, "keys")?;
-        let to = word(found, "to")?;
+        let to = words_of(alloc, word(found, "to")?)?;
         let number = number(found, "number", 1, LAST_NUMBER)?;
-        let digits = word_of(found, "data");
-        let op = op_of(alloc, digits, is_flagged(found, "close"))?;
+        let close = is_flagged(found, "close");
+        let sending = sending_of(alloc, word_of(found, "data"), close, word_of(found, "file"))?;
         Ok(SendSettings {
             client,
             validators,
             keys,
             to,
             number,
-            op,
+            sending,
         })
     }
 }
@@ -291,6 +316,23 @@ impl<'a> KeysSettings<'a> {
     }
 }
 
+/// What is sent, by the words of `--data` and `--file` and whether `--close` is there: exactly one has to be.
+fn sending_of<'a>(
+    alloc: Global,
+    digits: Option<&str>,
+    close: bool,
+    file: Option<&'a str>,
+) -> Result<Sending<'a>, SettingsFault>
+    ensures asked { Gives sent_words result (sent_of (option_map (λ word. word.now) digits.entry) close (option_map (λ word. word.now) file.entry)) }
+    ensures lawful { IfOk result IsLawfulSending }
+{
+    match file {
+        None => Ok(Sending::One(op_of(alloc, digits, close)?)),
+        Some(file) if digits.is_none() && !close => Ok(Sending::Lines(file)),
+        Some(_) => Err(SettingsFault::Usage),
+    }
+}
+
 /// What a transaction is to do, by the word of `--data` and whether `--close` is there: exactly one has to be.
 fn op_of(alloc: Global, digits: Option<&str>, close: bool) -> Result<Op, SettingsFault>
     ensures asked { Gives (λ op. op) result (op_of (option_map (λ word. word.now) digits.entry) close) }
@@ -300,5 +342,24 @@ fn op_of(alloc: Global, digits: Option<&str>, close: bool) -> Result<Op, Setting
         None if close => Ok(Op::Close),
         Some(digits) if !close => Ok(Op::Bytes(bytes_of(alloc, digits)?)),
         _ => Err(SettingsFault::Usage),
+    }
+}
+
+/// What a line of a file of transactions is to do: `close`, `-` for no bytes, or at most 1,024 bytes as hexadecimal digits.
+///
+/// The fault is `Usage` (1) for any other line, also an empty one, or `OutOfMemory` (2).
+#[tactic(auto, unfolding(crate::specs::Words::line_op))]
+pub fn line_op(alloc: Global, line: &str) -> Result<Op, SettingsFault>
+    ensures asked { Gives (λ op. op) result (line_op line.now) }
+    ensures lawful { IfOk result IsOp }
+{
+    if line == "close" {
+        Ok(Op::Close)
+    } else if line == "-" {
+        Ok(Op::Bytes(Seq::new(alloc)))
+    } else if line.is_empty() {
+        Err(SettingsFault::Usage)
+    } else {
+        op_of(alloc, Some(line), false)
     }
 }

@@ -1,10 +1,11 @@
 //! The words of a command line of `tmnode`, as typed settings, and how the program ends: each fault with its line on standard
 //! error and its exit status.
 //!
-//! - `tmnode run --id I --powers P,P,.. --keys FILE --journal FILE --peers ADDR,ADDR,.. --start MS --delta MS [--stop K]`
+//! - `tmnode run --id I --powers P,P,.. --keys FILE --journal FILE --peers ADDR,ADDR,.. --start MS --delta MS
+//!   [--idle MS] [--stop K]`
 //!   is a validator: number I of those with these powers and addresses.
-//! - `tmnode send --id C --validators N --keys FILE --to ADDR --number M` with one of `--data HEX` and `--close` sends one
-//!   transaction of client C.
+//! - `tmnode send --id C --validators N --keys FILE --to ADDR,ADDR,.. --number M` with one of `--data HEX`, `--close` and
+//!   `--file FILE` sends transactions of client C.
 //! - `tmnode keys --validators N --clients C --out DIR` makes the key file of each of so many validators and clients.
 //! - `--help`, also behind `run`, `send` or `keys`, and `--version` ask for a page.
 //!
@@ -21,5 +22,6 @@ mod options;
 pub use answer::Answer;
 pub use failure::{Failure, JournalTrouble, KeysTrouble};
 pub use invocation::{
-    Invocation, KeysSettings, Page, RunSettings, SendSettings, SettingsFault, settings,
+    Invocation, KeysSettings, Page, RunSettings, SendSettings, Sending, SettingsFault, line_op,
+    settings,
 };

@@ -77,7 +77,8 @@ pub fn number_or_none(
     least: u64,
     most: u64,
 ) -> Result<Option<u64>, SettingsFault>
-    ensures { result ≡ number_or_none least most name.now (rows_of (found_of found.now)) }
+    ensures number { result ≡ number_or_none least most name.now (rows_of (found_of found.now)) }
+    ensures within { IfOk result (λ given. IfSome given (λ number. (least ≤ number) × (number ≤ most))) }
 {
     match word_of(found, name) {
         Some(word) => match number_between(word, least, most) {

@@ -1,3 +1,4 @@
 pub mod Heading
 pub mod Answers
 pub mod Times
+pub mod Idle

@@ -29,6 +29,9 @@ impl<S: Store + Drop, J: Node, C: Clock> Shared<'_, S, J, C> {
         let answer = self.hand_in(rt, seat, link, frame);
         if let Some(reply) = reply_to(frame, answer) {
             self.reply(rt, queue, reply);
+            if reply.code == 0 {
+                self.send_now(rt);
+            }
         }
         self.follow(rt, seat);
     }

@@ -2,6 +2,7 @@
 
 ghost use Rattle.messages.specs.Replies.{IsReply};
 
+use crate::idle::idle_height;
 use crate::outlets::{Queue, offered};
 use crate::shared::Shared;
 use bytes::Bytes;
@@ -26,17 +27,52 @@ impl<S: Store + Drop, J: Node, C: Clock> Shared<'_, S, J, C> {
 
     /// Frames are queued in the order in which they were released, since they are taken under the lock
     /// of the queues. Answers how many were dropped.
-    fn queue_outgoing<R: Wait>(&self, rt: &R) -> u64 {
+    fn queue_outgoing<R: Wait + time::Clock>(&self, rt: &R) -> u64 {
         let outlets = self.outlets.lock(rt);
         let mut dropped = 0u64;
         for frame in self.node.take_outgoing(rt) {
             let lost = match Bytes::from_vec(frame) {
-                Ok(frame) => outlets.offer(rt, &frame),
+                Ok(frame) => self
+                    .unheld(rt, frame)
+                    .map_or(0, |frame| outlets.offer(rt, &frame)),
                 Err(_) => 1,
             };
             dropped = dropped.saturating_add(lost);
         }
         dropped
+    }
+
+    /// The frame, unless it is an own proposal of no transactions, which waits.
+    fn unheld<R: Wait + time::Clock>(&self, rt: &R, frame: Bytes) -> Option<Bytes> {
+        match idle_height(&frame) {
+            Some(height) if self.idle > 0 => {
+                let due = self.clock.now_ms(rt).saturating_add(self.idle);
+                self.held.lock(rt).hold(height, frame, due)
+            }
+            _ => Some(frame),
+        }
+    }
+
+    /// Queues the proposal that waits where its time has come.
+    pub(crate) fn send_due<R: Wait + time::Clock + Log>(&self, rt: &R) {
+        let now = self.clock.now_ms(rt);
+        let frame = self.held.lock(rt).take_due(now);
+        self.send_held(rt, frame);
+    }
+
+    /// Queues the proposal that waits, since a transaction has come.
+    pub(crate) fn send_now<R: Wait + Log>(&self, rt: &R) {
+        let frame = self.held.lock(rt).take();
+        self.send_held(rt, frame);
+    }
+
+    fn send_held<R: Wait + Log>(&self, rt: &R, frame: Option<Bytes>) {
+        let Some(frame) = frame else {
+            return;
+        };
+        if self.outlets.lock(rt).offer(rt, &frame) > 0 {
+            warn!(rt; "a proposal is dropped, since a link has no room");
+        }
     }
 
     /// Hands the plan what the node scheduled.

@@ -5,7 +5,7 @@ ghost use denote.Param.Send.{IsSend};
 use crate::edge::Edge;
 use crate::outlets::{Outlets, Queue};
 use crate::shared::{Ending, Shared};
-use edge_frames::LinkId;
+use edge_frames::{HeldProposal, LinkId};
 use locked_node::LockedNode;
 use log::{Log, info, warn};
 use peer_links::{Clock, Link, Links, Next, Peer};
@@ -19,6 +19,18 @@ use vote_journal::Store;
 
 /// How long it waits for links to end, in milliseconds at a time.
 const TURN_MS: u64 = 10;
+
+/// When the timers of a node go, and when it ends.
+#[derive(Drop)]
+pub struct Pace {
+    /// The timeouts that wait, and how long each lasts.
+    pub plan: Plan,
+    /// How long an own proposal of no transactions waits at most, in milliseconds; with 0 none waits. Nodes whose propose
+    /// timeout is no longer than this decide nothing before a transaction comes, but in later rounds.
+    pub idle: u64,
+    /// After how many delivered items it ends.
+    pub stop: Option<u64>,
+}
 
 /// Serves peers until `stop` items are delivered (`Stopped`), the source of peers has none any more
 /// and every link has ended (`Ended`), a call of the node answered 17 or 15 (`Halted`), or no thread
@@ -39,20 +51,40 @@ pub fn serve<
     rt: &R,
     alloc: Global,
     node: &LockedNode<S, J>,
-    mut links: L,
+    links: L,
     clock: &C,
     plan: Plan,
     stop: Option<u64>,
 ) -> Ending {
+    let pace = Pace {
+        plan,
+        idle: 0,
+        stop,
+    };
+    serve_at_pace(rt, alloc, node, links, clock, pace)
+}
+
+/// Serves peers as [`serve`] does, and lets an own proposal of no transactions wait: until the pace's time is over, or a
+/// transaction is accepted.
+pub fn serve_at_pace<
+    S: Store + Drop + Send,
+    J: Node + Send + Sync,
+    C: Clock + Sync,
+    L: Links + Drop,
+    R: Threads + Wait + time::Clock + Log + Sync,
+>(rt: &R, alloc: Global, node: &LockedNode<S, J>, mut links: L, clock: &C, pace: Pace) -> Ending {
     let now = clock.now_ms(rt);
+    let Pace { plan, idle, stop } = pace;
     let shared = Shared {
         alloc,
         node,
         clock,
         stop,
+        idle,
         plan: Mutex::new(plan),
         edge: Mutex::new(Edge::new(alloc, now)),
         outlets: Mutex::new(Outlets::new(alloc)),
+        held: Mutex::new(HeldProposal::new()),
         ending: Mutex::new(None),
     };
     shared.run(rt, &mut links)

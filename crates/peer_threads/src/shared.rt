@@ -2,6 +2,7 @@
 
 use crate::edge::Edge;
 use crate::outlets::Outlets;
+use edge_frames::HeldProposal;
 use locked_node::LockedNode;
 use log::Log;
 use peer_links::Clock;
@@ -33,9 +34,12 @@ pub(crate) struct Shared<'a, S: Store + Drop, J: Node, C: Clock> {
     pub(crate) clock: &'a C,
     /// How many delivered items are enough.
     pub(crate) stop: Option<u64>,
+    /// How long an own proposal of no transactions waits at most, in milliseconds.
+    pub(crate) idle: u64,
     pub(crate) plan: Mutex<Plan>,
     pub(crate) edge: Mutex<Edge>,
     pub(crate) outlets: Mutex<Outlets>,
+    pub(crate) held: Mutex<HeldProposal>,
     pub(crate) ending: Mutex<Option<Ending>>,
 }
 

@@ -29,7 +29,7 @@ pub fn wait_until(now: u64, tick: u64, due: Option<u64>) -> u64
 }
 
 impl<S: Store + Drop, J: Node, C: Clock> Shared<'_, S, J, C> {
-    /// Fires the timeouts that are due and ticks each second, until all ends.
+    /// Fires the timeouts that are due, ticks each second, and lets a proposal go that has waited, until all ends.
     pub(crate) fn run_timer<R: Wait + time::Clock + Log>(&self, rt: &R) {
         let mut seat = self.node.seat(rt);
         let mut unfired = None;
@@ -40,6 +40,7 @@ impl<S: Store + Drop, J: Node, C: Clock> Shared<'_, S, J, C> {
             }
             self.fire_due(rt, &mut seat, &mut unfired);
             tick = self.tick(rt, &mut seat, tick);
+            self.send_due(rt);
             self.follow(rt, &mut seat);
             self.look(rt, &mut seat);
             self.wait(rt, tick);

@@ -1,4 +1,4 @@
-//! A validator that serves its peers over TCP, or a client that sends one transaction.
+//! A validator that serves its peers over TCP, a client that sends transactions, or the maker of their key files.
 #![tactic(auto)]
 
 use node_program::node_program;

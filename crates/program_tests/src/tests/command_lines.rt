@@ -1,6 +1,8 @@
 //! Command lines, and what they ask for.
 
-use node_settings::{Invocation, KeysSettings, RunSettings, SendSettings, settings};
+use node_settings::{
+    Invocation, KeysSettings, RunSettings, SendSettings, Sending, SettingsFault, line_op, settings,
+};
 use std::alloc::{AllocError, Global};
 use std::process::Abort;
 use std::test::Fail;
@@ -29,19 +31,30 @@ fn shown_run(alloc: Global, run: &RunSettings<'_>) -> Result<String, AllocError>
         text = format!(in alloc; "{text} {peer}")?;
     }
     format!(in alloc;
-        "{text}, {} {}, {} {} {:?}",
-        run.keys, run.journal, run.start, run.delta, run.stop
+        "{text}, {} {}, {} {} {} {:?}",
+        run.keys, run.journal, run.start, run.delta, run.idle, run.stop
     )
 }
 
+fn shown_op(alloc: Global, op: &Op) -> Result<String, AllocError> {
+    match op {
+        Op::Bytes(bytes) => format!(in alloc; "{:?}", bytes.as_slice()),
+        Op::Close => format!(in alloc; "close"),
+    }
+}
+
 fn shown_send(alloc: Global, send: &SendSettings<'_>) -> Result<String, AllocError> {
-    let op = match &send.op {
-        Op::Bytes(bytes) => format!(in alloc; "{:?}", bytes.as_slice())?,
-        Op::Close => format!(in alloc; "close")?,
+    let sent = match &send.sending {
+        Sending::One(op) => shown_op(alloc, op)?,
+        Sending::Lines(file) => format!(in alloc; "lines of {file}")?,
     };
+    let mut text = format!(in alloc; "{} to", send.client)?;
+    for address in &send.to {
+        text = format!(in alloc; "{text} {address}")?;
+    }
     format!(in alloc;
-        "{} to {} of {}, {}, {} {op}",
-        send.client, send.to, send.validators, send.keys, send.number
+        "{text} of {}, {}, {} {sent}",
+        send.validators, send.keys, send.number
     )
 }
 
@@ -75,13 +88,19 @@ fn run_lines(rt: HostRuntime) -> Result<(), Fail> {
         &rt,
         alloc,
         "tmnode run --id 1 --powers 5,3 --keys k --journal j --peers a:1,b:2 --start 0 --delta 86400000 --stop 1",
-        "1 of 2, power 8 a:1 b:2, k j, 0 86400000 Some(1)",
+        "1 of 2, power 8 a:1 b:2, k j, 0 86400000 0 Some(1)",
     )?;
     assert_asked(
         &rt,
         alloc,
         "tmnode run --delta 2 --start=00200 --peers a,b,c --journal=j --keys k --powers 1,1,1 --id 0",
-        "0 of 3, power 3 a b c, k j, 200 2 None",
+        "0 of 3, power 3 a b c, k j, 200 2 100 None",
+    )?;
+    assert_asked(
+        &rt,
+        alloc,
+        "tmnode run --id 0 --powers 1,1 --keys k --journal j --peers a,b --start 9 --delta 2 --idle 9",
+        "0 of 2, power 2 a b, k j, 9 2 9 None",
     )
 }
 
@@ -95,7 +114,8 @@ fn bad_run_lines(rt: HostRuntime) -> Result<(), Fail> {
         "0 --start 1\n0 --delta 1\n3 --start 1 --delta 1\n-1 --start 1 --delta 1\n+1 --start 1 --delta 1\n \
 0x1 --start 1 --delta 1\n --start 1 --delta 1\n0 --start 86400001 --delta 1\n0 --start 1 --delta 86400001\n\
 0 --start 1 --delta 1 --stop 0\n0 --start 1 --delta 1 --stop 18446744073709551616\n0 --start 1 --delta 1 x\n\
-0 --start 1 --delta 1 --start 2\n0 --start 1 --delta 1 --other 2",
+0 --start 1 --delta 1 --start 2\n0 --start 1 --delta 1 --other 2\n0 --start 1 --delta 3 --idle 2\n\
+0 --start 1 --delta 1 --idle -1",
     )?;
     assert_usage(
         &rt,
@@ -126,7 +146,44 @@ fn send_lines(rt: HostRuntime) -> Result<(), Fail> {
         alloc,
         "tmnode send --close --id 7 --validators 4 --keys k --to a:1 --number 2",
         "7 to a:1 of 4, k, 2 close",
+    )?;
+    assert_asked(
+        &rt,
+        alloc,
+        "tmnode send --id 7 --validators 4 --keys k --to a:1,b:2 --number 2 --file f",
+        "7 to a:1 b:2 of 4, k, 2 lines of f",
     )
+}
+
+/// What a line of a file is to do, as a text.
+fn shown_line(alloc: Global, line: &str) -> Result<String, AllocError> {
+    match line_op(alloc, line) {
+        Ok(op) => shown_op(alloc, &op),
+        Err(SettingsFault::Usage) => format!(in alloc; "usage"),
+        Err(SettingsFault::OutOfMemory) => Err(AllocError),
+    }
+}
+
+#[test]
+fn lines_of_files(rt: HostRuntime) -> Result<(), Fail> {
+    let alloc = rt.alloc();
+    for (line, wanted) in [
+        ("61fF", "[97, 255]"),
+        ("-", "[]"),
+        ("close", "close"),
+        ("", "usage"),
+        (" ", "usage"),
+        ("6", "usage"),
+        ("Close", "usage"),
+        ("--", "usage"),
+    ] {
+        let text = shown_line(alloc, line)?;
+        assert!(&rt; text.as_str() == wanted, "{line}: {text}");
+    }
+    let long = "00".repeat(alloc, 1025)?;
+    let text = shown_line(alloc, &long)?;
+    assert!(&rt; text.as_str() == "usage", "{text}");
+    Ok(())
 }
 
 #[test]
@@ -140,7 +197,8 @@ fn bad_send_lines(rt: HostRuntime) -> Result<(), Fail> {
 --id 7 --validators 4 --number 2 --data 6\n--id 7 --validators 4 --number 2 --data 6g\n\
 --id 1024 --validators 4 --number 2 --close\n--id 7 --validators 1 --number 2 --close\n\
 --id 7 --validators 65 --number 2 --close\n--id 7 --validators 4 --number 0 --close\n\
---id 7 --validators 4 --number 281474976710657 --close\n--id 7 --validators 4 --close",
+--id 7 --validators 4 --number 281474976710657 --close\n--id 7 --validators 4 --close\n\
+--id 7 --validators 4 --number 2 --close --file f\n--id 7 --validators 4 --number 2 --data 61 --file f",
     )?;
     let long = "00".repeat(alloc, 1025)?;
     let line = format!(in alloc;
@@ -210,7 +268,7 @@ fn pages(rt: HostRuntime) -> Result<(), Fail> {
     );
     let page = asked(alloc, "tmnode send --help")?;
     assert!(rt;
-        page.contains("--data <HEX>") && page.contains("--close"),
+        page.contains("--data <HEX>") && page.contains("--close") && page.contains("--file <FILE>"),
         "{page}"
     );
     let page = asked(alloc, "tmnode keys --help")?;

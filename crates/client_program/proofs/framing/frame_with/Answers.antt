@@ -3,7 +3,7 @@ use Rattle.authenticators.specs.Ring.{tags_of}
 use Rattle.messages.specs.Framing.{SpellsFrame}
 use Rattle.messages.specs.Grammar.{body_spelling}
 use Rattle.client_program.proofs.Memory.{no_memory}
-use Rattle.client_program.proofs.sending.frame_with.Goals as goal
+use Rattle.client_program.proofs.framing.frame_with.Goals as goal
 
 pub returns-in-Err-clause-only : goal.returns-in-Err-clause-only
 returns-in-Err-clause-only c = λ bytes spells. c.failure_of.ensures (no_memory c.in-Err.fault (body_spelling c.args.body) (c.in-Err.ensures.only (body_spelling c.args.body) (record { lawful = spells.lawful.body; same = refl })))

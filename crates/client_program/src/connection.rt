@@ -1,4 +1,4 @@
-//! A frame that is sent, and the reply that comes back.
+//! A connection to a validator: frames are sent, and replies come back.
 
 use messages::{FrameReader, Reply, read_reply};
 use node_settings::Failure;
@@ -44,21 +44,38 @@ fn feed_piece<S: Read>(stream: &mut S, reader: &mut FrameReader) -> Result<(), F
     }
 }
 
-/// Sends a frame, and answers the first reply that comes back. It is `CannotConnect` where the connection ends before.
-pub(crate) fn exchange<S: Read + Write>(
-    alloc: Global,
-    stream: &mut S,
-    frame: &[u8],
-) -> Result<Reply, Failure> {
-    if stream.write_all(frame).is_err() {
-        return Err(Failure::CannotConnect);
-    }
-    let mut reader = FrameReader::new(alloc);
-    for _ in 0..u64::MAX {
-        feed_piece(stream, &mut reader)?;
-        if let Some(reply) = reply_among(&mut reader)? {
-            return Ok(reply);
+/// A stream to a validator, and what came of frames that are not whole.
+#[derive(Drop)]
+pub(crate) struct Connection<S> {
+    stream: S,
+    reader: FrameReader,
+}
+
+impl<S: Read + Write> Connection<S> {
+    /// Nothing was sent yet.
+    pub(crate) fn new(alloc: Global, stream: S) -> Connection<S> {
+        Connection {
+            stream,
+            reader: FrameReader::new(alloc),
         }
     }
-    Err(Failure::CannotConnect)
+
+    /// Sends a frame. It is `CannotConnect` where the connection fails.
+    pub(crate) fn send(&mut self, frame: &[u8]) -> Result<(), Failure> {
+        match self.stream.write_all(frame) {
+            Ok(()) => Ok(()),
+            Err(_) => Err(Failure::CannotConnect),
+        }
+    }
+
+    /// The next reply that comes back. It is `CannotConnect` where the connection ends before.
+    pub(crate) fn reply(&mut self) -> Result<Reply, Failure> {
+        for _ in 0..u64::MAX {
+            if let Some(reply) = reply_among(&mut self.reader)? {
+                return Ok(reply);
+            }
+            feed_piece(&mut self.stream, &mut self.reader)?;
+        }
+        Err(Failure::CannotConnect)
+    }
 }

@@ -1,0 +1,240 @@
+//! Many transactions, to many validators at once.
+
+ghost use Rattle.std.specs.Prelude.{◌≤◌, IfOk};
+
+use crate::connection::Connection;
+use crate::sending::connect;
+use messages::Reply;
+use node_settings::{Answer, Failure};
+use std::io::Write;
+use std::net::{Net, TcpStream};
+use std::sync::{Mutex, Wait};
+use std::thread;
+use std::thread::{Scope, Threads};
+use std::time::{Clock, Duration};
+
+/// How many transactions are sent before their answers are waited for: as many as a validator queues for a client.
+const MOST_SENT: usize = 64;
+
+/// How long a client waits until it sends again what a full queue refused, in milliseconds.
+const PAUSE_MS: u64 = 5;
+
+/// The code of a transaction that is not queued, and the inner number where that is since the client's queue is full.
+const NOT_QUEUED: u8 = 13;
+
+const QUEUE_FULL: u8 = 6;
+
+/// Whether the validator's queue for the client is full.
+fn is_full(reply: Reply) -> bool {
+    reply.code == NOT_QUEUED && reply.inner == QUEUE_FULL
+}
+
+/// What was told of the transactions, by all validators.
+#[derive(Drop)]
+struct Told<W: Drop> {
+    out: W,
+    is_refused: bool,
+    failure: Option<Failure>,
+}
+
+impl<W: Write + Drop> Told<W> {
+    /// Prints a validator's answer. A failed write is passed over.
+    fn answer(&mut self, address: &str, number: u64, answer: Answer) {
+        let _ = writeln!(self.out, "{address} {number} {answer}");
+        let _ = self.out.flush();
+        self.is_refused = self.is_refused || answer.status() > 0;
+    }
+
+    /// Prints that a validator did not answer.
+    fn no_answer(&mut self, address: &str, number: u64) {
+        let _ = writeln!(self.out, "{address} {number} unanswered");
+        let _ = self.out.flush();
+    }
+
+    /// The exit status, once all is told.
+    fn status(self) -> Result<u8, Failure>
+        ensures { IfOk result (λ status. status ≤ 1) }
+    {
+        match self.failure {
+            Some(failure) => Err(failure),
+            None if self.is_refused => Ok(1),
+            None => Ok(0),
+        }
+    }
+}
+
+/// The frames of transactions, which are numbered from `first` on, and what was told of them.
+#[derive(Drop)]
+pub(crate) struct Delivery<'a, W: Drop> {
+    first: u64,
+    frames: &'a [Vec<u8>],
+    told: Mutex<Told<W>>,
+}
+
+impl<'a, W: Write + Send + Drop> Delivery<'a, W> {
+    /// Nothing was sent yet.
+    pub(crate) fn new(first: u64, frames: &'a [Vec<u8>], out: W) -> Delivery<'a, W> {
+        Delivery {
+            first,
+            frames,
+            told: Mutex::new(Told {
+                out,
+                is_refused: false,
+                failure: None,
+            }),
+        }
+    }
+
+    /// The number of a frame's transaction.
+    fn number_of(&self, place: usize) -> u64 {
+        self.first.saturating_add(place as u64)
+    }
+
+    /// Sends the frames to each of these validators, and prints a line for each answer. Each validator has a thread of its
+    /// own, so one that is slow or gone keeps no other waiting.
+    pub(crate) fn send<R: Threads + Wait + Clock + Net<Stream = TcpStream> + AllocGlobal + Sync>(
+        self,
+        rt: &R,
+        addresses: &[&str],
+    ) -> Result<u8, Failure>
+        ensures { IfOk result (λ status. status ≤ 1) }
+    {
+        self.send_to_each(rt, addresses);
+        self.told.into_inner().status()
+    }
+
+    /// Runs a thread for each validator.
+    fn send_to_each<R: Threads + Wait + Clock + Net<Stream = TcpStream> + AllocGlobal + Sync>(
+        &self,
+        rt: &R,
+        addresses: &[&str],
+    ) {
+        thread::scope(
+            thread::scope_env(),
+            rt,
+            |scope| self.begin_each(rt, scope, addresses),
+        );
+    }
+
+    fn begin_each<
+        's,
+        E,
+        R: Threads + Wait + Clock + Net<Stream = TcpStream> + AllocGlobal + Sync + 's,
+    >(&'s self, rt: &'s R, scope: &Scope<'s, E>, addresses: &'s [&'s str])
+    where
+        W: 's,
+    {
+        for address in addresses {
+            self.begin(rt, scope, address);
+        }
+    }
+
+    /// Connects to a validator, and starts its thread.
+    fn begin<'s, E, R: Threads + Wait + Clock + Net<Stream = TcpStream> + AllocGlobal + Sync + 's>(
+        &'s self,
+        rt: &'s R,
+        scope: &Scope<'s, E>,
+        address: &'s str,
+    )
+    where
+        W: 's,
+    {
+        let mut errand = Errand {
+            delivery: self,
+            address,
+            answered: 0,
+        };
+        match connect(rt, address) {
+            Ok(connection) => {
+                if scope.spawn(move || errand.run(rt, connection)).is_err() {
+                    self.told.lock(rt).failure = Some(Failure::OutOfMemory);
+                }
+            }
+            Err(failure) => errand.lose(rt, failure),
+        }
+    }
+}
+
+/// What is sent to one validator, and how much of it is answered.
+#[derive(Drop)]
+struct Errand<'d, 'a, 'n, W: Drop> {
+    delivery: &'d Delivery<'a, W>,
+    address: &'n str,
+    answered: usize,
+}
+
+impl<W: Write + Send + Drop> Errand<'_, '_, '_, W> {
+    /// Sends all frames, and tells the answers, or that there are none.
+    fn run<R: Wait + Clock>(&mut self, rt: &R, mut connection: Connection<TcpStream>) {
+        if let Err(failure) = self.send_all(rt, &mut connection) {
+            self.lose(rt, failure);
+        }
+    }
+
+    /// Sends what is left, so many at a time, until all is answered.
+    fn send_all<R: Wait + Clock>(
+        &mut self,
+        rt: &R,
+        connection: &mut Connection<TcpStream>,
+    ) -> Result<(), Failure> {
+        for _ in rt.forever() {
+            if self.answered >= self.delivery.frames.len() {
+                break;
+            }
+            let count = self.send_some(connection)?;
+            if !self.take_answers(rt, connection, count)? {
+                thread::sleep(rt, Duration::from_millis(PAUSE_MS));
+            }
+        }
+        Ok(())
+    }
+
+    /// Sends the next frames, and answers how many.
+    fn send_some(&self, connection: &mut Connection<TcpStream>) -> Result<usize, Failure> {
+        let mut count = 0usize;
+        for frame in self
+            .delivery
+            .frames
+            .iter()
+            .skip(self.answered)
+            .take(MOST_SENT)
+        {
+            connection.send(frame)?;
+            count = count.saturating_add(1);
+        }
+        Ok(count)
+    }
+
+    /// Tells so many answers, up to the first transaction that a full queue refused: whether there was none. Those behind
+    /// it are refused too, since their turn had not come.
+    fn take_answers<R: Wait>(
+        &mut self,
+        rt: &R,
+        connection: &mut Connection<TcpStream>,
+        count: usize,
+    ) -> Result<bool, Failure> {
+        let mut was_full = false;
+        for _ in 0..count {
+            let reply = connection.reply()?;
+            was_full = was_full || is_full(reply);
+            if !was_full {
+                let number = self.delivery.number_of(self.answered);
+                self.delivery
+                    .told
+                    .lock(rt)
+                    .answer(self.address, number, Answer { reply });
+                self.answered = self.answered.saturating_add(1);
+            }
+        }
+        Ok(!was_full)
+    }
+
+    /// Tells that what is left has no answer.
+    fn lose<R: Wait>(&self, rt: &R, failure: Failure) {
+        let mut told = self.delivery.told.lock(rt);
+        told.failure = Some(failure);
+        for place in self.answered..self.delivery.frames.len() {
+            told.no_answer(self.address, self.delivery.number_of(place));
+        }
+    }
+}
