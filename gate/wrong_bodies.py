@@ -3,11 +3,12 @@
 
 usage: gate/wrong_bodies.py [--built] [CRATE [EDIT..]]
 
-Edits of functions' bodies stand in one check together, of those functions and what they call. Of several edits of one
-function the first is made in place, and each other in a copy of the function beside it, with the same contract and the same
-proof files; one more copy, in which nothing is edited, has to be proved there, or the copies tell nothing. An edit counts as
-refused where the prover names a goal of the function that it changes, or of its copy; what its group didn't name goes into a
-further group, and in the end is tried alone, as is an edit of a constant or a type. An edit of a definition has a line
+Edits of functions' bodies stand in one check together: each in a copy of its function beside it, with the same contract and
+the same proof files, so that what calls the function is proved over the one that wasn't edited. Of a function with proof
+files one more copy, in which nothing is edited, has to be proved there, or its copies tell nothing. Of a method of a trait no
+copy can be made: its edit is made in place, in a further check. An edit counts as refused where the prover names a goal of
+its copy, or of its function; what its check didn't name goes into a further one, and in the end is tried alone, as
+is an edit of a constant or a type. An edit of a definition has a line
 'by: LAW', and that law has to be refused with it. So may an edit of code have, with a function in the law's place: where the
 whole check of its crate is dear, that function alone is checked.
 Beside them stand the edits of crates/NAME/equal/, which say the same in other words: each has to be proved, so that a
@@ -237,16 +238,12 @@ def texts_with(crate, edits):
 
 
 class Together:
-    """Edits of a crate's functions that stand in one check, in place or in copies beside the functions."""
+    """Edits of a crate's functions that stand in one check, in copies beside the functions or in place."""
 
     def __init__(self, crate):
         self.crate, self.texts, self.original = crate, Texts(crate), Texts(crate)
-        # Where each edit stands, and the copy without an edit of each function that has copies.
+        # Where each edit stands, and the copy without an edit of each function that has copies and proof files.
         self.places, self.controls = {}, {}
-
-    def add(self, edit):
-        """Whether the edit could join those that stand here."""
-        return self.add_in_place(edit) or self.add_copy(edit)
 
     def add_in_place(self, edit):
         taken = {key for places in self.places.values() for key in places}
@@ -267,7 +264,7 @@ class Together:
             if file != function.file or text.count(old) != 1:
                 return False
             text = text.replace(old, new)
-        if key not in self.controls:
+        if key not in self.controls and (self.proofs_of(function) or f"{function.name}(" in text.partition(f"fn {function.name}")[2]):
             self.controls[key] = self.copied(function, self.text_of(function), "unedited")
         self.places[edit] = [self.copied(function, text, f"edit_{len(self.places)}")]
         return True
@@ -282,11 +279,14 @@ class Together:
         at = next(it.last for it in functions_of(function.file, "\n".join(lines)) if it.key == function.key)
         lines[at + 1 : at + 1] = ["", *re.sub(rf"\bfn {function.name}\b", f"fn {name}", text, count=1).split("\n")]
         self.texts.changed[function.file] = "\n".join(lines)
-        for above, _, files in os.walk(f"{self.crate.folder}/proofs"):
-            folder = os.path.relpath(above, f"{self.crate.folder}/proofs")
-            for file in files if function.has_proof_folder(folder) else []:
-                self.copy_proof(folder, file, f"{os.path.dirname(folder)}/{name}".lstrip("/"))
+        for folder, file in self.proofs_of(function):
+            self.copy_proof(folder, file, f"{os.path.dirname(folder)}/{name}".lstrip("/"))
         return function._replace(name=name).key
+
+    def proofs_of(self, function):
+        """Returns the function's proof files, each as its folder below proofs/ and its name."""
+        walked = ((os.path.relpath(above, f"{self.crate.folder}/proofs"), files) for above, _, files in os.walk(f"{self.crate.folder}/proofs"))
+        return [(folder, file) for folder, files in walked if function.has_proof_folder(folder) for file in files]
 
     def copy_proof(self, folder, file, to):
         with open(f"{self.crate.folder}/proofs/{folder}/{file}", encoding="utf-8") as it:
@@ -295,14 +295,15 @@ class Together:
         self.texts.changed[f"proofs/{to}/{file}"] = re.sub(rf"({named}){path}(?![\w-])", rf"\1{to.replace('/', '.')}", text)
 
 
-def grouped(crate, edits):
-    """Returns the edits in groups, each of which stands in one check."""
-    groups = []
+def grouped(crate, edits, has_copies):
+    """Returns the edits in groups, each of which stands in one check: first those in copies, which say nothing of one another, and
+    then those in place, where what calls an edited function isn't told."""
+    copies, groups = Together(crate), []
     for edit in edits:
-        if not any(it.add(edit) for it in groups):
+        if not (has_copies and copies.add_copy(edit)) and not any(it.add_in_place(edit) for it in groups):
             groups.append(Together(crate))
-            groups[-1].add(edit)
-    return groups
+            groups[-1].add_in_place(edit)
+    return [it for it in (copies, *groups) if it.places]
 
 
 # What a proof file says where it names what the edit took away: a refusal, but one that says little of the contract.
@@ -371,9 +372,8 @@ class Group:
 
     def verdict(self, edit):
         """Returns whether all is well with the edit and what to say, or None where this check can't tell."""
-        places = self.together.places[edit]
-        in_copy = places != edit.functions
-        if not self.is_read or in_copy and not self.has_proved(self.together.controls[edit.functions[0]]):
+        places, control = self.together.places[edit], self.together.controls.get(edit.functions[0])
+        if not self.is_read or control and not self.has_proved(control):
             return None
         if edit.is_equal:
             return (True, f"{edit.label}: proved, as it must be") if all(map(self.has_proved, places)) else None
@@ -391,7 +391,7 @@ def tried_alone(crate, edit, kept):
         well, text = rt.must_fail(crate, edit.path, ONE_JOB, kept)
         return well, f"{edit.label}: {text.partition(': ')[2]}"
     together = Together(crate)
-    together.add(edit)
+    together.add_in_place(edit)
     return Group(together, kept).verdict(edit) or (False, f"{edit.label}: NOT PROVED, though it does the same")
 
 
@@ -424,7 +424,7 @@ def tried_by_law(crate, edit):
 
 def tried(crate, edits):
     """Tries a crate's edits of code, and returns for each whether all is well. Each verdict is printed as it is known."""
-    wells, left, alone = [], [it for it in edits if it.functions], [it for it in edits if not it.functions]
+    wells, left, alone, is_first = [], [it for it in edits if it.functions], [it for it in edits if not it.functions], True
 
     def tell(well, text):
         wells.append(well)
@@ -433,14 +433,14 @@ def tried(crate, edits):
     with tempfile.TemporaryDirectory(prefix="wrong-bodies-") as kept:
         while len(left) > 1:
             untold = []
-            for together in grouped(crate, left):
+            for together in grouped(crate, left, is_first):
                 group = Group(together, kept)
                 for edit in together.places:
                     verdict = group.verdict(edit)
                     tell(*verdict) if verdict else untold.append(edit)
-            if len(untold) == len(left):
+            if len(untold) == len(left) and not is_first:
                 break
-            left = untold
+            left, is_first = untold, False
         for edit in [*left, *alone]:
             tell(*tried_alone(crate, edit, kept))
     return wells

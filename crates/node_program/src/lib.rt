@@ -12,6 +12,7 @@ mod item_line;
 mod opening;
 mod printing;
 mod program;
+mod progress;
 mod validator;
 
 pub use item_line::ItemLine;

@@ -4,7 +4,9 @@ ghost use Rattle.std.specs.Prelude.{◌≡◌, ◌≤◌, ◌+◌};
 
 use crate::finish::Finish;
 use crate::item_line::ItemLine;
+use crate::progress::Progress;
 use locked_node::{LockedNode, Subscription};
+use log::Log;
 use status_words::{Node, Seat};
 use std::alloc::{AllocError, Global};
 use std::io;
@@ -90,8 +92,8 @@ fn print_delivered<S: Store + Drop, J: Node, W: Write + Drop, R: Wait>(
 }
 
 /// Prints what is delivered, from the ring's first position on, until the node's threads have ended, or all is printed that
-/// is to be. What can't be had for want of memory is tried again until the end.
-pub(crate) fn print_until_end<S: Store + Drop, J: Node, W: Write + Drop, R: Wait + Clock>(
+/// is to be. What can't be had for want of memory is tried again until the end. Now and then it logs how far the node is.
+pub(crate) fn print_until_end<S: Store + Drop, J: Node, W: Write + Drop, R: Wait + Clock + Log>(
     rt: &R,
     node: &LockedNode<S, J>,
     mut subscription: Subscription,
@@ -99,6 +101,7 @@ pub(crate) fn print_until_end<S: Store + Drop, J: Node, W: Write + Drop, R: Wait
     mut printout: Printout<W>,
 ) -> Result<(), AllocError> {
     let mut seat = node.seat(rt);
+    let mut progress = Progress::new();
     for _ in rt.forever() {
         let is_last = finish.has_come(rt);
         let told = print_delivered(rt, node, &mut seat, &mut subscription, &mut printout);
@@ -106,6 +109,7 @@ pub(crate) fn print_until_end<S: Store + Drop, J: Node, W: Write + Drop, R: Wait
             return told;
         }
         finish.wait_turn(rt);
+        progress.turn(rt, node.status(&mut seat));
     }
     unreachable!()
 }

@@ -15,7 +15,7 @@ use authenticators::Party;
 use journal_file::FileStore;
 use key_files::{memory_or, read_ring};
 use locked_node::{LockedNode, Subscription, words_for};
-use log::Log;
+use log::{Log, info};
 use node_core::{Config, NodeCore};
 use node_settings::{Failure, RunSettings};
 use peer_threads::{Ending, Pace, serve_at_pace};
@@ -60,6 +60,12 @@ pub(crate) fn run<
     ensures { IfOk result (λ status. status ≡ 0) }
 {
     let core = validator_of(rt, &settings)?;
+    info!(rt;
+        "validator {} is at height {}, with {} decisions in its journal",
+        settings.me,
+        core.height(),
+        core.delivered().len()
+    );
     let Ok(opened) = words_for(rt.alloc(), &core) else {
         return Err(Failure::OutOfMemory);
     };
