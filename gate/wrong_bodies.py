@@ -264,7 +264,7 @@ class Together:
             if file != function.file or text.count(old) != 1:
                 return False
             text = text.replace(old, new)
-        if key not in self.controls and (self.proofs_of(function) or f"{function.name}(" in text.partition(f"fn {function.name}")[2]):
+        if key not in self.controls and self.rests_on_its_name(function):
             self.controls[key] = self.copied(function, self.text_of(function), "unedited")
         self.places[edit] = [self.copied(function, text, f"edit_{len(self.places)}")]
         return True
@@ -283,10 +283,18 @@ class Together:
             self.copy_proof(folder, file, f"{os.path.dirname(folder)}/{name}".lstrip("/"))
         return function._replace(name=name).key
 
+    def proof_files(self):
+        """Returns the crate's proof files, each as its folder below proofs/ and its name."""
+        walked = os.walk(f"{self.crate.folder}/proofs")
+        return [(os.path.relpath(above, f"{self.crate.folder}/proofs"), file) for above, _, files in walked for file in files]
+
     def proofs_of(self, function):
-        """Returns the function's proof files, each as its folder below proofs/ and its name."""
-        walked = ((os.path.relpath(above, f"{self.crate.folder}/proofs"), files) for above, _, files in os.walk(f"{self.crate.folder}/proofs"))
-        return [(folder, file) for folder, files in walked if function.has_proof_folder(folder) for file in files]
+        return [it for it in self.proof_files() if function.has_proof_folder(it[0])]
+
+    def rests_on_its_name(self, function):
+        """Whether the proof of a copy may fail for its name alone: the function, or a closure of it, has proof files, or it calls itself."""
+        has_files = any(function.name in folder.split("/") for folder, _ in self.proof_files())
+        return has_files or f"{function.name}(" in self.text_of(function).partition(f"fn {function.name}")[2]
 
     def copy_proof(self, folder, file, to):
         with open(f"{self.crate.folder}/proofs/{folder}/{file}", encoding="utf-8") as it:
