@@ -1,5 +1,5 @@
 -- What a client sends.
-use Rattle.std.specs.Prelude.{◌≡◌, ◌⊎◌, ℕ, ◌≤◌, ◌^◌, List, [], Ok}
+use Rattle.std.specs.Prelude.{◌≡◌, ◌⊎◌, ℕ, ◌≤◌, ◌^◌, Bool, true, false, ◌&&◌, ◌==◌, List, [], Option, Some, None, Result, Ok, Err}
 use Rattle.authenticators.specs.Ring.{Ring, tags_of}
 use Rattle.transactions.specs.declared.tx.Op.{Op}
 use Rattle.messages.specs.Grammar.{body_spelling}
@@ -7,6 +7,7 @@ use Rattle.messages.specs.declared.body.Body.{Body}
 use Rattle.messages.specs.declared.body.Body.TheVariants.{Tx}
 use Rattle.messages.specs.declared.body.Message.{Message}
 use Rattle.messages.specs.Framing.{SpellsFrame}
+use Rattle.messages.specs.declared.replies.Reply.{Reply}
 use Rattle.node_settings.specs.Words.{line_op}
 use Rattle.node_settings.specs.declared.failure.Failure.{Failure}
 use Rattle.node_settings.specs.declared.failure.Failure.TheVariants.{OutOfMemory, Line}
@@ -29,3 +30,15 @@ pub record IsFrameOfLine (ring : Ring) (client number : ℕ) (line frame : List 
 -- what is told of a line that gives no frame, unless memory runs out
 abbrev pub IsOfLine : Failure → Type 0
 IsOfLine failure = (failure ≡ OutOfMemory) ⊎ ((line : ℕ) × (failure ≡ Line line))
+
+-- ---- what is told of many
+
+-- the client's queue is full, which another moment may change
+abbrev pub is_full : Reply → Bool
+is_full reply = reply.code == 13 && reply.inner == 6
+
+-- a failure before all else, and then whether a transaction was refused
+abbrev pub told_status : Option Failure → Bool → Result ℕ Failure
+told_status (Some failure) is_refused = Err failure
+told_status None true = Ok 1
+told_status None false = Ok 0

@@ -1,6 +1,8 @@
 //! Many transactions, to many validators at once.
 
-ghost use Rattle.std.specs.Prelude.{◌≤◌, IfOk};
+ghost use Rattle.std.specs.Prelude.{◌≡◌, ◌≤◌, ◌||◌, nat_lt, IfOk};
+ghost use Rattle.node_settings.specs.Failures.{answer_status};
+ghost use Rattle.client_program.specs.Sending.{is_full, told_status};
 
 use crate::connection::Connection;
 use crate::sending::connect;
@@ -25,7 +27,9 @@ const NOT_QUEUED: u8 = 13;
 const QUEUE_FULL: u8 = 6;
 
 /// Whether the validator's queue for the client is full.
-fn is_full(reply: Reply) -> bool {
+fn is_full(reply: Reply) -> bool
+    ensures { result ≡ is_full reply }
+{
     reply.code == NOT_QUEUED && reply.inner == QUEUE_FULL
 }
 
@@ -39,7 +43,10 @@ struct Told<W: Drop> {
 
 impl<W: Write + Drop> Told<W> {
     /// Prints a validator's answer. A failed write is passed over.
-    fn answer(&mut self, address: &str, number: u64, answer: Answer) {
+    fn answer(&mut self, address: &str, number: u64, answer: Answer)
+        ensures refused { self.new.is_refused ≡ (self.old.is_refused || nat_lt 0 (answer_status answer)) }
+        ensures same { self.new.failure ≡ self.old.failure }
+    {
         let _ = writeln!(self.out, "{address} {number} {answer}");
         let _ = self.out.flush();
         self.is_refused = self.is_refused || answer.status() > 0;
@@ -53,7 +60,8 @@ impl<W: Write + Drop> Told<W> {
 
     /// The exit status, once all is told.
     fn status(self) -> Result<u8, Failure>
-        ensures { IfOk result (λ status. status ≤ 1) }
+        ensures told { result ≡ told_status self.failure self.is_refused }
+        ensures few { IfOk result (λ status. status ≤ 1) }
     {
         match self.failure {
             Some(failure) => Err(failure),
@@ -147,10 +155,19 @@ impl<'a, W: Write + Send + Drop> Delivery<'a, W> {
         match connect(rt, address) {
             Ok(connection) => {
                 if scope.spawn(move || errand.run(rt, connection)).is_err() {
-                    self.told.lock(rt).failure = Some(Failure::OutOfMemory);
+                    self.lose(rt, address, 0, Failure::OutOfMemory);
                 }
             }
-            Err(failure) => errand.lose(rt, failure),
+            Err(failure) => self.lose(rt, address, 0, failure),
+        }
+    }
+
+    /// Tells that what a validator has not answered has no answer.
+    fn lose<R: Wait>(&self, rt: &R, address: &str, answered: usize, failure: Failure) {
+        let mut told = self.told.lock(rt);
+        told.failure = Some(failure);
+        for place in answered..self.frames.len() {
+            told.no_answer(address, self.number_of(place));
         }
     }
 }
@@ -167,7 +184,7 @@ impl<W: Write + Send + Drop> Errand<'_, '_, '_, W> {
     /// Sends all frames, and tells the answers, or that there are none.
     fn run<R: Wait + Clock>(&mut self, rt: &R, mut connection: Connection<TcpStream>) {
         if let Err(failure) = self.send_all(rt, &mut connection) {
-            self.lose(rt, failure);
+            self.delivery.lose(rt, self.address, self.answered, failure);
         }
     }
 
@@ -227,14 +244,5 @@ impl<W: Write + Send + Drop> Errand<'_, '_, '_, W> {
             }
         }
         Ok(!was_full)
-    }
-
-    /// Tells that what is left has no answer.
-    fn lose<R: Wait>(&self, rt: &R, failure: Failure) {
-        let mut told = self.delivery.told.lock(rt);
-        told.failure = Some(failure);
-        for place in self.answered..self.delivery.frames.len() {
-            told.no_answer(self.address, self.delivery.number_of(place));
-        }
     }
 }
