@@ -8,6 +8,3 @@ mod asked;
 mod file;
 
 pub use file::{FileFault, FileStore};
-
-#[cfg(test)]
-mod tests;

@@ -16,6 +16,3 @@ pub use link::{Link, LinkFailed, Links, Next, PIECE_BYTES, Peer, Received};
 pub use memory_clock::MemoryClock;
 pub use memory_link::{MemoryLink, MemoryLinks, Step};
 pub use wire::Wire;
-
-#[cfg(test)]
-mod tests;

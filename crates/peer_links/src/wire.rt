@@ -35,16 +35,15 @@ impl Wire {
         Ok(())
     }
 
-    /// How often these bytes were sent, all by one call.
+    /// How often these bytes were sent. One call may send several frames; one frame by two calls isn't counted.
     pub fn count<R: Wait>(&self, rt: &R, bytes: &[u8]) -> usize {
         let frames = self.frames.lock(rt);
-        frames
-            .iter()
-            .filter(|frame| frame.as_slice() == bytes)
-            .count()
+        frames.iter().fold(0, |count: usize, sent| {
+            count.saturating_add(times(sent, bytes))
+        })
     }
 
-    /// Everything that was sent, a frame for each call.
+    /// Everything that was sent, as it was handed over by each call.
     pub fn frames<R: Wait>(&self, rt: &R) -> Result<Vec<Vec<u8>>, AllocError> {
         let frames = self.frames.lock(rt);
         let mut copies = Vec::with_capacity(self.alloc, frames.len())?;
@@ -70,4 +69,11 @@ impl Wire {
             .sent
             .wait_timeout(rt, frames, Duration::from_millis(TURN_MS));
     }
+}
+
+/// How often these bytes stand in what one call sent.
+fn times(sent: &[u8], bytes: &[u8]) -> usize {
+    (0..sent.len())
+        .filter(|at| sent.get(*at..).is_some_and(|rest| rest.starts_with(bytes)))
+        .count()
 }

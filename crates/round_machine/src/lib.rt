@@ -20,6 +20,3 @@ pub use naming::enabled;
 pub use releasing::next_message;
 pub use rule::{Input, Rule};
 pub use timing::{holds_timeout, timeout_refusal};
-
-#[cfg(test)]
-mod tests;

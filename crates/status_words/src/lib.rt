@@ -14,6 +14,3 @@ mod words;
 
 pub use rule::Seen;
 pub use words::{Node, Opened, Publisher, Seat, Status, Words};
-
-#[cfg(test)]
-mod tests;

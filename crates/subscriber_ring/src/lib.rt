@@ -18,6 +18,3 @@ pub use delivered::Delivered;
 pub use ends::{Feeder, MOST_ITEMS, Subscription, ring};
 pub use fault::{OfferFault, RingFault};
 pub use rule::{Hand, InOrder};
-
-#[cfg(test)]
-mod tests;

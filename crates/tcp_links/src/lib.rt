@@ -11,6 +11,3 @@ mod tcp_link;
 pub use host_clock::HostClock;
 pub use source::TcpLinks;
 pub use tcp_link::TcpLink;
-
-#[cfg(test)]
-mod tests;

@@ -30,6 +30,3 @@ pub use writing::{
     len_of_tags, len_of_tx_body, len_of_value, put_tags, put_tx_body, put_u16, put_u32, put_u64,
     put_value, spell_tx, spell_value, value_id,
 };
-
-#[cfg(test)]
-mod tests;

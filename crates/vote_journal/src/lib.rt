@@ -11,7 +11,7 @@
 //! Bodies and values are spelled as `messages` and `transactions` spell them. A stop may cut the last record short: what is
 //! left of it is less than a whole record, and is cut away when the journal is opened again.
 //!
-//! The tests stand in `journal_file`, so that this crate is proved once.
+//! The tests stand in `journal_tests`, so that this crate is proved once.
 #![tactic(auto)]
 
 mod fault;

@@ -410,6 +410,3 @@ fn check_small(powers: &Powers)
 pub fn own_limits_law()
     ensures { OwnLimitsLaw }
 {}
-
-#[cfg(test)]
-mod tests;

@@ -1,0 +1,8 @@
+//! The tests of journals, in memory and in files.
+//!
+//! They stand above the crates that they test (`vote_journal` and `journal_file`), since a crate that has tests is proved
+//! twice, once with them.
+#![tactic(auto)]
+
+#[cfg(test)]
+mod tests;

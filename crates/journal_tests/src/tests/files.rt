@@ -1,0 +1,138 @@
+//! Journals in files.
+
+use journal_file::{FileFault, FileStore};
+use powers::Powers;
+use protocol::{Act, OwnMessage, Record};
+use std::fs;
+use std::test::Fail;
+use vote_journal::{Journal, Store};
+
+const FOLDER: &str = "journal_file_test";
+
+const PATH: &str = "journal_file_test/journal";
+
+const OTHER_FOLDER: &str = "journal_file_refusals";
+
+const OTHER_PATH: &str = "journal_file_refusals/journal";
+
+/// The header and the records of validator 2's prevotes for nil in rounds 0 and 1.
+const BYTES: [u8; 46] = [
+    0x54, 0x4d, 0x4a, 0x31, 0, 0, 0, 0x11, 1, 0x11, 0, 0, 0, 0, 0, 0, 0, 0, 0, 0, 0, 0, 0, 2, 0, 0,
+    0, 0, 0x11, 1, 0x11, 0, 0, 0, 0, 0, 0, 0, 0, 0, 0, 0, 1, 0, 2, 0,
+];
+
+fn prevote(round: u32) -> Record {
+    Record::Own(OwnMessage {
+        height: 0,
+        round,
+        act: Act::Prevoting(None),
+    })
+}
+
+fn powers(rt: &HostRuntime) -> Result<Powers, Fail> {
+    Ok(Powers::new(vec![in rt.alloc(); 1, 1, 1, 1]?)?)
+}
+
+/// How many own messages the file's journal has, once it is opened.
+fn count(rt: &HostRuntime, powers: &Powers) -> Result<usize, Fail> {
+    match Journal::open(rt.alloc(), FileStore::open(rt, PATH)?, 2, powers) {
+        Ok(opened) => Ok(opened.own.len()),
+        Err(refused) => Err(refused.fault.into()),
+    }
+}
+
+/// Saves a prevote in an open journal. Answers whether that is done.
+fn saves(journal: &mut Journal<FileStore>, round: u32) -> bool {
+    !journal.has_failed() && journal.save(&prevote(round)).is_ok()
+}
+
+/// Whether two prevotes are saved in an empty file.
+fn saves_both(rt: &HostRuntime) -> Result<bool, Fail> {
+    match Journal::open(rt.alloc(), FileStore::open(rt, PATH)?, 2, &powers(rt)?) {
+        Ok(opened) => {
+            let mut journal = opened.journal;
+            Ok(saves(&mut journal, 0) && saves(&mut journal, 1))
+        }
+        Err(refused) => Err(refused.fault.into()),
+    }
+}
+
+/// Whether the file holds these bytes.
+fn holds(rt: &HostRuntime, bytes: &[u8]) -> Result<bool, Fail> {
+    let found = fs::read(rt, PATH)?;
+    Ok(found.as_slice() == bytes)
+}
+
+/// How many records are whole in so many bytes.
+fn whole_records(len: usize) -> usize {
+    len.saturating_sub(4) / 21
+}
+
+/// Whether the first bytes, so many, open with the records that are whole in them, and just these are kept.
+fn opens_cut(rt: &HostRuntime, powers: &Powers, len: usize) -> Result<bool, Fail> {
+    let whole = whole_records(len);
+    let kept = whole.saturating_mul(21).saturating_add(4);
+    fs::write(rt, PATH, &BYTES[..len.min(46)])?;
+    Ok(count(rt, powers)? == whole && holds(rt, &BYTES[..kept.min(46)])?)
+}
+
+fn opens_cut_anywhere(rt: &HostRuntime) -> Result<bool, Fail> {
+    let powers = powers(rt)?;
+    for len in 0..47 {
+        if !opens_cut(rt, &powers, len)? {
+            return Ok(false);
+        }
+    }
+    Ok(true)
+}
+
+fn begin(rt: &HostRuntime, folder: &str) -> Result<(), Fail> {
+    let _ = fs::remove_dir_all(rt, folder);
+    fs::create_dir(rt, folder)?;
+    Ok(())
+}
+
+fn is_unusable(rt: &HostRuntime, path: &str) -> bool {
+    matches!(FileStore::open(rt, path), Err(FileFault::Unusable(_)))
+}
+
+fn is_busy(rt: &HostRuntime, path: &str) -> bool {
+    matches!(FileStore::open(rt, path), Err(FileFault::Busy))
+}
+
+/// Whether a store gives what it holds once, and from a failed call on does nothing.
+fn reads_once(rt: &HostRuntime, path: &str) -> Result<bool, Fail> {
+    let mut store = FileStore::open(rt, path)?;
+    let is_open = store.append(b"ab").is_ok() && store.sync().is_ok() && store.failures() == 0;
+    let is_read_late = store.read(rt.alloc()).is_err() && store.failures() == 1;
+    let is_shut = store.append(b"c").is_err() && store.cut(0).is_err() && store.sync().is_err();
+    Ok(is_open && is_read_late && is_shut && store.failures() == 4 && is_busy(rt, path))
+}
+
+/// Whether a store reads these bytes.
+fn reads(rt: &HostRuntime, path: &str, bytes: &[u8]) -> Result<bool, Fail> {
+    let mut store = FileStore::open(rt, path)?;
+    Ok(store.read(rt.alloc())?.as_slice() == bytes)
+}
+
+#[test]
+fn journals_in_files(rt: HostRuntime) -> Result<(), Fail> {
+    begin(&rt, FOLDER)?;
+    assert!(rt; saves_both(&rt)?);
+    assert!(rt; holds(&rt, &BYTES)?);
+    assert!(rt; opens_cut_anywhere(&rt)?);
+    fs::remove_dir_all(&rt, FOLDER)?;
+    Ok(())
+}
+
+#[test]
+fn refusals(rt: HostRuntime) -> Result<(), Fail> {
+    begin(&rt, OTHER_FOLDER)?;
+    // A directory that is not there, and one where a file is wanted.
+    assert!(rt; is_unusable(&rt, "journal_file_refusals/missing/journal"));
+    assert!(rt; is_unusable(&rt, OTHER_FOLDER));
+    assert!(rt; reads_once(&rt, OTHER_PATH)?);
+    assert!(rt; reads(&rt, OTHER_PATH, b"ab")?);
+    fs::remove_dir_all(&rt, OTHER_FOLDER)?;
+    Ok(())
+}

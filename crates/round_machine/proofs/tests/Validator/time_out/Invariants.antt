@@ -1,4 +1,0 @@
-use Rattle.round_machine.proofs.tests.Validator.time_out.Given as goal
-
-abbrev pub ghost-fire_unkept : goal.ghost-fire_unkept
-ghost-fire_unkept g a = g.g

@@ -1,5 +1,0 @@
-use Rattle.std.proofs.Common.{true, []}
-use Rattle.round_machine.proofs.tests.single.decide_by.Given as goal
-
-abbrev pub ghost-decide_by_bundle : goal.ghost-decide_by_bundle
-ghost-decide_by_bundle a = record { context = record { powers = a.state.now.powers; me = a.state.now.me; genuine = λ _. true; vouches = λ _ _. true; certified = λ b. b.precommits; own_tags = λ _ _ _. [] }; bundle = a.bundle }

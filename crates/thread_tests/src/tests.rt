@@ -1,0 +1,7 @@
+//! What threads share, each by itself, and links.
+
+mod links;
+mod queue;
+mod ring;
+mod tcp;
+mod words;

@@ -1,0 +1,225 @@
+//! What no contract says: that the calls of both ends get on.
+
+ghost use Rattle.std.specs.Prelude.{◌≡◌, true, [], ◌∷◌, IfOk};
+ghost use Rattle.protocol.specs.Values.{fifo};
+ghost use Rattle.subscriber_ring.specs.Order.{items_of};
+
+use std::alloc::{AllocError, Global};
+use std::process::Abort;
+use std::sync::Wait;
+use std::test::Fail;
+use std::thread;
+use std::thread::Threads;
+use subscriber_ring::{Delivered, Feeder, OfferFault, RingFault, Subscription, ring};
+use transactions::{Item, Op, Seq};
+
+/// What came of an offer, with the position of an item that was given back.
+#[derive(Clone, Copy, Debug, PartialEq, Eq)]
+enum Answer {
+    Taken,
+    Full(u64),
+    Gone(u64),
+    OutOfMemory,
+    /// The ring begins at 0, or the position is 1,000 or above: such items this test doesn't make.
+    NotMade,
+}
+
+/// The item of this position: two bytes of client 7.
+fn item_at(alloc: Global, position: u64) -> Result<Delivered, AllocError>
+    ensures { IfOk result (λ d. d.position ≡ position) }
+{
+    let item = Item {
+        client: 7,
+        number: position,
+        op: Op::Bytes(Seq::from_vec(b"ab".to_vec(alloc)?)),
+    };
+    Ok(Delivered { position, item })
+}
+
+/// Offers the next item.
+fn offer_next<R: Wait>(rt: &R, alloc: Global, feeder: &mut Feeder) -> Answer {
+    let position = feeder.next();
+    if feeder.first() == 0 || position >= 1000 {
+        return Answer::NotMade;
+    }
+    let Ok(delivered) = item_at(alloc, position) else {
+        return Answer::OutOfMemory;
+    };
+    match feeder.offer(rt, delivered) {
+        Ok(()) => Answer::Taken,
+        Err(OfferFault::Full(back)) => Answer::Full(back.position),
+        Err(gone) => Answer::Gone(gone.into_item().position),
+    }
+}
+
+/// The position of the item that is taken, where its number is right.
+fn take_next<R: Wait>(rt: &R, subscription: &mut Subscription) -> Option<u64> {
+    let delivered = subscription.try_take(rt)?;
+    if delivered.item.number == delivered.position {
+        Some(delivered.position)
+    } else {
+        None
+    }
+}
+
+/// The faults of rings of these capacities.
+fn fault_of(alloc: Global, capacity: usize) -> Option<RingFault> {
+    ring(alloc, 0, capacity).err()
+}
+
+fn assert_in_turn<R: Wait + Abort>(
+    rt: &R,
+    alloc: Global,
+    feeder: &mut Feeder,
+    subscription: &mut Subscription,
+) {
+    assert_eq!(rt; take_next(rt, subscription), None);
+    assert_eq!(rt; offer_next(rt, alloc, feeder), Answer::Taken);
+    assert_eq!(rt; offer_next(rt, alloc, feeder), Answer::Taken);
+    assert_eq!(rt; offer_next(rt, alloc, feeder), Answer::Full(7));
+    assert_eq!(rt; take_next(rt, subscription), Some(5));
+    assert_eq!(rt; offer_next(rt, alloc, feeder), Answer::Taken);
+    assert_eq!(rt; take_next(rt, subscription), Some(6));
+    assert_eq!(rt; take_next(rt, subscription), Some(7));
+    assert_eq!(rt; take_next(rt, subscription), None);
+}
+
+#[test]
+fn items_come_in_order(rt: HostRuntime) -> Result<(), Fail> {
+    let (mut feeder, subscription) = ring(rt.alloc(), 5, 2)?;
+    let mut subscription = subscription.beside(&mut feeder);
+    assert_in_turn(&rt, rt.alloc(), &mut feeder, &mut subscription);
+    assert_eq!(rt;
+        (feeder.first(), feeder.next(), feeder.capacity()),
+        (5, 8, 2)
+    );
+    assert_eq!(rt; subscription.next(), 8);
+    Ok(())
+}
+
+/// The first item of client 7, which closes.
+#[tactic(auto, unfolding(protocol::specs::Values::fifo))]
+fn first_item() -> Delivered
+    ensures place { result.position ≡ 0 }
+    ensures order { fifo (items_of (result ∷ [])) ≡ true }
+{
+    let item = Item {
+        client: 7,
+        number: 1,
+        op: Op::Close,
+    };
+    Delivered { position: 0, item }
+}
+
+#[test]
+fn the_first_item_of_all(rt: HostRuntime) -> Result<(), Fail> {
+    let (mut feeder, mut subscription) = ring(rt.alloc(), 0, 1)?;
+    assert!(rt; feeder.offer(&rt, first_item()).is_ok());
+    assert_eq!(rt; subscription.try_take(&rt), Some(first_item()));
+    Ok(())
+}
+
+#[test]
+fn capacities(rt: HostRuntime) {
+    assert_eq!(rt; fault_of(rt.alloc(), 0), Some(RingFault::BadCapacity));
+    assert_eq!(rt; fault_of(rt.alloc(), 65_537), Some(RingFault::BadCapacity));
+    assert_eq!(rt; fault_of(rt.alloc(), 65_536), None);
+    assert_eq!(rt; fault_of(rt.alloc(), 1), None);
+}
+
+#[test]
+fn an_offer_to_nobody(rt: HostRuntime) -> Result<(), Fail> {
+    let (mut feeder, subscription) = ring(rt.alloc(), 5, 2)?;
+    assert_eq!(rt; offer_next(&rt, rt.alloc(), &mut feeder), Answer::Taken);
+    drop(subscription);
+    assert_eq!(rt; offer_next(&rt, rt.alloc(), &mut feeder), Answer::Gone(6));
+    Ok(())
+}
+
+#[test]
+fn items_outlast_their_feeder(rt: HostRuntime) -> Result<(), Fail> {
+    let (mut feeder, mut subscription) = ring(rt.alloc(), 5, 2)?;
+    assert_eq!(rt; offer_next(&rt, rt.alloc(), &mut feeder), Answer::Taken);
+    drop(feeder);
+    assert_eq!(rt; take_next(&rt, &mut subscription), Some(5));
+    assert_eq!(rt; take_next(&rt, &mut subscription), None);
+    Ok(())
+}
+
+/// Offers so many items, each until it is taken in or can't be; how many were taken in.
+fn feed<R: Wait>(rt: &R, alloc: Global, feeder: &mut Feeder, count: u64) -> u64 {
+    let mut offered = 0;
+    for _ in rt.forever() {
+        if offered >= count {
+            break;
+        }
+        match offer_next(rt, alloc, feeder) {
+            Answer::Taken => offered += 1,
+            Answer::Full(_) => thread::yield_now(),
+            _ => break,
+        }
+    }
+    offered
+}
+
+/// Takes until so many items came after the first position; how many of them followed the one before.
+fn follow<R: Wait>(rt: &R, subscription: &mut Subscription, first: u64, count: u64) -> u64 {
+    let mut followed = 0u64;
+    for _ in rt.forever() {
+        let next = subscription.next();
+        if next.saturating_sub(first) >= count {
+            break;
+        }
+        match take_next(rt, subscription) {
+            Some(position) if position == next => followed = followed.saturating_add(1),
+            Some(_) => {}
+            None => thread::yield_now(),
+        }
+    }
+    followed
+}
+
+/// So many items, of which the first has position 1, from one thread to another: how many were offered, and how many came in order.
+fn relayed<R: Threads + Wait + Sync>(
+    rt: &R,
+    alloc: Global,
+    feeder: &mut Feeder,
+    subscription: &mut Subscription,
+    count: u64,
+) -> (u64, u64) {
+    thread::join(
+        rt,
+        || feed(rt, alloc, feeder, count),
+        || follow(rt, subscription, 1, count),
+    )
+}
+
+/// Offers the next item so many times: how often it was given back because the ring was full.
+fn times_full<R: Wait>(rt: &R, alloc: Global, feeder: &mut Feeder, count: u32) -> u32 {
+    let mut full = 0u32;
+    for _ in 0..count {
+        if matches!(offer_next(rt, alloc, feeder), Answer::Full(_)) {
+            full = full.saturating_add(1);
+        }
+    }
+    full
+}
+
+#[test]
+fn a_full_ring_loses_nothing(rt: HostRuntime) -> Result<(), Fail> {
+    let (mut feeder, mut subscription) = ring(rt.alloc(), 1, 8)?;
+    assert_eq!(rt; feed(&rt, rt.alloc(), &mut feeder, 8), 8);
+    assert_eq!(rt; times_full(&rt, rt.alloc(), &mut feeder, 1_000), 1_000);
+    assert_eq!(rt; feeder.next(), 9);
+    assert_eq!(rt; follow(&rt, &mut subscription, 1, 8), 8);
+    assert_eq!(rt; take_next(&rt, &mut subscription), None);
+    Ok(())
+}
+
+#[test]
+fn two_threads(rt: HostRuntime) -> Result<(), Fail> {
+    let (mut feeder, mut subscription) = ring(rt.alloc(), 1, 8)?;
+    let told = relayed(&rt, rt.alloc(), &mut feeder, &mut subscription, 100);
+    assert_eq!(rt; told, (100, 100));
+    Ok(())
+}
