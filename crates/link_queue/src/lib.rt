@@ -17,6 +17,3 @@ mod waiting;
 
 pub use queue::LinkQueue;
 pub use waiting::{Anything, Cause, Dropped, MOST_FRAMES, Queued, Sent, Untaken, Waiting};
-
-#[cfg(test)]
-mod tests;

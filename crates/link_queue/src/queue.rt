@@ -71,6 +71,13 @@ impl<S: Sent> LinkQueue<S> {
         waiting.take()
     }
 
+    /// Takes the next frame, where one waits already: for who writes several at once. It waits for the queue's lock alone.
+    pub fn try_take<R: Wait>(&self, rt: &R) -> Result<Bytes, Untaken>
+        ensures sent { IfOk result S.sent }
+    {
+        self.shared.waiting.lock(rt).take()
+    }
+
     /// Takes nothing in from now on. What waits can still be taken, and whoever waits is told.
     pub fn close<R: Wait>(&self, rt: &R) {
         self.shared.waiting.lock(rt).close();

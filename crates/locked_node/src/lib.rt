@@ -16,5 +16,5 @@ pub use event::Event;
 pub use feeding::Stop;
 pub use laws::{certificates_law, count_law};
 pub use lent::{Done, Met, Offered, State, Stepped};
-pub use node::{LockedNode, words_for};
+pub use node::{LockedNode, Released, words_for};
 pub use subscription::{SubscribeFault, Subscription};

@@ -41,6 +41,15 @@ pub fn words_for<S: Store + Drop>(alloc: Global, core: &NodeCore<S>) -> Result<O
     Opened::new(alloc, status)
 }
 
+/// What a node let go since it was last asked.
+#[derive(Drop)]
+pub struct Released {
+    /// Its frames, in the order in which they were released.
+    pub frames: Vec<Vec<u8>>,
+    /// The timeouts that it scheduled, in order.
+    pub timeouts: Vec<Timeout>,
+}
+
 impl<S: Store + Drop, J: Node> LockedNode<S, J> {
     /// The node of a core and its words, by a name that the caller picks. It takes no memory.
     pub fn new(alloc: Global, opened: Opened, core: NodeCore<S>) -> LockedNode<S, J>
@@ -128,6 +137,16 @@ impl<S: Store + Drop, J: Node> LockedNode<S, J> {
     /// Takes the timeouts that were scheduled since the last call, in order.
     pub fn take_scheduled<R: Wait>(&self, rt: &R) -> Vec<Timeout> {
         self.state.lock(rt).take_scheduled()
+    }
+
+    /// Takes both under one lock: the frames that were released and the timeouts that were scheduled since the last call,
+    /// each in order.
+    pub fn take_released<R: Wait>(&self, rt: &R) -> Released {
+        let mut state = self.state.lock(rt);
+        Released {
+            frames: state.take_outgoing(),
+            timeouts: state.take_scheduled(),
+        }
     }
 
     /// A ring whose first item has this position, and which holds at most so many items at a time.

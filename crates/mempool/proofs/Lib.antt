@@ -1,4 +1,5 @@
 pub mod Causes
+mod Found
 pub mod Kept
 pub mod Places
 pub mod Rotation

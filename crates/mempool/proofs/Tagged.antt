@@ -20,3 +20,11 @@ tagged_by_known c p me ring key t is known mine =
     let k = known_key (c.clients t.client) key (c.key (Client t.client) p) (sym known ∙ is.from_clients t.client) in
     let same : me ≡ p = same_validator me p (sym mine ∙ is.me) in
     rw (is.count, k.0, k.1, same) refl
+
+no_key : (known : Bool) (key : List ℕ) → None ≡ cond known (Some key) None → known ≡ false
+no_key true key e = absurd (cc)
+no_key false key e = refl
+
+pub untagged_by_unknown : (c : Setting) (p : ℕ) (ring : Ring) (t : Tx) → IsRingOf c p ring → incoming ring (Client t.client) ≡ None → tx_is_right c p t ≡ false
+unfolding tx_is_right
+untagged_by_unknown c p ring t is none = rw (no_key (c.clients t.client) (c.key (Client t.client) p) (sym none ∙ is.from_clients t.client)) refl

@@ -5,11 +5,12 @@
 //! keeps another one waiting.
 #![tactic(auto)]
 
-ghost use Rattle.std.specs.Prelude.{◌≡◌, ◌++◌, ◌∷◌, ℕ, List, [], None, All, nat_eq, IfOk, OnErr, OnOk, drop, map};
+ghost use Rattle.std.specs.Prelude.{◌≡◌, ◌++◌, ◌∷◌, ℕ, List, [], true, None, All, nat_eq, IfOk, OnErr, OnOk, drop, map};
 ghost use Rattle.std.specs.List.{list_any};
 ghost use Rattle.indexmap.specs.IndexMap.{get};
 ghost use Rattle.transactions.specs.Grammar.{IsTx, IsValue};
-ghost use Rattle.protocol.specs.Tags.{Setting};
+ghost use Rattle.protocol.specs.Tags.{Setting, genuine, tx_is_right};
+ghost use Rattle.protocol.specs.Messages.{◌∈◌};
 ghost use Rattle.protocol.specs.Rings.{IsRingOf};
 ghost use Rattle.protocol.specs.Values.{Item, item};
 ghost use Rattle.protocol.specs.Queues.{all_waiting, drop_delivered, is_closed, pick, queued, waiting_of};
@@ -17,10 +18,11 @@ ghost use Rattle.protocol.specs.Refusals.{first_cause, tx_causes, wanted};
 ghost use Rattle.proposal_validity.specs.Standing.{IsFrontierOf};
 ghost use Rattle.mempool.specs.Answers.{answer_of, IsAnswer};
 ghost use Rattle.mempool.specs.Turns.{in_turn};
-ghost use Rattle.mempool.specs.Waiting.{is_close_of, is_left};
+ghost use Rattle.mempool.specs.Waiting.{HaveRightTags, is_close_of, is_left};
 
 mod fault;
 mod picking;
+mod seeking;
 mod tag;
 mod turns;
 
@@ -29,10 +31,11 @@ pub use fault::SubmitFault;
 use indexmap::IndexMap;
 use picking::{copy_each, picked};
 use proposal_validity::Frontier;
+use seeking::{is_same, numbered};
 use std::alloc::{AllocError, Global};
 use std::collections::VecDeque;
 use std::marker::Model;
-use tag::check_tag;
+use tag::{check_tag, has_right_tag};
 use transactions::{Op, Shared, Tx, Value, copy_all};
 use turns::Turns;
 
@@ -134,6 +137,38 @@ impl Mempool {
         // A proof knows what is written at a place, but not what is written through `values_mut`.
         for place in 0..self.queues.len() {
             self.queues[place].retain(|tx| is_left(frontier, tx));
+        }
+    }
+
+    /// Whether the own tags of a value's transactions are right, under the keys of `ring`. Those of a transaction that waits
+    /// here, tags and all, were found so as it was queued, and aren't made again. It takes no memory.
+    pub fn is_genuine(&self, ring: &KeyRing, value: &Value) -> bool
+        requires { IsValue value.now }
+        ensures { (c : Setting) (p : ℕ) → IsRingOf c p ring.now → HaveRightTags c p self.now → result ≡ genuine c p value.now }
+    {
+        for tx in value.txs.as_slice() {
+            if !self.is_right(ring, tx) {
+                return false;
+            }
+        }
+        true
+    }
+
+    /// Whether a transaction waits here, or else its own tag is right.
+    fn is_right(&self, ring: &KeyRing, tx: &Tx) -> bool
+        requires { IsTx tx.now }
+        ensures { (c : Setting) (p : ℕ) → IsRingOf c p ring.now → HaveRightTags c p self.now → result ≡ tx_is_right c p tx.now }
+    {
+        self.holds(tx) || has_right_tag(tx, ring)
+    }
+
+    /// Whether just this transaction waits, with these tags.
+    fn holds(&self, tx: &Tx) -> bool
+        ensures { result ≡ true → tx.now ∈ all_waiting self.now }
+    {
+        match numbered(self.waiting(tx.client), tx.number) {
+            Some(waiting) => is_same(waiting, tx),
+            None => false,
         }
     }
 

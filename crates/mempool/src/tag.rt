@@ -42,6 +42,17 @@ pub fn check_tag(tx: &Tx, ring: &KeyRing) -> Result<(), SubmitFault>
     Ok(())
 }
 
+/// Whether the client of a transaction, whose length is within its limit, is known and the ring's own tag is right.
+pub fn has_right_tag(tx: &Tx, ring: &KeyRing) -> bool
+    requires short { is_long tx.now.op ≡ false }
+    ensures { (c : Setting) (p : ℕ) → IsRingOf c p ring.now → result ≡ tx_is_right c p tx.now }
+{
+    match ring.incoming(Party::Client(tx.client)) {
+        Some(key) => is_tagged(tx, ring, key),
+        None => false,
+    }
+}
+
 /// Whether there is one tag for each validator, and the ring's own one is right under this key of
 /// the client. The ring has to be a validator's.
 fn is_tagged(tx: &Tx, ring: &KeyRing, key: &Key) -> bool

@@ -103,6 +103,13 @@ impl<S: Store + Drop> NodeCore<S> {
         }
     }
 
+    /// The variables of the algorithm, and what is kept of the height: for who looks into a node.
+    pub fn state(&self) -> &State
+        ensures { result.now ≡ self.now.machine }
+    {
+        &self.state
+    }
+
     /// The height that is being decided: from 0 to 2^48.
     pub fn height(&self) -> u64
         ensures { result ≡ self.now.machine.state.height }

@@ -20,7 +20,7 @@ use crate::firing::{note, push_one};
 use crate::journal::decide_saving;
 use crate::node::NodeCore;
 use crate::refusal::Refusal;
-use frame_admission::{frame_for, is_genuine};
+use frame_admission::frame_for;
 use height_catchup::{certified, judge};
 use messages::{Ask, Body, Bundle, Message, Proposal, Vote};
 use round_states::Fired;
@@ -89,18 +89,18 @@ impl<S: Store + Drop> NodeCore<S> {
         ensures err { OnErr result (self.new ≡ self.old) }
     {
         self.state.check_proposal(&proposal)?;
-        let genuine = self.is_genuine(&proposal)?;
+        let genuine = self.is_genuine(&proposal);
         Ok(self.state.take_proposal(proposal, genuine)?)
     }
 
     /// Whether the own tags of a proposal's transactions are right. Of one with a valid round nobody asks.
-    fn is_genuine(&self, proposal: &Proposal) -> Result<bool, AllocError>
+    fn is_genuine(&self, proposal: &Proposal) -> bool
         requires { IsValue proposal.now.value }
-        ensures { IfOk result (λ genuine. (genuine || is_some proposal.now.valid_round) ≡ ((context_of self.now).genuine proposal.now.value || is_some proposal.now.valid_round)) }
+        ensures { (result || is_some proposal.now.valid_round) ≡ ((context_of self.now).genuine proposal.now.value || is_some proposal.now.valid_round) }
     {
         match proposal.valid_round {
-            Some(_) => Ok(true),
-            None => is_genuine(self.alloc, &self.ring, &proposal.value),
+            Some(_) => true,
+            None => self.mempool.is_genuine(&self.ring, &proposal.value),
         }
     }
 

@@ -7,7 +7,9 @@ use std::alloc::{AllocError, Global};
 use std::fmt::Write;
 use std::process::Abort;
 use std::test::Fail;
-use transactions::{Op, Seq, Tx, Value, len_of_tx_body, len_of_value, put_tx_body, spell_value};
+use transactions::{
+    Op, Seq, Shared, Tx, Value, len_of_tx_body, len_of_value, put_tx_body, read_value, spell_value,
+};
 
 /// The key of all that is sent.
 const KEY: &str = "1111111111111111111111111111111111111111111111111111111111111111";
@@ -78,6 +80,33 @@ impl Validator {
     /// An operation of this many bytes.
     fn bytes(&self, len: usize) -> Result<Op, Fail> {
         Ok(Op::Bytes(Seq::from_vec(vec![in self.alloc; 7; len]?)))
+    }
+
+    /// Client 7's transaction of this number, with the right tag or with another.
+    fn sent_by_seven(&self, number: u64, is_right: bool) -> Result<Tx, Fail> {
+        let mut tx = self.tagged(7, number, self.bytes(2)?)?;
+        if !is_right {
+            tx.tags = Seq::new(self.alloc);
+            self.put_tags(&mut tx.tags, TAG_OF_ZERO)?;
+        }
+        Ok(tx)
+    }
+
+    /// The spelling of a value of that transaction alone.
+    fn spelled_alone(&self, number: u64, is_right: bool) -> Result<Vec<u8>, Fail> {
+        let mut txs = Vec::new(self.alloc);
+        txs.push(self.sent_by_seven(number, is_right)?)?;
+        let value = Value {
+            txs: Shared::from_vec(self.alloc, txs)?,
+        };
+        Ok(spell_value(self.alloc, &value)?)
+    }
+
+    /// Whether that value is found genuine.
+    fn finds_genuine(&self, number: u64, is_right: bool) -> Result<bool, Fail> {
+        let bytes = self.spelled_alone(number, is_right)?;
+        let value = read_value(self.alloc, &bytes)?;
+        Ok(self.mempool.is_genuine(&self.ring, &value))
     }
 
     fn submit(&mut self, tx: Tx) -> Result<(), SubmitFault> {
@@ -460,4 +489,20 @@ fn faults_are_numbered_and_shown(rt: HostRuntime) {
         (SubmitFault::OutOfMemory, 8, "out of memory"),
     ];
     assert_told(&rt, rt.alloc(), told);
+}
+
+/// Transaction 1 of client 7 waits, and 2 doesn't.
+fn judge_values(rt: &impl Abort, validator: &mut Validator) -> Result<(), Fail> {
+    validator.answers(rt, &[(7, 1, Ok(()))])?;
+    for (number, is_right) in [(1, true), (2, true), (1, false), (2, false)] {
+        let found = validator.finds_genuine(number, is_right)?;
+        assert_eq!(rt; found, is_right, "number {number}");
+    }
+    Ok(())
+}
+
+#[test]
+fn what_waits_is_genuine_by_its_tags(rt: HostRuntime) -> Result<(), Fail> {
+    let mut validator = Validator::new(rt.alloc(), 1)?;
+    judge_values(&rt, &mut validator)
 }

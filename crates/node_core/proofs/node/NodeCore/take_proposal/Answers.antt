@@ -10,7 +10,7 @@ pub invariant_of-self-2 : goal.invariant_of-self-2
 invariant_of-self-2 g c =
     let core : Core = seen c.self.inside in
     let state = ap (λ (m : Machine). m.state) c.in_ok-take_proposal.ensures.ok in
-    let told = rw (← c.self.view_is) at c.in_ok-genuine.ensures in
+    let told = rw (← c.self.view_is) at c.is_genuine-genuine.ensures in
     let agrees = c.in_ok-take_proposal.ensures.agrees (context_of core) c.self.invariant.agrees told in
     sound_kept core c.take_proposal.new.self (record { body = OfProposal c.args.proposal; tags = [] }) c.self.invariant agrees (rw state c.self.invariant.stamps) state (rw state refl) (rw state refl)
     (λ running. let k = (c.self.invariant.kept running).lawful.keeps in rw state (record { stamped = k.stamped; rights = k.rights }))
@@ -18,7 +18,7 @@ invariant_of-self-2 g c =
 pub returns-clause-beside : goal.returns-clause-beside
 returns-clause-beside g c =
     let core : Core = seen c.self.inside in
-    let told = rw (← c.self.view_is) at c.in_ok-genuine.ensures in
+    let told = rw (← c.self.view_is) at c.is_genuine-genuine.ensures in
     let agrees = c.in_ok-take_proposal.ensures.agrees (context_of core) c.self.invariant.agrees told in
     let same = same_agreed core c.take_proposal.new.self agrees in
     rw (← c.self.view_is) (record { same = record { powers = same.powers; me = same.me; ring = refl }; queues = refl; decisions = refl; said = refl; journal = refl; outgoing = refl; scheduled = refl; fired = refl })
