@@ -7,6 +7,7 @@ ghost use Rattle.protocol.specs.State.{Node as ProtocolNode};
 ghost use Rattle.vote_journal.specs.Layout.{IsWhole};
 ghost use Rattle.node_core.specs.Core.{Stands};
 
+mod bells;
 mod clients;
 mod edges;
 mod failing;

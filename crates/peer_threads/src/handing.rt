@@ -73,6 +73,7 @@ impl<S: Store + Drop, J: Node, C: Clock> Shared<'_, S, J, C> {
         let now = self.clock.now_ms(rt);
         let moved = self.edge.lock(rt).advance(own, now);
         if moved {
+            self.bell.ring(rt);
             self.plan.lock(rt).forget_below(own);
         }
     }

@@ -14,6 +14,8 @@
 #![tactic(auto)]
 
 mod answering;
+mod batch;
+mod bell;
 mod edge;
 mod handing;
 mod heading;
@@ -26,6 +28,7 @@ mod shared;
 mod timing;
 
 pub use answering::{Then, halts, may_release, reply_to, then_after};
+pub use bell::Bell;
 pub use heading::{Heading, Kind, heading_of, headings_law, is_transaction};
 pub use idle::{idle_height, idle_law};
 pub use outlets::MOST_OPEN_LINKS;

@@ -2,35 +2,52 @@
 
 ghost use Rattle.messages.specs.Replies.{IsReply};
 
+use crate::batch::Batch;
 use crate::idle::idle_height;
-use crate::outlets::{Queue, offered};
+use crate::outlets::{Outlets, Queue, offered};
 use crate::shared::Shared;
 use bytes::Bytes;
 use edge_frames::LinkId;
+use locked_node::Released;
 use log::{Log, warn};
 use messages::{Reply, spell_reply};
-use peer_links::{Clock, Link};
+use peer_links::{Clock, Link, LinkFailed};
+use protocol::Timeout;
 use status_words::Node;
 use std::sync::Wait;
 use std::time;
 use vote_journal::Store;
 
+/// How many frames follow the first one in a write at most.
+const MOST_FRAMES: u32 = 255;
+
 impl<S: Store + Drop, J: Node, C: Clock> Shared<'_, S, J, C> {
     /// Queues what the node released, for every link, and schedules what it scheduled.
     pub(crate) fn release<R: Wait + time::Clock + Log>(&self, rt: &R) {
-        let dropped = self.queue_outgoing(rt);
-        if dropped > 0 {
-            warn!(rt; "{dropped} frames are dropped, since a link has no room");
-        }
-        self.schedule(rt);
+        self.schedule(rt, self.queue_released(rt));
     }
 
     /// Frames are queued in the order in which they were released, since they are taken under the lock
-    /// of the queues. Answers how many were dropped.
-    fn queue_outgoing<R: Wait + time::Clock>(&self, rt: &R) -> u64 {
+    /// of the queues. Answers the timeouts that are to be scheduled.
+    fn queue_released<R: Wait + time::Clock + Log>(&self, rt: &R) -> Vec<Timeout> {
         let outlets = self.outlets.lock(rt);
+        let Released { frames, timeouts } = self.node.take_released(rt);
+        let dropped = self.queue_frames(rt, &outlets, frames);
+        if dropped > 0 {
+            warn!(rt; "{dropped} frames are dropped, since a link has no room");
+        }
+        timeouts
+    }
+
+    /// Queues these frames for every link. Answers how many were dropped.
+    fn queue_frames<R: Wait + time::Clock>(
+        &self,
+        rt: &R,
+        outlets: &Outlets,
+        frames: Vec<Vec<u8>>,
+    ) -> u64 {
         let mut dropped = 0u64;
-        for frame in self.node.take_outgoing(rt) {
+        for frame in frames {
             let lost = match Bytes::from_vec(frame) {
                 Ok(frame) => self
                     .unheld(rt, frame)
@@ -76,8 +93,7 @@ impl<S: Store + Drop, J: Node, C: Clock> Shared<'_, S, J, C> {
     }
 
     /// Hands the plan what the node scheduled.
-    fn schedule<R: Wait + time::Clock + Log>(&self, rt: &R) {
-        let timeouts = self.node.take_scheduled(rt);
+    fn schedule<R: Wait + time::Clock + Log>(&self, rt: &R, timeouts: Vec<Timeout>) {
         if timeouts.is_empty() {
             return;
         }
@@ -111,11 +127,12 @@ impl<S: Store + Drop, J: Node, C: Clock> Shared<'_, S, J, C> {
         queue: Queue,
         mut half: L,
     ) {
+        let mut batch = Batch::new(self.alloc);
         for _ in rt.forever() {
             let Ok(frame) = queue.take(rt) else {
                 break;
             };
-            if half.send(rt, &frame).is_err() {
+            if send_with_next(rt, &queue, &mut batch, &frame, &mut half).is_err() {
                 warn!(rt; "link {}: closed, since it fails", link.0);
                 break;
             }
@@ -129,4 +146,28 @@ impl<S: Store + Drop, J: Node, C: Clock> Shared<'_, S, J, C> {
         outlets.close(rt, link);
         outlets.leave(link);
     }
+}
+
+/// Sends a frame, and with it those that wait behind it, as many as go out by one write. The order stays.
+fn send_with_next<L: Link, R: Wait + time::Clock>(
+    rt: &R,
+    queue: &Queue,
+    batch: &mut Batch,
+    first: &[u8],
+    half: &mut L,
+) -> Result<(), LinkFailed> {
+    batch.clear();
+    if !batch.add(first) {
+        return half.send(rt, first);
+    }
+    for _ in 0..MOST_FRAMES {
+        let Ok(next) = queue.try_take(rt) else {
+            break;
+        };
+        if !batch.add(&next) {
+            half.send(rt, batch.bytes())?;
+            return half.send(rt, &next);
+        }
+    }
+    half.send(rt, batch.bytes())
 }

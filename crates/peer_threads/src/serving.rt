@@ -2,6 +2,7 @@
 
 ghost use denote.Param.Send.{IsSend};
 
+use crate::bell::Bell;
 use crate::edge::Edge;
 use crate::outlets::{Outlets, Queue};
 use crate::shared::{Ending, Shared};
@@ -61,24 +62,33 @@ pub fn serve<
         idle: 0,
         stop,
     };
-    serve_at_pace(rt, alloc, node, links, clock, pace)
+    serve_at_pace(rt, alloc, node, links, clock, pace, &Bell::new())
 }
 
 /// Serves peers as [`serve`] does, and lets an own proposal of no transactions wait: until the pace's time is over, or a
-/// transaction is accepted.
+/// transaction is accepted. The bell is rung where the node has moved to another height.
 pub fn serve_at_pace<
     S: Store + Drop + Send,
     J: Node + Send + Sync,
     C: Clock + Sync,
     L: Links + Drop,
     R: Threads + Wait + time::Clock + Log + Sync,
->(rt: &R, alloc: Global, node: &LockedNode<S, J>, mut links: L, clock: &C, pace: Pace) -> Ending {
+>(
+    rt: &R,
+    alloc: Global,
+    node: &LockedNode<S, J>,
+    mut links: L,
+    clock: &C,
+    pace: Pace,
+    bell: &Bell,
+) -> Ending {
     let now = clock.now_ms(rt);
     let Pace { plan, idle, stop } = pace;
     let shared = Shared {
         alloc,
         node,
         clock,
+        bell,
         stop,
         idle,
         plan: Mutex::new(plan),

@@ -1,5 +1,6 @@
 //! What the threads share.
 
+use crate::bell::Bell;
 use crate::edge::Edge;
 use crate::outlets::Outlets;
 use edge_frames::HeldProposal;
@@ -32,6 +33,8 @@ pub(crate) struct Shared<'a, S: Store + Drop, J: Node, C: Clock> {
     pub(crate) alloc: Global,
     pub(crate) node: &'a LockedNode<S, J>,
     pub(crate) clock: &'a C,
+    /// Who follows the node's list is woken by it.
+    pub(crate) bell: &'a Bell,
     /// How many delivered items are enough.
     pub(crate) stop: Option<u64>,
     /// How long an own proposal of no transactions waits at most, in milliseconds.
