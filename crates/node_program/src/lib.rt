@@ -7,12 +7,12 @@
 //! `c0.keys` and so on, and prints nothing. A failure is a line on standard error, and the exit status tells which it was.
 #![tactic(auto)]
 
-mod finish;
 mod item_line;
 mod opening;
 mod printing;
 mod program;
 mod progress;
+mod telling;
 mod validator;
 
 pub use item_line::ItemLine;

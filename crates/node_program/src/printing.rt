@@ -2,19 +2,23 @@
 
 ghost use Rattle.std.specs.Prelude.{◌≡◌, ◌≤◌, ◌+◌};
 
-use crate::finish::Finish;
 use crate::item_line::ItemLine;
 use crate::progress::Progress;
 use locked_node::{LockedNode, Subscription};
 use log::Log;
+use peer_links::Clock;
+use peer_threads::Bell;
 use status_words::{Node, Seat};
 use std::alloc::{AllocError, Global};
-use std::io;
 use std::io::{BufWriter, Write};
 use std::sync::Wait;
-use std::time::Clock;
+use std::{io, time};
 use subscriber_ring::Delivered;
+use tcp_links::HostClock;
 use vote_journal::Store;
+
+/// How long it waits for the bell at most, in milliseconds: what a full ring kept back is printed then.
+const TURN_MS: u64 = 100;
 
 /// What was printed. A line leaves by one write.
 #[derive(Drop)]
@@ -91,25 +95,32 @@ fn print_delivered<S: Store + Drop, J: Node, W: Write + Drop, R: Wait>(
     Ok(())
 }
 
-/// Prints what is delivered, from the ring's first position on, until the node's threads have ended, or all is printed that
-/// is to be. What can't be had for want of memory is tried again until the end. Now and then it logs how far the node is.
-pub(crate) fn print_until_end<S: Store + Drop, J: Node, W: Write + Drop, R: Wait + Clock + Log>(
+/// Prints what is delivered, from the ring's first position on, as soon as the bell tells of it, until the bell tells that the
+/// node's threads have ended, or all is printed that is to be. What can't be had for want of memory is tried again until the
+/// end. Now and then it logs how far the node is.
+pub(crate) fn print_until_end<
+    S: Store + Drop,
+    J: Node,
+    W: Write + Drop,
+    R: Wait + time::Clock + Log,
+>(
     rt: &R,
     node: &LockedNode<S, J>,
     mut subscription: Subscription,
-    finish: &Finish,
+    bell: &Bell,
+    clock: &HostClock,
     mut printout: Printout<W>,
 ) -> Result<(), AllocError> {
     let mut seat = node.seat(rt);
-    let mut progress = Progress::new();
+    let mut progress = Progress::new(clock.now_ms(rt));
     for _ in rt.forever() {
-        let is_last = finish.has_come(rt);
+        let is_last = bell.is_over(rt);
         let told = print_delivered(rt, node, &mut seat, &mut subscription, &mut printout);
         if is_last || printout.is_done() {
             return told;
         }
-        finish.wait_turn(rt);
-        progress.turn(rt, node.status(&mut seat));
+        bell.wait(rt, TURN_MS);
+        progress.note(rt, clock.now_ms(rt), node.status(&mut seat));
     }
     unreachable!()
 }

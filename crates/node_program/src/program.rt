@@ -5,7 +5,6 @@ ghost use Rattle.std.specs.Prelude.{◌≡◌, ◌≤◌, IfOk};
 use crate::validator::run;
 use client_program::send;
 use key_files::write_keys;
-use log::Log;
 use node_settings::{Failure, Invocation, Page, settings};
 use std::convert::AsStr;
 use std::fs::File;
@@ -18,9 +17,9 @@ use std::thread::Threads;
 use std::time::Clock;
 
 /// Runs the program with these words, of which the first is its name. Answers the exit status: 0 or 1, or that of the failure
-/// that is told on `err`. A write that fails is passed over. What happens to links is logged by `rt`.
+/// that is told on `err`. A write that fails is passed over. What happens to links is logged on `rt`'s standard error.
 pub fn node_program<
-    R: Log
+    R: Eprint
         + Threads
         + Wait
         + Clock
@@ -43,7 +42,7 @@ pub fn node_program<
 
 /// What comes of the words: the exit status, or why the program ends early.
 fn outcome<
-    R: Log
+    R: Eprint
         + Threads
         + Wait
         + Clock

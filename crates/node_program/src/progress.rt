@@ -3,32 +3,30 @@
 use log::{Log, info};
 use status_words::Status;
 
-/// How many turns of the printing thread pass between two lines: some thirty seconds.
-const TURNS: u32 = 3_000;
-
-/// How many seconds that is.
-const SECONDS: u64 = 30;
+/// How long it is between two lines at least, in milliseconds.
+const PAUSE_MS: u64 = 30_000;
 
 /// What the last line told.
 #[derive(Drop)]
 pub(crate) struct Progress {
-    turns: u32,
+    /// When it was told.
+    since: u64,
     delivered: u64,
 }
 
 impl Progress {
     /// No line was told yet.
-    pub(crate) fn new() -> Progress {
+    pub(crate) fn new(now: u64) -> Progress {
         Progress {
-            turns: 0,
+            since: now,
             delivered: 0,
         }
     }
 
-    /// Notes a turn, and tells a line where it is time.
-    pub(crate) fn turn<R: Log>(&mut self, rt: &R, status: Status) {
-        self.turns = self.turns.saturating_add(1);
-        if self.turns < TURNS {
+    /// Tells a line where it is time.
+    pub(crate) fn note<R: Log>(&mut self, rt: &R, now: u64, status: Status) {
+        let passed = now.saturating_sub(self.since);
+        if passed < PAUSE_MS {
             return;
         }
         let fresh = status.delivered.saturating_sub(self.delivered);
@@ -36,9 +34,9 @@ impl Progress {
             "height {}, {} items, {} a second",
             status.height,
             status.delivered,
-            fresh / SECONDS
+            fresh.saturating_mul(1_000) / passed
         );
-        self.turns = 0;
+        self.since = now;
         self.delivered = status.delivered;
     }
 }

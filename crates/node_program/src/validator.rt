@@ -8,17 +8,19 @@ ghost use Rattle.node_core.specs.Core.{Stands};
 ghost use Rattle.locked_node.specs.Locked.{count_of};
 ghost use Rattle.node_settings.specs.Lawful.{IsLawfulRun};
 
-use crate::finish::Finish;
 use crate::opening::{open_core, unopened};
 use crate::printing::{Printout, print_until_end};
+use crate::telling::{listen, tell_until_end};
 use authenticators::Party;
+use counted_links::{CountedLinks, OpenLinks};
 use journal_file::FileStore;
 use key_files::{memory_or, read_ring};
+use leveled_runtime::Leveled;
 use locked_node::{LockedNode, Subscription, words_for};
 use log::{Log, info};
 use node_core::{Config, NodeCore};
 use node_settings::{Failure, RunSettings};
-use peer_threads::{Ending, Pace, serve_at_pace};
+use peer_threads::{Bell, Ending, Pace, serve_at_pace};
 use status_words::{Node, Opened};
 use std::alloc::AllocError;
 use std::fs::File;
@@ -37,16 +39,18 @@ use vote_journal::Store;
 /// How many delivered items wait to be printed at most.
 const WAITING_ITEMS: usize = 1_024;
 
-/// How the validator serves: where, at which pace, and for how long.
+/// How the validator serves: where, at which pace, for how long, and what it tells meanwhile.
 #[derive(Drop)]
 struct Service<'a, N> {
     links: TcpLinks<'a, N>,
     pace: Pace,
+    /// Where it tells how far it is.
+    status: Option<TcpListener>,
 }
 
 /// Runs a validator until it ends. Answers the exit status 0.
 pub(crate) fn run<
-    R: Log
+    R: Eprint
         + Threads
         + Wait
         + Clock
@@ -59,8 +63,12 @@ pub(crate) fn run<
     requires { IsLawfulRun settings }
     ensures { IfOk result (λ status. status ≡ 0) }
 {
+    let logged = Leveled {
+        rt,
+        level: settings.level,
+    };
     let core = validator_of(rt, &settings)?;
-    info!(rt;
+    info!(&logged;
         "validator {} is at height {}, with {} decisions in its journal",
         settings.me,
         core.height(),
@@ -69,8 +77,8 @@ pub(crate) fn run<
     let Ok(opened) = words_for(rt.alloc(), &core) else {
         return Err(Failure::OutOfMemory);
     };
-    let service = service_of(rt, &settings)?;
-    serve_core::<FileStore, Brand, W, R>(rt, core, opened, service, out)
+    let service = service_of(&logged, &settings)?;
+    serve_core::<FileStore, Brand, W, Leveled<'_, R>>(&logged, core, opened, service, out)
 }
 
 /// The validator of these settings, as its journal tells of it.
@@ -102,17 +110,33 @@ fn service_of<'a, R: Log + Net<Stream = TcpStream, Listener = TcpListener> + All
     let links = TcpLinks::bind(alloc, rt, &settings.peers, settings.me as usize).map_err(
         |error| memory_or(&error, Failure::CannotListen),
     )?;
+    let status = status_of(rt, settings)?;
     let Ok(plan) = Plan::new(alloc, settings.start, settings.delta) else {
         return Err(Failure::OutOfMemory);
     };
     Ok(Service {
         links,
+        status,
         pace: Pace {
             plan,
             idle: settings.idle,
             stop: settings.stop,
         },
     })
+}
+
+/// Listens where the validator is to tell how far it is, if anywhere.
+fn status_of<N: Net<Stream = TcpStream, Listener = TcpListener>>(
+    net: &N,
+    settings: &RunSettings<'_>,
+) -> Result<Option<TcpListener>, Failure> {
+    match settings.status {
+        Some(address) => match listen(net, address) {
+            Ok(listener) => Ok(Some(listener)),
+            Err(error) => Err(memory_or(&error, Failure::CannotListen)),
+        },
+        None => Ok(None),
+    }
 }
 
 /// Serves as this node, and prints what it delivers.
@@ -163,18 +187,54 @@ fn serve_beside<
     subscription: Subscription,
     printout: Printout<W>,
 ) -> (Result<(), AllocError>, Ending) {
-    let finish = Finish::new();
-    let Service { links, pace } = service;
+    let bell = Bell::new();
     let clock = HostClock::new();
     thread::join(
         rt,
-        || print_until_end(rt, node, subscription, &finish, printout),
+        || print_until_end(rt, node, subscription, &bell, &clock, printout),
+        || serve_and_tell(rt, node, service, &clock, &bell),
+    )
+}
+
+/// Serves in one thread, and tells in another how far it is.
+fn serve_and_tell<
+    S: Store + Send + Drop,
+    J: Node + Send + Sync,
+    R: Log
+        + Threads
+        + Wait
+        + Clock
+        + Net<Stream = TcpStream, Listener = TcpListener>
+        + AllocGlobal
+        + Sync,
+>(
+    rt: &R,
+    node: &LockedNode<S, J>,
+    service: Service<'_, R>,
+    clock: &HostClock,
+    bell: &Bell,
+) -> Ending {
+    let Service {
+        links,
+        pace,
+        status,
+    } = service;
+    let open = OpenLinks::new();
+    let counted = CountedLinks { links, open: &open };
+    let (ended, ()) = thread::join(
+        rt,
         || {
-            let ended = serve_at_pace(rt, rt.alloc(), node, links, &clock, pace);
-            finish.tell(rt);
+            let ended = serve_at_pace(rt, rt.alloc(), node, counted, clock, pace, bell);
+            bell.end(rt);
             ended
         },
-    )
+        || {
+            if let Some(listener) = &status {
+                tell_until_end(rt, rt.alloc(), node, listener, &open, bell);
+            }
+        },
+    );
+    ended
 }
 
 /// The exit status after serving and printing.

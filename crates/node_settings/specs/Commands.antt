@@ -22,7 +22,8 @@ with_rules app rules = fold with_rule app rules
 abbrev pub run_app : App
 run_app = with_rules (new_app (codes "run"))
     (option (codes "id") true ∷ option (codes "powers") true ∷ option (codes "keys") true ∷ option (codes "journal") true ∷ option (codes "peers") true
-    ∷ option (codes "start") true ∷ option (codes "delta") true ∷ option (codes "idle") false ∷ option (codes "stop") false ∷ [])
+    ∷ option (codes "start") true ∷ option (codes "delta") true ∷ option (codes "idle") false ∷ option (codes "stop") false ∷ option (codes "log") false
+    ∷ option (codes "status") false ∷ [])
 
 abbrev pub send_app : App
 send_app = with_rules (new_app (codes "send"))

@@ -1,4 +1,4 @@
--- How the program ends.
+-- How the program ends, and what it tells.
 use Rattle.std.specs.Prelude.{ℕ, List, ◌∷◌, ◌++◌, codes, decimal, ◌==◌, if◌then◌else◌}
 use Rattle.authenticators.specs.declared.fault.KeysFault.{KeysFault}
 use Rattle.authenticators.specs.declared.fault.KeysFault.TheVariants as keys
@@ -6,6 +6,7 @@ use Rattle.vote_journal.specs.declared.fault.JournalFault.{JournalFault}
 use Rattle.vote_journal.specs.declared.fault.JournalFault.TheVariants as journal
 use Rattle.messages.specs.declared.replies.Reply.{Reply}
 use Rattle.node_settings.specs.declared.answer.Answer.{Answer}
+use Rattle.node_settings.specs.declared.status_line.StatusLine.{StatusLine}
 use Rattle.node_settings.specs.declared.invocation.SettingsFault.{SettingsFault}
 use Rattle.node_settings.specs.declared.invocation.SettingsFault.TheVariants as words
 use Rattle.node_settings.specs.declared.failure.KeysTrouble.{KeysTrouble}
@@ -82,3 +83,8 @@ answer_line answer = line_of_reply answer.reply
 
 abbrev pub answer_status : Answer → ℕ
 answer_status answer = if answer.reply.code == 0 then 0 else 1
+
+-- ---- what who asks is told of a validator
+
+abbrev pub status_line : StatusLine → List ℕ
+status_line line = codes "height " ++ decimal line.height ++ codes " delivered " ++ decimal line.delivered ++ codes " links " ++ decimal line.links

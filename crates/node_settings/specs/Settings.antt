@@ -1,5 +1,5 @@
 -- What a command line asks for.
-use Rattle.std.specs.Prelude.{ℕ, ◌-◌, ◌/◌, ◌^◌, Bool, false, ◌&&◌, List, [], ◌∷◌, length, map, Option, Some, None, Result, Ok, Err, nat_lt, ◌==◌, if◌then◌else◌, codes}
+use Rattle.std.specs.Prelude.{ℕ, ◌-◌, ◌/◌, ◌^◌, Bool, false, ◌&&◌, List, [], ◌∷◌, length, map, Option, Some, None, option_map, Result, Ok, Err, nat_lt, ◌==◌, if◌then◌else◌, codes}
 use Rattle.std.specs.List.{slice_split}
 use Rattle.std.specs.Str.{bytes_eq}
 use Rattle.clap.specs.Walk.{Row, Text, first_of}
@@ -8,9 +8,12 @@ use Rattle.clap.specs.Kinds.{Kinds}
 use Rattle.clap.specs.Faults.{fault_of}
 use Rattle.clap.specs.declared.error.kind.ErrorKind.{ErrorKind}
 use Rattle.clap.specs.declared.error.kind.ErrorKind.TheVariants as kind
+use Rattle.log.specs.Level.{parse_filter}
+use Rattle.log.specs.declared.level.LevelFilter.{LevelFilter}
+use Rattle.log.specs.declared.level.LevelFilter.TheVariants as filter
 use Rattle.transactions.specs.declared.tx.Op.{Op}
 use Rattle.node_settings.specs.Commands.{node_app}
-use Rattle.node_settings.specs.Words.{◌>>=◌, given, number_given, number_or_none, is_flagged, is_comma, powers_of, op_of}
+use Rattle.node_settings.specs.Words.{◌>>=◌, or_usage, given, number_given, number_or_none, is_flagged, is_comma, powers_of, op_of}
 use Rattle.node_settings.specs.declared.invocation.SettingsFault.{SettingsFault}
 use Rattle.node_settings.specs.declared.invocation.SettingsFault.TheVariants.{Usage, OutOfMemory}
 use Rattle.node_settings.specs.declared.invocation.RunSettings.{RunSettings}
@@ -33,6 +36,8 @@ pub record Run : Type 0 where
   pub delta : ℕ
   pub idle : ℕ
   pub stop : Option ℕ
+  pub level : LevelFilter
+  pub status : Option Text
 
 -- one transaction, or one for each line of the file of this name
 pub data Sent : Type 0 where
@@ -69,6 +74,8 @@ run_words s = record {
   delta = s.delta;
   idle = s.idle;
   stop = s.stop;
+  level = s.level;
+  status = option_map (λ address. address.now) s.status;
 }
 
 abbrev pub sent_words : Sending → Sent
@@ -113,6 +120,14 @@ idle_of start rows = do
   idle ← number_or_none 0 start (codes "idle") rows
   Ok (idle_or start idle)
 
+-- which lines are logged: those of a level that is named in letters of either case, and of less verbose ones
+abbrev pub level_or_info : Option Text → Result LevelFilter SettingsFault
+level_or_info None = Ok filter.Info
+level_or_info (Some word) = or_usage (parse_filter word)
+
+unfoldable pub level_of : List Row → Result LevelFilter SettingsFault
+level_of rows = level_or_info (first_of (codes "log") rows)
+
 unfoldable pub run_of : List Row → Result Run SettingsFault
 run_of rows = do
   me ← number_given 0 63 (codes "id") rows
@@ -122,10 +137,12 @@ run_of rows = do
   delta ← number_given 0 86400000 (codes "delta") rows
   idle ← idle_of start rows
   stop ← number_or_none 1 (2 ^ 64 - 1) (codes "stop") rows
+  level ← level_of rows
   powers ← given (codes "powers") rows
   peers ← given (codes "peers") rows
   both ← cluster_of powers peers me
-  Ok (record { me = me; powers = both.0; keys = key_file; journal = journal; peers = both.1; start = start; delta = delta; idle = idle; stop = stop })
+  let status : Option Text = first_of (codes "status") rows
+  Ok (record { me = me; powers = both.0; keys = key_file; journal = journal; peers = both.1; start = start; delta = delta; idle = idle; stop = stop; level = level; status = status })
 
 -- how many validators there are
 unfoldable pub validators_of : List Row → Result ℕ SettingsFault

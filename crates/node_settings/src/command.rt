@@ -20,7 +20,7 @@ struct WordOption {
     help: &'static str,
 }
 
-static RUN: [WordOption; 9] = [
+static RUN: [WordOption; 11] = [
     WordOption {
         name: "id",
         is_required: true,
@@ -74,6 +74,18 @@ static RUN: [WordOption; 9] = [
         is_required: false,
         value: "K",
         help: "End after K delivered items",
+    },
+    WordOption {
+        name: "log",
+        is_required: false,
+        value: "LEVEL",
+        help: "What is logged: off, error, warn, info, debug or trace; else info",
+    },
+    WordOption {
+        name: "status",
+        is_required: false,
+        value: "ADDR",
+        help: "Tell who connects to this address how far the validator is",
     },
 ];
 

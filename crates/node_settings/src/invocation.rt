@@ -6,13 +6,14 @@ ghost use Rattle.transactions.specs.Grammar.{IsOp};
 ghost use Rattle.node_settings.specs.Words.{Gives, op_of, line_op};
 ghost use Rattle.node_settings.specs.Failures.{settings_number};
 ghost use Rattle.node_settings.specs.Lawful.{IsLawful, IsLawfulRun, IsLawfulSending, IsLawfulSend, IsLawfulKeys};
-ghost use Rattle.node_settings.specs.Settings.{run_words, sent_words, send_words, keys_words, invocation_words, idle_of, run_of, validators_of, sent_of, send_of, keys_of, cluster_of, entered_of, settings_of, asked_by};
+ghost use Rattle.node_settings.specs.Settings.{run_words, sent_words, send_words, keys_words, invocation_words, idle_of, level_of, run_of, validators_of, sent_of, send_of, keys_of, cluster_of, entered_of, settings_of, asked_by};
 
 use crate::command::node_command;
 use crate::lists::{bytes_of, powers_of, words_of};
 use crate::options::{is_flagged, number, number_or_none, word, word_of};
 use clap::error::ErrorKind;
 use clap::{ArgMatches, Error};
+use log::LevelFilter;
 use powers::Powers;
 use std::alloc::{AllocError, AllocFailed, Global};
 use std::convert::AsStr;
@@ -96,6 +97,10 @@ pub struct RunSettings<'a> {
     pub idle: u64,
     /// After how many delivered items the program ends, from 1 on.
     pub stop: Option<u64>,
+    /// The most verbose level that is logged.
+    pub level: LevelFilter,
+    /// The address at which it tells how far it is.
+    pub status: Option<&'a str>,
 }
 
 /// What a client sends.
@@ -217,6 +222,7 @@ impl<'a> RunSettings<'a> {
         let delta = number(found, "delta", 0, MOST_MILLISECONDS)?;
         let idle = idle_of(found, start)?;
         let stop = number_or_none(found, "stop", 1, u64::MAX)?;
+        let level = level_of(found)?;
         let (powers, peers) = cluster(alloc, word(found, "powers")?, word(found, "peers")?, me)?;
         Ok(RunSettings {
             me,
@@ -228,6 +234,8 @@ impl<'a> RunSettings<'a> {
             delta,
             idle,
             stop,
+            level,
+            status: word_of(found, "status"),
         })
     }
 }
@@ -241,6 +249,17 @@ fn idle_of(found: &ArgMatches<'_>, start: u64) -> Result<u64, SettingsFault>
     match number_or_none(found, "idle", 0, start)? {
         Some(idle) => Ok(idle),
         None => Ok(start / 2),
+    }
+}
+
+/// The most verbose level that is logged: `info` where none is named.
+#[tactic(auto, unfolding(crate::specs::Settings::level_of))]
+fn level_of(found: &ArgMatches<'_>) -> Result<LevelFilter, SettingsFault>
+    ensures { result ≡ level_of (rows_of (found_of found.now)) }
+{
+    match word_of(found, "log") {
+        Some(name) => name.parse().map_err(|_| SettingsFault::Usage),
+        None => Ok(LevelFilter::Info),
     }
 }
 

@@ -1,8 +1,8 @@
-//! The words of a command line of `tmnode`, as typed settings, and how the program ends: each fault with its line on standard
-//! error and its exit status.
+//! The words of a command line of `tmnode`, as typed settings, what it tells, and how it ends: each fault with its line on
+//! standard error and its exit status.
 //!
 //! - `tmnode run --id I --powers P,P,.. --keys FILE --journal FILE --peers ADDR,ADDR,.. --start MS --delta MS
-//!   [--idle MS] [--stop K]`
+//!   [--idle MS] [--stop K] [--log LEVEL] [--status ADDR]`
 //!   is a validator: number I of those with these powers and addresses.
 //! - `tmnode send --id C --validators N --keys FILE --to ADDR,ADDR,.. --number M` with one of `--data HEX`, `--close` and
 //!   `--file FILE` sends transactions of client C.
@@ -18,6 +18,7 @@ mod failure;
 mod invocation;
 mod lists;
 mod options;
+mod status_line;
 
 pub use answer::Answer;
 pub use failure::{Failure, JournalTrouble, KeysTrouble};
@@ -25,3 +26,4 @@ pub use invocation::{
     Invocation, KeysSettings, Page, RunSettings, SendSettings, Sending, SettingsFault, line_op,
     settings,
 };
+pub use status_line::StatusLine;

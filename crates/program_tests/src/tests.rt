@@ -1,3 +1,4 @@
 mod command_lines;
 mod failures;
 mod key_files;
+mod running;

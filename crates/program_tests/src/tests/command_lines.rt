@@ -30,10 +30,14 @@ fn shown_run(alloc: Global, run: &RunSettings<'_>) -> Result<String, AllocError>
     for peer in &run.peers {
         text = format!(in alloc; "{text} {peer}")?;
     }
-    format!(in alloc;
-        "{text}, {} {}, {} {} {} {:?}",
-        run.keys, run.journal, run.start, run.delta, run.idle, run.stop
-    )
+    text = format!(in alloc;
+        "{text}, {} {}, {} {} {} {:?} {}",
+        run.keys, run.journal, run.start, run.delta, run.idle, run.stop, run.level
+    )?;
+    match run.status {
+        Some(address) => format!(in alloc; "{text} {address}"),
+        None => Ok(text),
+    }
 }
 
 fn shown_op(alloc: Global, op: &Op) -> Result<String, AllocError> {
@@ -78,9 +82,6 @@ fn assert_usage(rt: &impl Abort, alloc: Global, front: &str, lines: &str) -> Res
     Ok(())
 }
 
-const RUN: &str =
-    "tmnode run --id 3 --powers 1,1,1,4294967295 --keys k --journal j --peers a:1,b:2,,d";
-
 #[test]
 fn run_lines(rt: HostRuntime) -> Result<(), Fail> {
     let alloc = rt.alloc();
@@ -88,20 +89,46 @@ fn run_lines(rt: HostRuntime) -> Result<(), Fail> {
         &rt,
         alloc,
         "tmnode run --id 1 --powers 5,3 --keys k --journal j --peers a:1,b:2 --start 0 --delta 86400000 --stop 1",
-        "1 of 2, power 8 a:1 b:2, k j, 0 86400000 0 Some(1)",
+        "1 of 2, power 8 a:1 b:2, k j, 0 86400000 0 Some(1) INFO",
     )?;
     assert_asked(
         &rt,
         alloc,
         "tmnode run --delta 2 --start=00200 --peers a,b,c --journal=j --keys k --powers 1,1,1 --id 0",
-        "0 of 3, power 3 a b c, k j, 200 2 100 None",
+        "0 of 3, power 3 a b c, k j, 200 2 100 None INFO",
     )?;
     assert_asked(
         &rt,
         alloc,
         "tmnode run --id 0 --powers 1,1 --keys k --journal j --peers a,b --start 9 --delta 2 --idle 9",
-        "0 of 2, power 2 a b, k j, 9 2 9 None",
+        "0 of 2, power 2 a b, k j, 9 2 9 None INFO",
+    )?;
+    assert_asked(
+        &rt,
+        alloc,
+        "tmnode run --status s:1 --id 0 --powers 1,1 --keys k --journal j --peers a,b --start 2 --delta 2 --log wArn",
+        "0 of 2, power 2 a b, k j, 2 2 1 None WARN s:1",
     )
+}
+
+#[test]
+fn levels_of_run_lines(rt: HostRuntime) -> Result<(), Fail> {
+    let alloc = rt.alloc();
+    for (word, level) in [
+        ("off", "OFF"),
+        ("error", "ERROR"),
+        ("warn", "WARN"),
+        ("info", "INFO"),
+        ("debug", "DEBUG"),
+        ("trace", "TRACE"),
+    ] {
+        let line = format!(in alloc;
+            "tmnode run --id 0 --powers 1,1 --keys k --journal j --peers a,b --start 2 --delta 2 --log {word}"
+        )?;
+        let wanted = format!(in alloc; "0 of 2, power 2 a b, k j, 2 2 1 None {level}")?;
+        assert_asked(&rt, alloc, line.as_str(), wanted.as_str())?;
+    }
+    Ok(())
 }
 
 #[test]
@@ -115,7 +142,9 @@ fn bad_run_lines(rt: HostRuntime) -> Result<(), Fail> {
 0x1 --start 1 --delta 1\n --start 1 --delta 1\n0 --start 86400001 --delta 1\n0 --start 1 --delta 86400001\n\
 0 --start 1 --delta 1 --stop 0\n0 --start 1 --delta 1 --stop 18446744073709551616\n0 --start 1 --delta 1 x\n\
 0 --start 1 --delta 1 --start 2\n0 --start 1 --delta 1 --other 2\n0 --start 1 --delta 3 --idle 2\n\
-0 --start 1 --delta 1 --idle -1",
+0 --start 1 --delta 1 --idle -1\n0 --start 1 --delta 1 --log\n0 --start 1 --delta 1 --log loud\n\
+0 --start 1 --delta 1 --log \n0 --start 1 --delta 1 --log info --log info\n0 --start 1 --delta 1 --status\n\
+0 --start 1 --delta 1 --status a --status a",
     )?;
     assert_usage(
         &rt,
@@ -263,7 +292,10 @@ fn pages(rt: HostRuntime) -> Result<(), Fail> {
     );
     let page = asked(alloc, "tmnode run --help")?;
     assert!(rt;
-        page.contains("--id <I>") && page.contains("--stop <K>"),
+        page.contains("--id <I>")
+            && page.contains("--stop <K>")
+            && page.contains("--log <LEVEL>")
+            && page.contains("--status <ADDR>"),
         "{page}"
     );
     let page = asked(alloc, "tmnode send --help")?;

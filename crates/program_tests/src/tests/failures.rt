@@ -2,7 +2,7 @@
 
 use authenticators::KeysFault;
 use messages::Reply;
-use node_settings::{Answer, Failure, JournalTrouble, KeysTrouble, SettingsFault};
+use node_settings::{Answer, Failure, JournalTrouble, KeysTrouble, SettingsFault, StatusLine};
 use std::alloc::Global;
 use std::process::Abort;
 use std::test::Fail;
@@ -138,4 +138,16 @@ fn answers(rt: HostRuntime) -> Result<(), Fail> {
     assert_answer(&rt, alloc, 0, 0, "accepted", 0)?;
     assert_answer(&rt, alloc, 13, 4, "refused 13 4", 1)?;
     assert_answer(&rt, alloc, 7, 0, "refused 7 0", 1)
+}
+
+#[test]
+fn how_far_it_is(rt: HostRuntime) -> Result<(), Fail> {
+    let line = StatusLine {
+        height: 12,
+        delivered: 0,
+        links: 7,
+    };
+    let text = format!(in rt.alloc(); "{line}")?;
+    assert!(rt; text.as_str() == "height 12 delivered 0 links 7", "{text}");
+    Ok(())
 }
