@@ -1,19 +1,17 @@
 #!/usr/bin/env python3
 """Tries the program tmnode as processes on this machine: what each failure says, and what a cluster outlives.
 
-usage: test/processes.py [--long] [--with PROGRAM]
+usage: test/processes.py [--long] [--with PROGRAM] [TEST..]
 
-PROGRAM is a built tmnode, bin/tmnode if none is named. --long kills fifty times instead of three, and sends a hundred
-megabytes of noise instead of four. Each test has a line; the last line is 'N passed, M failed', and the status 0 where
-nothing failed. The folder of a test that failed stays, with what its validators wrote.
+PROGRAM is a built tmnode, bin/tmnode if none is named. --long kills fifty times instead of five, cuts a validator off five
+times instead of two, and sends a hundred megabytes of noise instead of four. Each test has a line, also one that this machine
+can't run, which is left out; the last line is 'N passed, M failed', and the status 0 where nothing failed. The folder of a
+test that failed stays, with what its validators wrote.
 """
 import argparse
-import hashlib
-import hmac
 import os
 import queue
 import random
-import resource
 import shutil
 import socket
 import subprocess
@@ -22,255 +20,34 @@ import tempfile
 import threading
 import time
 
+from validators import (
+    PATIENCE,
+    PRECOMMIT,
+    PREVOTE,
+    PROPOSAL,
+    Client,
+    Cluster,
+    Failed,
+    Heading,
+    LeftOut,
+    Tap,
+    Wires,
+    dial,
+    free_addresses,
+    hold,
+    limited,
+    peak_of,
+    read,
+    records_of,
+    saved_by,
+    transaction_frame,
+    vote_by,
+    want,
+    want_one_for_each_step,
+)
+
 TOP = os.path.dirname(os.path.dirname(os.path.realpath(__file__)))
-POWERS = "1,1,1,1"
 CLIENTS = (7, 9)
-# How long a list may take to grow as far as it is waited for, in seconds.
-PATIENCE = 120
-# The first byte of a body, and that of a record of a journal (docs/FORMATS.md).
-PROPOSAL, PREVOTE, PRECOMMIT = 0x10, 0x11, 0x12
-DECISION = 0x03
-
-
-class Failed(Exception):
-    """What a test saw that should not be."""
-
-
-def want(is_so, why):
-    if not is_so:
-        raise Failed(why)
-
-
-def free_addresses(count):
-    held = [socket.socket() for _ in range(count)]
-    for it in held:
-        it.bind(("127.0.0.1", 0))
-    found = [f"127.0.0.1:{it.getsockname()[1]}" for it in held]
-    for it in held:
-        it.close()
-    return found
-
-
-def read(path):
-    with open(path, encoding="utf-8") as it:
-        return it.read()
-
-
-def records_of(path):
-    """Returns the whole records of a journal, which may be written to meanwhile."""
-    try:
-        with open(path, "rb") as it:
-            held = it.read()
-    except OSError:
-        return []
-    found, at = [], 4
-    while at + 4 <= len(held):
-        end = at + 4 + int.from_bytes(held[at : at + 4], "big")
-        if end <= len(held):
-            found.append(held[at + 4 : end])
-        at = end
-    return found
-
-
-def limited(**limits):
-    """Returns what sets these limits in a process before it begins. Writes past one are refused, and don't kill."""
-
-    def set_limits():
-        for name, value in limits.items():
-            kind = getattr(resource, f"RLIMIT_{name}")
-            resource.setrlimit(kind, (value, value))
-
-    return {"preexec_fn": set_limits, "restore_signals": False}
-
-
-class Cluster:
-    """Four validators with their keys, in a folder."""
-
-    def __init__(self, program, folder):
-        self.program, self.folder = program, folder
-        self.addresses, self.running, self.starts = free_addresses(4), {}, [0] * 4
-
-    def begin(self, clients=10):
-        told = self.make_keys(clients)
-        want(told == (0, ""), f"the keys are told {told}")
-
-    def path(self, name):
-        return os.path.join(self.folder, name)
-
-    def make_keys(self, clients=10):
-        """Makes the key files of four validators and so many clients, and returns the status and what was told."""
-        words = ["keys", "--validators", "4", "--clients", str(clients), "--out", self.path("keys")]
-        ran = subprocess.run([self.program, *words], capture_output=True, text=True, timeout=30, check=False)
-        return ran.returncode, ran.stdout + ran.stderr
-
-    def keys_of(self, party):
-        return self.path(f"keys/{party}.keys")
-
-    def words(self, me, **changed):
-        given = {
-            "id": me,
-            "powers": POWERS,
-            "keys": self.keys_of(f"v{me}"),
-            "journal": self.path(f"v{me}.journal"),
-            "peers": ",".join(self.addresses),
-            "start": 200,
-            "delta": 100,
-            **changed,
-        }
-        return [self.program, "run", *(word for key, value in given.items() for word in (f"--{key}", str(value)))]
-
-    def run_out(self, me, changed=None, seconds=30, **how):
-        """Runs a validator that ends by itself, and returns its status and the last line that it told."""
-        ran = subprocess.run(self.words(me, **(changed or {})), capture_output=True, text=True, timeout=seconds, check=False, **how)
-        said = [it for it in ran.stderr.splitlines() if it.startswith("tmnode: ")]
-        return ran.returncode, said[-1] if said else ""
-
-    def start(self, me, changed=None, **how):
-        """Starts a validator, whose list goes to a file of this start."""
-        words = self.words(me, **(changed or {}))
-        self.starts[me] += 1
-        with open(self.list_of(me), "w", encoding="utf-8") as out, open(self.path(f"v{me}.log"), "a", encoding="utf-8") as log:
-            self.running[me] = subprocess.Popen(words, stdout=out, stderr=log, **how)
-
-    def decisions_of(self, me):
-        """Returns how many heights a validator has decided, as its journal tells."""
-        return sum(it[0] == DECISION for it in records_of(self.path(f"v{me}.journal")))
-
-    def wait_for_precommit(self, me):
-        """Returns the round of a validator's first precommit, and whether it is for a value."""
-        ends = time.monotonic() + PATIENCE
-        while time.monotonic() < ends:
-            for it in records_of(self.path(f"v{me}.journal")):
-                if it[0] != DECISION and it[1] == PRECOMMIT:
-                    return int.from_bytes(it[10:14], "big"), it[16] == 1
-            time.sleep(0.02)
-        raise Failed(f"validator {me} has not precommitted")
-
-    def wait_for_heights(self, count, me, patience):
-        ends = time.monotonic() + patience
-        while (decided := self.decisions_of(me)) < count:
-            want(time.monotonic() < ends, f"validator {me} has decided {decided} heights of {count}")
-            time.sleep(0.02)
-
-    def list_of(self, me):
-        return self.path(f"v{me}.{self.starts[me]}.list")
-
-    def kill(self, me):
-        process = self.running.pop(me)
-        process.kill()
-        process.wait()
-
-    def end(self):
-        for me in list(self.running):
-            self.kill(me)
-
-    def words_of_send(self, client, to, number, *what):
-        words = ["send", "--id", client, "--validators", 4, "--keys", self.keys_of(f"c{client}"), "--to", self.addresses[to], "--number", number, *what]
-        return [self.program, *map(str, words)]
-
-    def send(self, client, to, number, *what):
-        """Sends one transaction, and returns what is told of it."""
-        ran = subprocess.run(self.words_of_send(client, to, number, *what), capture_output=True, text=True, timeout=30, check=False)
-        return ran.returncode, (ran.stdout + ran.stderr).strip()
-
-    def file_of(self, lines):
-        with open(self.path("lines"), "w", encoding="utf-8") as out:
-            out.writelines(f"{it}\n" for it in lines)
-        return self.path("lines")
-
-    def send_file(self, client, number, file):
-        """Sends the transactions of a file to all validators, and returns what is told of them."""
-        words = self.words_of_send(client, 0, number, "--file", file)
-        words[words.index("--to") + 1] = ",".join(self.addresses)
-        ran = subprocess.run(words, capture_output=True, text=True, timeout=PATIENCE, check=False)
-        return ran.returncode, (ran.stdout + ran.stderr).strip()
-
-    def send_to_one_that_hangs_up(self, listener):
-        """Sends one transaction to validator 0's address, where this listener takes the connection and ends it."""
-        words = self.words_of_send(7, 0, 1, "--close")
-        with subprocess.Popen(words, stdout=subprocess.PIPE, stderr=subprocess.STDOUT, text=True) as sender:
-            listener.accept()[0].close()
-            return sender.wait(timeout=30), sender.stdout.read().strip()
-
-    def send_until_taken(self, client, to, number, *what):
-        ends = time.monotonic() + PATIENCE
-        while (told := self.send(client, to, number, *what))[0] != 0:
-            want(time.monotonic() < ends, f"transaction {number} of client {client} is told {told[1]!r}")
-            time.sleep(0.1)
-
-    def wait_for(self, count, *who):
-        """Waits until these validators' lists have so many lines, and returns the lists."""
-        ends = time.monotonic() + PATIENCE
-        while True:
-            lists = [read(self.list_of(me)).splitlines() for me in who]
-            if all(len(it) >= count for it in lists):
-                return lists
-            want(time.monotonic() < ends, f"lists have {[len(it) for it in lists]} lines of {count}")
-            time.sleep(0.05)
-
-    def want_same(self, count, *who):
-        lists = self.wait_for(count, *who)
-        for me, own in zip(who, lists):
-            want(own[:count] == lists[0][:count], f"the lists of validators {who[0]} and {me} differ")
-        return lists[0]
-
-
-class Wires:
-    """What stands between validators: each frame on their links is shown to a filter, which says whether it passes."""
-
-    def __init__(self, addresses, passes):
-        self.addresses, self.passes = addresses, passes
-
-    def addresses_for(self, me, others):
-        """Returns the addresses by which a validator reaches these others through wires."""
-        return [self.wire(me, it) if it in others else address for it, address in enumerate(self.addresses)]
-
-    def wire(self, source, target):
-        listener = socket.create_server(("127.0.0.1", 0))
-        threading.Thread(target=self.accept, args=(listener, source, target), daemon=True).start()
-        return f"127.0.0.1:{listener.getsockname()[1]}"
-
-    def accept(self, listener, source, target):
-        while True:
-            near = listener.accept()[0]
-            try:
-                far = dial(self.addresses[target])
-            except OSError:
-                near.close()
-                continue
-            far.settimeout(None)
-            for ends in ((near, far, source, target), (far, near, target, source)):
-                threading.Thread(target=self.carry, args=ends, daemon=True).start()
-
-    def carry(self, near, far, source, target):
-        stream = near.makefile("rb")
-        try:
-            while len(length := stream.read(4)) == 4:
-                frame = length + stream.read(int.from_bytes(length, "big"))
-                if self.passes(source, target, frame):
-                    far.sendall(frame)
-        except OSError:
-            pass
-        for it in (near, far):
-            it.close()
-
-
-class Heading:
-    """What stands at the front of a proposal's or a vote's frame; of other frames it has the kind alone."""
-
-    def __init__(self, frame):
-        self.kind, self.round, self.sender = frame[4], None, None
-        if self.kind in (PROPOSAL, PREVOTE, PRECOMMIT):
-            self.round, self.sender = int.from_bytes(frame[13:17], "big"), int.from_bytes(frame[17:19], "big")
-
-
-def vote_by(frame, sender, key_file):
-    """Returns the frame of the same vote, by this sender, with its tags."""
-    body = frame[4:17] + sender.to_bytes(2, "big") + frame[19 : -1 - 32 * 4]
-    keys = dict(line.split()[1:] for line in read(key_file).splitlines() if line.startswith(f"v{sender} v"))
-    tags = b"".join(hmac.new(bytes.fromhex(keys[f"v{it}"]), body, hashlib.sha256).digest() for it in range(4))
-    message = body + b"\x04" + tags
-    return len(message).to_bytes(4, "big") + message
 
 
 # ---- what each failure says
@@ -338,21 +115,42 @@ def a_second_process_over_one_journal(cluster, _):
     want(told == (4, "tmnode: journal 0"), f"a second process is told {told}")
 
 
-def a_full_disk(cluster, _):
-    """A validator that can't save halts, and comes back with all that it had once there is room."""
+def halts_and_comes_back(cluster, changed, make_room, **how):
+    """Wants a validator that can't save to halt, and to come back with all that it had once there is room."""
     for me in (0, 1, 2):
         cluster.start(me)
-    cluster.start(3, **limited(FSIZE=4_096))
+    cluster.start(3, changed, **how)
+    journal = changed.get("journal", cluster.path("v3.journal"))
     for number in range(1, 13):
         cluster.send_until_taken(7, 0, number, "--data", "61" * 200)
     cluster.want_same(12, 0, 1, 2)
     status = cluster.running.pop(3).wait(timeout=PATIENCE)
     want(status == 6, f"the validator ends with status {status}")
     want(read(cluster.path("v3.log")).endswith("tmnode: halted\n"), "it doesn't say that it halted")
-    before = read(cluster.list_of(3))
-    cluster.start(3)
+    before, saved = read(cluster.list_of(3)).rstrip("\n"), records_of(journal)
+    make_room()
+    cluster.start(3, changed)
     after = cluster.want_same(12, 0, 3)
-    want("\n".join(after).startswith(before.rstrip("\n")), "what it delivered before is gone")
+    want("\n".join(after).startswith(before), "what it delivered before is gone")
+    want(records_of(journal)[: len(saved)] == saved, "what it saved before is gone")
+    want_one_for_each_step(journal)
+
+
+def a_file_that_may_not_grow(cluster, _):
+    halts_and_comes_back(cluster, {}, lambda: None, **limited(FSIZE=4_096))
+
+
+def a_full_disk(cluster, _):
+    small = cluster.path("small")
+    os.mkdir(small)
+    if subprocess.run(["mount", "-t", "tmpfs", "-o", "size=8k", "none", small], capture_output=True, check=False).returncode:
+        raise LeftOut("no file system can be mounted here")
+    try:
+        grow = ["mount", "-o", "remount,size=64m", small]
+        halts_and_comes_back(cluster, {"journal": f"{small}/v3.journal"}, lambda: subprocess.run(grow, check=True))
+    finally:
+        cluster.end()
+        subprocess.run(["umount", small], check=True)
 
 
 # ---- what a cluster does, and outlives
@@ -385,6 +183,7 @@ def send_of_many(cluster, _):
     for me in range(4):
         cluster.start(me)
     cluster.send_until_taken(9, 0, 1, "--data", "")
+    cluster.want_same(1, *range(4))
     status, told = cluster.send_file(7, 1, file)
     want(status in (0, 1), f"the file is told {status}, {told[:200]}")
     answers = [it.split(" ", 2) for it in told.splitlines()]
@@ -413,6 +212,7 @@ def a_validator_that_is_gone_is_told(cluster, _):
     for me in range(3):
         cluster.start(me)
     cluster.send_until_taken(9, 0, 1, "--data", "")
+    cluster.want_same(1, *range(3))
     status, told = cluster.send_file(7, 1, cluster.file_of(["61", "62"]))
     want(status == 5 and told.endswith("tmnode: cannot connect"), f"the file is told {status}, {told}")
     gone = [it for it in told.splitlines() if it.startswith(cluster.addresses[3])]
@@ -437,28 +237,64 @@ def nothing_to_do(cluster, _):
 
 
 def kills(cluster, is_long):
-    """Kills a validator at a random moment while clients send, and starts it again."""
+    """Kills a validator, or all at once, at a random moment while clients send, and starts it again. What it printed it prints
+    again, and what it sent stands in its journal, with one message at most for each step."""
+    tap = Tap()
+    wires = Wires(cluster.addresses, tap.passes)
+    peers = [{"peers": wires.peers_of(it)} for it in range(4)]
     for me in range(4):
-        cluster.start(me)
-    chance, count = random.Random(1), 0
-    for _ in range(50 if is_long else 3):
-        victim = chance.randrange(4)
-        others = [it for it in range(4) if it != victim]
-        count += 1
-        cluster.send_until_taken(7, others[0], count, "--data", f"{count:04x}")
+        cluster.start(me, peers[me])
+    clients = [Client(cluster, it) for it in CLIENTS]
+    for it in clients:
+        it.start()
+    cluster.wait_for(1, *range(4))
+    chance = random.Random(1)
+    for turn in range(50 if is_long else 5):
+        time.sleep(chance.random() / 2)
+        victims = range(4) if turn % 5 == 4 else [chance.randrange(4)]
+        for it in victims:
+            cluster.kill(it)
+        before = [read(cluster.list_of(it)).rstrip("\n") for it in victims]
         time.sleep(chance.random() / 5)
-        before = read(cluster.list_of(victim))
-        cluster.kill(victim)
-        cluster.send_until_taken(9, others[1], count, "--data", "")
-        cluster.start(victim)
-        lists = cluster.want_same(2 * count, *range(4))
-        want("\n".join(lists).startswith(before.rstrip("\n")), f"what validator {victim} printed before is gone")
-    for client in CLIENTS:
-        cluster.send_until_taken(client, 0, count + 1, "--close")
-    lines = cluster.want_same(2 * count + 2, *range(4))
-    for client in CLIENTS:
+        for it in victims:
+            cluster.start(it, peers[it])
+        for it, lines in zip(victims, before):
+            again = cluster.wait_for(lines.count("\n") + 2, it)[0]
+            want("\n".join(again).startswith(lines), f"what validator {it} printed before is gone")
+    counts = [it.end() for it in clients]
+    lines = cluster.want_same(sum(counts), *range(4))
+    for client, count in zip(CLIENTS, counts):
         numbers = [int(it.split()[2]) for it in lines if it.split()[1] == str(client)]
-        want(numbers == list(range(1, count + 2)), f"client {client} has the numbers {numbers}")
+        want(numbers == list(range(1, count + 1)), f"client {client} has the numbers {numbers}")
+    cluster.end()
+    for me, sent in enumerate(tap.bodies):
+        path = cluster.path(f"v{me}.journal")
+        want_one_for_each_step(path)
+        want(sent and sent <= set(saved_by(path)), f"validator {me} has sent what isn't in its journal")
+
+
+def cut_off(cluster, is_long):
+    """Links delay all that they carry, and for a while nothing comes to or from a validator: it prints a beginning of the list,
+    and catches up."""
+    is_cut, chance, count = threading.Event(), random.Random(3), 0
+
+    def passes(source, target, _):
+        time.sleep(chance.random() / 100)
+        return not (is_cut.is_set() and 3 in (source, target))
+
+    wires = Wires(cluster.addresses, passes)
+    for me in range(4):
+        cluster.start(me, {"peers": wires.peers_of(me)})
+    for _ in range(5 if is_long else 2):
+        is_cut.set()
+        for _ in range(5):
+            count += 1
+            cluster.send_until_taken(7, 0, count, "--data", f"{count:04x}")
+        lines = cluster.want_same(count, 0, 1, 2)
+        own = read(cluster.list_of(3)).splitlines()
+        want(len(own) < count and own == lines[: len(own)], f"validator 3, which is cut off, prints {own}")
+        is_cut.clear()
+        cluster.want_same(count, *range(4))
 
 
 def far_behind(cluster, _):
@@ -468,7 +304,7 @@ def far_behind(cluster, _):
         cluster.start(me, quick)
     cluster.wait_for_heights(1_000, 0, PATIENCE)
     cluster.start(3, quick)
-    cluster.wait_for_heights(1_000, 3, 30)
+    cluster.wait_for_heights(1_000, 3, PATIENCE)
     cluster.send_until_taken(7, 3, 1, "--data", "61")
     cluster.send_until_taken(7, 0, 1, "--data", "61")
     cluster.want_same(1, *range(4))
@@ -501,50 +337,167 @@ def a_prevote_that_reached_one_alone(cluster, _):
     cluster.want_same(1, 0, 1, 2)
 
 
-def peak_of(process):
-    """Returns the most memory that a process held, in bytes."""
-    lines = read(f"/proc/{process.pid}/status").splitlines()
-    return next(int(it.split()[1]) * 1024 for it in lines if it.startswith("VmHWM:"))
+def a_wall_clock_that_is_set(cluster, _):
+    """The wall clock goes a day forward or back at each reading, and nobody minds."""
+    library = cluster.path("set_clock.so")
+    words = ["gcc", "-O1", "-shared", "-fPIC", "-o", library, f"{TOP}/test/set_clock.c", "-ldl"]
+    if shutil.which("gcc") is None or subprocess.run(words, capture_output=True, check=False).returncode:
+        raise LeftOut("gcc makes no library here")
+    for me in range(4):
+        cluster.start(me, env={**os.environ, "LD_PRELOAD": library})
+    for number in range(1, 6):
+        cluster.send_until_taken(7, 0, number, "--data", "61")
+        cluster.want_same(number, *range(4))
+    began, before = time.monotonic(), cluster.decisions_of(0)
+    time.sleep(3)
+    heights = cluster.decisions_of(0) - before
+    # (at rest a height takes the hundred milliseconds of --idle, and its turns)
+    want(heights >= 5 * (time.monotonic() - began) / 3, f"{heights} heights are decided in three seconds of rest")
 
 
-def dial(address):
-    host, port = address.split(":")
-    return socket.create_connection((host, int(port)), timeout=10)
+def a_clock_that_begins_anew(cluster, _):
+    """A validator's clock stands elsewhere after each of its starts, as after that of a machine."""
+    if subprocess.run(["unshare", "--time", "--monotonic", "1000", "true"], capture_output=True, check=False).returncode:
+        raise LeftOut("there are no time namespaces here")
+    for me in range(3):
+        cluster.start(me)
+    count = 0
+    for since in (1_000_000, 0, 2_000_000):
+        cluster.start(3, in_front=["unshare", "--time", "--monotonic", str(since)])
+        for _ in range(3):
+            count += 1
+            cluster.send_until_taken(7, 0, count, "--data", "61")
+        cluster.want_same(count, *range(4))
+        cluster.kill(3)
+
+
+def what_is_logged(cluster, _):
+    """Each level leaves out what is behind it, and a failure is told at any."""
+    told = cluster.run_out(0, {"log": "loud"})
+    want(told == (2, "tmnode: usage"), f"a level that is none is told {told}")
+    for me, level in enumerate(("info", "WARN", "error", "off")):
+        cluster.start(me, {"log": level})
+        # (so that one can't be reached at first)
+        time.sleep(0.5)
+    cluster.send_until_taken(7, 0, 1, "--data", "61")
+    cluster.want_same(1, *range(4))
+    cluster.end()
+    lines = [read(cluster.path(f"v{it}.log")).splitlines() for it in range(4)]
+    begun = [it for it in lines[0] if it.startswith("[INFO ") and it.endswith("validator 0 is at height 0, with 0 decisions in its journal")]
+    want(len(begun) == 1, f"with info it logs {lines[0]}")
+    want(all(it.startswith(("[INFO ", "[WARN ")) for it in lines[0]), f"with info it logs {lines[0]}")
+    want(lines[1] and all(it.startswith("[WARN ") for it in lines[1]), f"with warn it logs {lines[1]}")
+    want(lines[2:] == [[], []], f"with error and off they log {lines[2:]}")
+    told = cluster.run_out(0, {"log": "off", "journal": cluster.folder})
+    want(told == (4, "tmnode: journal 0"), f"a failure is told {told} with off")
+
+
+def status_of(address):
+    """Returns the height, the delivered items and the links that a validator tells."""
+    with dial(address) as link, link.makefile(encoding="ascii") as stream:
+        line = stream.read()
+    words = line.split(" ")
+    want(line.endswith("\n") and words[::2] == ["height", "delivered", "links"] and len(words) == 6, f"the status is {line!r}")
+    return [int(it) for it in words[1::2]]
+
+
+def how_far_it_is(cluster, _):
+    """A validator tells its status at each connection, whoever else is connected there."""
+    tells = free_addresses(4)
+    told = cluster.run_out(0, {"status": cluster.addresses[0]})
+    want(told == (5, "tmnode: cannot listen"), f"an address that is taken is told {told}")
+    for me in range(4):
+        cluster.start(me, {"status": tells[me]})
+    for number in range(1, 4):
+        cluster.send_until_taken(7, 0, number, "--data", "61")
+        cluster.want_same(number, *range(4))
+        for tell in tells:
+            height, delivered, links = status_of(tell)
+            want(height > 0 and delivered == number and 3 <= links <= 6, f"the status is {height, delivered, links}")
+    held = [dial(tells[0]) for _ in range(50)]
+    before = status_of(tells[0])[0]
+    time.sleep(1)
+    want(status_of(tells[0])[0] > before, "the height stays")
+    guests = [dial(cluster.addresses[0]) for _ in range(5)]
+    ends = time.monotonic() + PATIENCE
+    while (links := status_of(tells[0])[2]) < 8:
+        want(time.monotonic() < ends, f"{links} links are told, and five guests are there")
+    for it in held + guests:
+        it.close()
+    while (links := status_of(tells[0])[2]) > 6:
+        want(time.monotonic() < ends, f"{links} links are told, and the guests have gone")
+    for tell in tells:
+        want(status_of(tell)[1] == 3, "another count of items is told")
+
+
+def the_example(cluster, _):
+    """The client to be copied sends a text, and finds it in the list that a validator prints meanwhile."""
+    beside = os.path.dirname(cluster.program)
+    example = next(filter(os.path.isfile, (f"{beside}/client_example", f"{beside}/../../client_example/out/client_example")), None)
+    if example is None:
+        raise LeftOut(f"no client_example is beside {cluster.program}")
+    for me in range(4):
+        cluster.start(me)
+    cluster.send_until_taken(9, 0, 1, "--data", "")
+    cluster.want_same(1, *range(4))
+    words = [example, cluster.keys_of("c7"), "7", "4", cluster.addresses[1], "1", "hello"]
+    with subprocess.Popen(["tail", "-n", "+1", "-f", cluster.list_of(0)], stdout=subprocess.PIPE) as follower:
+        ran = subprocess.run(words, stdin=follower.stdout, capture_output=True, text=True, timeout=30, check=False)
+        follower.kill()
+    told = ran.returncode, ran.stdout + ran.stderr
+    want(told == (0, "accepted\n1 7 1 68656c6c6f\n"), f"the example is told {told}")
+    ran = subprocess.run(words, stdin=subprocess.DEVNULL, capture_output=True, text=True, timeout=30, check=False)
+    want((ran.returncode, ran.stdout) == (1, "") and "refused 13 3" in ran.stderr, f"an old number is told {ran}")
+
+
+def framed_noise(chance):
+    """Returns a megabyte of frames, each of which begins as one of some kind, with random bytes behind."""
+    contents = (bytes([chance.choice((0x01, PROPOSAL, PREVOTE, PRECOMMIT, 0x13, 0x14, 0x20))]) + chance.randbytes(4_091) for _ in range(256))
+    return b"".join(len(it).to_bytes(4, "big") + it for it in contents)
 
 
 def noise(cluster, is_long):
-    """Random bytes, and links that are never done, keep nobody else from being served."""
+    """Random bytes, as they come and in frames, change nothing, and keep nobody from being served."""
     for me in range(4):
         cluster.start(me)
     cluster.send_until_taken(7, 0, 1, "--data", "61")
     chance = random.Random(2)
-    for _ in range(100 if is_long else 4):
+    for turn in range(100 if is_long else 4):
         with dial(cluster.addresses[0]) as link:
             try:
-                link.sendall(b"\0\0\x0f\xff" + chance.randbytes(1 << 20))
-            except OSError:
-                pass
+                link.sendall(framed_noise(chance) if turn % 4 else chance.randbytes(1 << 20))
+                link.shutdown(socket.SHUT_WR)
+                # (until all is read there)
+                while link.recv(1 << 16):
+                    pass
+            except OSError as fault:
+                want(turn % 4 == 0, f"a link with whole frames fails: {fault}")
     cluster.send_until_taken(7, 0, 2, "--data", "62")
-    cluster.want_same(2, *range(4))
+    for me, lines in enumerate(cluster.wait_for(2, *range(4))):
+        want([it.split()[1:] for it in lines] == [["7", "1", "61"], ["7", "2", "62"]], f"validator {me} prints {lines}")
     peak = peak_of(cluster.running[0])
     want(peak < 256 << 20, f"the validator held {peak} bytes")
 
 
 def links_that_are_never_done(cluster, _):
-    """A hundred links with half a frame each, which are held, and two hundred more that come and go."""
+    """Two hundred links at once, more than are taken, each with half a frame or with frames whose replies nobody reads. Who was
+    linked before is served meanwhile, and others by the other validators, and by this one once they are gone."""
     for me in range(4):
         cluster.start(me)
     cluster.send_until_taken(7, 0, 1, "--data", "61")
-    held = [dial(cluster.addresses[0]) for _ in range(100)]
-    for link in held:
-        link.sendall(b"\0\x0f\xff\xff" + b"x" * 5_000)
-    for _ in range(200):
-        dial(cluster.addresses[0]).close()
-    cluster.send_until_taken(7, 0, 2, "--data", "62")
-    cluster.want_same(2, *range(4))
+    cluster.want_same(1, *range(4))
+    keys, early = cluster.tag_keys_of(9), dial(cluster.addresses[0])
+    old = transaction_frame(9, 1, b"", keys)
+    held = [hold(cluster.addresses[0], old * 500 if it % 2 else b"\0\x0f\xff\xff" + b"x" * 5_000) for it in range(200)]
+    for number in range(1, 6):
+        early.sendall(transaction_frame(9, number, b"", keys))
+        cluster.send_until_taken(7, 1, number + 1, "--data", "62")
+        cluster.want_same(2 * number + 1, *range(4))
     peak = peak_of(cluster.running[0])
-    for link in held:
+    for link in [early, *held]:
         link.close()
+    cluster.send_until_taken(7, 0, 7, "--data", "63")
+    cluster.want_same(12, *range(4))
     want(peak < 256 << 20, f"the validator held {peak} bytes")
 
 
@@ -560,23 +513,34 @@ TESTS = (
     send_of_many,
     a_file_that_is_none,
     a_validator_that_is_gone_is_told,
+    what_is_logged,
+    how_far_it_is,
+    the_example,
     nothing_to_do,
+    a_file_that_may_not_grow,
     a_full_disk,
     kills,
+    cut_off,
     far_behind,
     a_prevote_that_reached_one_alone,
+    a_wall_clock_that_is_set,
+    a_clock_that_begins_anew,
     noise,
     links_that_are_never_done,
 )
 
 
 def tried(test, program, is_long):
-    """Runs a test in a folder of its own, and returns whether it passed."""
+    """Runs a test in a folder of its own, and returns whether it passed, or None where it was left out."""
     folder, began = tempfile.mkdtemp(prefix=f"{test.__name__}."), time.monotonic()
     cluster = Cluster(program, folder)
     try:
         cluster.begin()
         test(cluster, is_long)
+    except LeftOut as lack:
+        print(f"{test.__name__}: left out: {lack}", flush=True)
+        shutil.rmtree(folder)
+        return None
     except (Failed, OSError, subprocess.SubprocessError) as fault:
         print(f"{test.__name__}: FAILED: {fault}; see {folder}", flush=True)
         return False
@@ -591,14 +555,15 @@ def main():
     words = argparse.ArgumentParser(description=__doc__.splitlines()[0])
     words.add_argument("--long", action="store_true")
     words.add_argument("--with", dest="program", default=f"{TOP}/bin/tmnode")
+    words.add_argument("names", nargs="*", metavar="TEST", help="these tests alone")
     given = words.parse_args()
     program = os.path.realpath(given.program)
     if not os.access(program, os.X_OK):
         print(f"processes.py: {program} is no program; ./build.sh makes it", file=sys.stderr)
         return 2
-    wells = [tried(test, program, given.long) for test in TESTS]
+    wells = [tried(test, program, given.long) for test in TESTS if not given.names or test.__name__ in given.names]
     print(f"{wells.count(True)} passed, {wells.count(False)} failed")
-    return 0 if all(wells) else 1
+    return 1 if False in wells else 0
 
 
 if __name__ == "__main__":
