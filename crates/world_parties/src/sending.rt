@@ -1,6 +1,6 @@
 //! The frames of what liars and clients send.
 
-ghost use Rattle.std.specs.Prelude.{◌≡◌, ◌≢◌, [], ◌∷◌, ℕ, List, true, false, None, map, length, IfOk, OnOk, IfErr, IsErrOf, option_map};
+ghost use Rattle.std.specs.Prelude.{◌≡◌, ◌⊎◌, [], ◌∷◌, ℕ, List, true, false, None, map, length, IfOk, OnOk, IfErr, IsErrOf, option_map};
 ghost use Rattle.std.specs.List.{list_all};
 ghost use Rattle.messages.specs.Grammar.{body_spelling};
 ghost use Rattle.messages.specs.Framing.{SpellsFrame};
@@ -8,6 +8,7 @@ ghost use Rattle.protocol.specs.Values.{id};
 ghost use Rattle.protocol.specs.Tags.{Validator, Client};
 ghost use Rattle.protocol.specs.Messages.{OfTx, OfProposal, OfVote, OfBundle, sender_of, tagged};
 ghost use Rattle.transactions.specs.Grammar.{tx_body_spelling};
+ghost use Rattle.world_parties.specs.Faults.{IsUnspelled};
 ghost use Rattle.world_parties.specs.Keys.{tags_for};
 ghost use Rattle.world_parties.specs.Cast.{setting_of, is_liar};
 ghost use Rattle.world_parties.specs.Sending.{proposed, voted, bundled, submitted, bare_tx, precommit_by};
@@ -31,6 +32,7 @@ impl Parties {
         ensures known { OnOk result (is_liar self.now line.now.sender ≡ true) }
         ensures unknown { IsErrOf result FaultNumber.NoSuchParty → is_liar self.now line.now.sender ≡ false }
         ensures order { IsErrOf result FaultNumber.TooLong → is_liar self.now line.now.sender ≡ true }
+        ensures err { IfErr result (λ fault. (fault ≡ FaultNumber.NoSuchParty) ⊎ IsUnspelled fault) }
     {
         let sender = self.liar_at(line.sender)?;
         let body = Body::Proposal(Proposal {
@@ -49,6 +51,7 @@ impl Parties {
         ensures known { OnOk result (is_liar self.now line.now.sender ≡ true) }
         ensures unknown { IsErrOf result FaultNumber.NoSuchParty → is_liar self.now line.now.sender ≡ false }
         ensures order { IsErrOf result FaultNumber.TooLong → is_liar self.now line.now.sender ≡ true }
+        ensures err { IfErr result (λ fault. (fault ≡ FaultNumber.NoSuchParty) ⊎ IsUnspelled fault) }
     {
         let sender = self.liar_at(line.sender)?;
         let body = Body::Vote(Vote {
@@ -67,6 +70,7 @@ impl Parties {
         ensures known { OnOk result (list_all (is_liar self.now) (line.now.sender ∷ line.now.signers) ≡ true) }
         ensures unknown { IsErrOf result FaultNumber.NoSuchParty → list_all (is_liar self.now) (line.now.sender ∷ line.now.signers) ≡ false }
         ensures order { IsErrOf result FaultNumber.TooLong → list_all (is_liar self.now) (line.now.sender ∷ line.now.signers) ≡ true }
+        ensures err { IfErr result (λ fault. (fault ≡ FaultNumber.NoSuchParty) ⊎ IsUnspelled fault) }
     {
         let sender = self.liar_at(line.sender)?;
         let signers = self.liars_at(alloc, line.signers.as_slice())?;
@@ -77,7 +81,7 @@ impl Parties {
     /// The frame of a client's transaction, with the tags that are to be right.
     pub fn frame_of_tx(&self, alloc: Global, line: &Tagged) -> Result<Vec<u8>, FaultNumber>
         ensures frame { IfOk result (λ frame. SpellsFrame frame.items (submitted (length self.now.powers) line.now)) }
-        ensures err { IfErr result (λ fault. fault ≢ FaultNumber.NoSuchParty) }
+        ensures err { IfErr result (λ fault. IsUnspelled fault) }
     {
         let body = Body::Tx(bare_tx(alloc, line)?);
         let spelled = spelled(alloc, &body)?;
@@ -91,7 +95,7 @@ impl Parties {
     pub fn frame_from(&self, alloc: Global, from: Party, body: Body) -> Result<Vec<u8>, FaultNumber>
         requires { sender_of body ≡ from }
         ensures frame { IfOk result (λ frame. SpellsFrame frame.items (tagged (setting_of self.now) body)) }
-        ensures err { IfErr result (λ fault. fault ≢ FaultNumber.NoSuchParty) }
+        ensures err { IfErr result (λ fault. IsUnspelled fault) }
     {
         let message = self.signed(alloc, from, body)?;
         framed(alloc, &message)
@@ -102,7 +106,7 @@ impl Parties {
     fn signed(&self, alloc: Global, from: Party, body: Body) -> Result<Message, FaultNumber>
         requires { sender_of body ≡ from }
         ensures tagged { IfOk result (λ message. message ≡ tagged (setting_of self.now) body) }
-        ensures err { IfErr result (λ fault. fault ≢ FaultNumber.NoSuchParty) }
+        ensures err { IfErr result (λ fault. IsUnspelled fault) }
     {
         match self.tags_by(alloc, from, &body) {
             Ok(tags) => Ok(Message { body, tags }),
@@ -113,7 +117,7 @@ impl Parties {
     /// A party's tags of a body, all of them right.
     fn tags_by(&self, alloc: Global, from: Party, body: &Body) -> Result<Seq<[u8; 32]>, FaultNumber>
         ensures tags { IfOk result (λ tags. tags ≡ tags_for None from (length self.now.powers) (body_spelling body.now)) }
-        ensures err { IfErr result (λ fault. fault ≢ FaultNumber.NoSuchParty) }
+        ensures err { IfErr result (λ fault. IsUnspelled fault) }
     {
         let spelled = spelled(alloc, body)?;
         let tags = tags_of(alloc, from, self.count(), &None, &spelled)?;
@@ -131,7 +135,7 @@ impl Parties {
         requires sender { sender ≡ line.now.sender }
         requires signers { signers.now ≡ line.now.signers }
         ensures bundle { IfOk result (λ bundle. bundle ≡ bundled (setting_of self.now) line.now) }
-        ensures err { IfErr result (λ fault. fault ≢ FaultNumber.NoSuchParty) }
+        ensures err { IfErr result (λ fault. IsUnspelled fault) }
     {
         let id = id_of(alloc, &line.named)?;
         let precommits = self.precommits(alloc, signers, line.height, line.round, id)?;
@@ -150,7 +154,7 @@ impl Parties {
         ensures same { IfOk result (λ liars. liars.items ≡ numbers.now) }
         ensures known { OnOk result (list_all (is_liar self.now) numbers.now ≡ true) }
         ensures unknown { IsErrOf result FaultNumber.NoSuchParty → list_all (is_liar self.now) numbers.now ≡ false }
-        ensures err { IfErr result (λ fault. fault ≢ FaultNumber.TooLong) }
+        ensures err { IfErr result (λ fault. (fault ≡ FaultNumber.NoSuchParty) ⊎ (fault ≡ FaultNumber.OutOfMemory)) }
     {
         let mut liars = Vec::with_capacity(alloc, numbers.len())?;
         for number in numbers {
@@ -169,7 +173,7 @@ impl Parties {
         id: Id,
     ) -> Result<Seq<Precommit>, FaultNumber>
         ensures each { IfOk result (λ precommits. precommits ≡ map (precommit_by (setting_of self.now) height round id) signers.now) }
-        ensures err { IfErr result (λ fault. fault ≢ FaultNumber.NoSuchParty) }
+        ensures err { IfErr result (λ fault. IsUnspelled fault) }
     {
         if signers.len() > MOST_PRECOMMITS {
             return Err(FaultNumber::TooLong);
@@ -191,7 +195,7 @@ impl Parties {
         id: Id,
     ) -> Result<Precommit, FaultNumber>
         ensures same { IfOk result (λ precommit. precommit ≡ precommit_by (setting_of self.now) height round id sender) }
-        ensures err { IfErr result (λ fault. fault ≢ FaultNumber.NoSuchParty) }
+        ensures err { IfErr result (λ fault. IsUnspelled fault) }
     {
         let body = Body::Vote(Vote {
             step: Step::Precommit,
@@ -208,7 +212,7 @@ impl Parties {
 /// Nil, or the id of a value.
 fn content_of(alloc: Global, value: &Option<Value>) -> Result<Option<Id>, FaultNumber>
     ensures content { IfOk result (λ content. content ≡ option_map id value.now) }
-    ensures err { IfErr result (λ fault. fault ≢ FaultNumber.NoSuchParty) }
+    ensures err { IfErr result (λ fault. IsUnspelled fault) }
 {
     match value {
         None => Ok(None),
@@ -219,7 +223,7 @@ fn content_of(alloc: Global, value: &Option<Value>) -> Result<Option<Id>, FaultN
 #[tactic(auto, unfolding(protocol::specs::Values::id))]
 fn id_of(alloc: Global, value: &Value) -> Result<Id, FaultNumber>
     ensures id { IfOk result (λ x. x ≡ id value.now) }
-    ensures err { IfErr result (λ fault. fault ≢ FaultNumber.NoSuchParty) }
+    ensures err { IfErr result (λ fault. IsUnspelled fault) }
 {
     Ok(value_id(alloc, value)?)
 }
@@ -238,14 +242,14 @@ fn bare_tx(alloc: Global, line: &Tagged) -> Result<Tx, AllocError>
 
 fn spelled(alloc: Global, body: &Body) -> Result<Vec<u8>, FaultNumber>
     ensures spelling { IfOk result (λ bytes. bytes.items ≡ body_spelling body.now) }
-    ensures err { IfErr result (λ fault. fault ≢ FaultNumber.NoSuchParty) }
+    ensures err { IfErr result (λ fault. IsUnspelled fault) }
 {
     Ok(spell_body(alloc, body)?)
 }
 
 fn framed(alloc: Global, message: &Message) -> Result<Vec<u8>, FaultNumber>
     ensures frame { IfOk result (λ frame. SpellsFrame frame.items message.now) }
-    ensures err { IfErr result (λ fault. fault ≢ FaultNumber.NoSuchParty) }
+    ensures err { IfErr result (λ fault. IsUnspelled fault) }
 {
     Ok(spell(alloc, message)?)
 }

@@ -1,11 +1,11 @@
 -- Events, one after the other.
-use Rattle.std.proofs.Common.{◌≡◌, ℕ, zero, suc, ◌+◌, ◌<◌, Option, None, List, [], ◌∷◌, ◌++◌, length, take, get_or, refl, sym, ap, ap₂, ◌∙◌, subst, append_assoc, append-nil, arith}
-use Rattle.std.proofs.lemmas.List.{take_more, take_all}
+use Rattle.std.proofs.Common.{◌≡◌, ℕ, suc, ◌+◌, ◌<◌, None, List, [], ◌∷◌, ◌++◌, length, take, get_or, refl, sym, ap, ap₂, ◌∙◌, subst, append_assoc, append-nil, arith}
+use Rattle.std.proofs.lemmas.List.{take_more}
 use Rattle.world_parties.specs.Cast.{Cast, setting_of}
 use Rattle.world_schedule.specs.Reports.{Made, told}
 use Rattle.world_schedule.specs.Making.{Scene, scene_after}
 use Rattle.world_schedule.specs.Events.{Course, Happens, HaveHappened, course_after, cause_of}
-use Rattle.world_schedule.specs.Worlds.{IsAt, Rests, HasHappened, HaveAll}
+use Rattle.world_schedule.specs.Worlds.{Rests, HasHappened, HaveAll}
 use Rattle.world_schedule.specs.declared.event.Event.{Event}
 use Rattle.world_schedule.specs.declared.stage.Stage.{Stage}
 use Rattle.world_schedule.specs.declared.world.World.{World}

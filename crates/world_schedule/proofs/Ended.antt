@@ -1,5 +1,5 @@
 -- How a run ends.
-use Rattle.std.proofs.Common.{◌≡◌, ◌≢◌, ℕ, suc, ◌+◌, ◌≤◌, Bool, false, Result, Ok, Err, List, [], ◌++◌, map, flat_map, take, length, sym, ap, subst, ◌∙◌, arith}
+use Rattle.std.proofs.Common.{◌≡◌, ℕ, suc, ◌+◌, ◌≤◌, Bool, false, Result, Ok, Err, List, [], ◌++◌, flat_map, take, length, sym, ap, subst, ◌∙◌, arith}
 use Rattle.std.specs.Prelude.{IfOk, IfErr}
 use Rattle.std.proofs.lemmas.List.{take_all}
 use Rattle.world_parties.specs.Cast.{Cast, setting_of}
@@ -7,12 +7,11 @@ use Rattle.world_parties.specs.declared.fault.FaultNumber.{FaultNumber}
 use Rattle.world_parties.specs.declared.fault.FaultNumber.TheVariants.{OutOfMemory}
 use Rattle.world_schedule.specs.Reports.{Made, told}
 use Rattle.world_schedule.specs.Making.{Scene, beginning}
-use Rattle.world_schedule.specs.Events.{Course, HaveHappened}
-use Rattle.world_schedule.specs.Worlds.{Rests, IsWorld, scene_of, ends_in, HaveAll, HaveSome, IsReport, IsStop}
+use Rattle.world_schedule.specs.Events.{Course, HaveHappened, CannotHappen}
+use Rattle.world_schedule.specs.Worlds.{Rests, scene_of, ends_in, HaveAll, HaveSome, IsReport, IsStop}
 use Rattle.world_schedule.specs.declared.event.Event.{Event}
 use Rattle.world_schedule.specs.declared.fault.RunFault.{RunFault}
 use Rattle.world_schedule.specs.declared.report.Report.{Report}
-use Rattle.world_schedule.specs.declared.stage.Stage.{Stage}
 use Rattle.world_schedule.specs.declared.world.World.{World}
 use Rattle.world_schedule.proofs.Turning.{scene_append}
 use Rattle.world_schedule.proofs.Places.{ends_are}
@@ -67,6 +66,7 @@ unreported cast ms brought events old begun mid new fault k same count is =
           (subst (λ x. HaveHappened cast (course_of cast ms brought) 0 events k.made x) last_is k.happened);
       told_is = ap (λ (x : RunFault). x.told) is ∙ k.told_is ∙ ap (λ v. v.items ++ told c (scene_of cast ms).standing k.made) same;
       is_world = λ other. absurd (other (ap (λ (x : RunFault). x.number) is));
+      cause = λ other. absurd (other (ap (λ (x : RunFault). x.number) is));
     }
 
 -- an event couldn't happen
@@ -87,4 +87,9 @@ halted cast ms brought events number old begun mid new fault k same is rest =
       is_world = λ other.
           let r = k.rests (λ e. other (ap (λ (x : RunFault). x.number) is ∙ e)) in
           (subst (Rests cast (course_of cast all k.last.brought)) (sym (ap (λ (x : World). x.stage) rest)) (subst (λ x. Rests cast x mid.stage) last_is r.0), ap (λ (x : World). x.spent) rest ∙ r.1);
+      cause = λ other. (
+        k.event,
+        k.event_at,
+        subst (λ f. CannotHappen f cast (scene_of cast all).standing k.event) (sym (ap (λ (x : RunFault). x.number) is)) (subst (λ (x : Course). CannotHappen number cast x.scene.standing k.event) last_is k.cause),
+      );
     }

@@ -1,5 +1,5 @@
 -- What an event leaves of a world.
-use Rattle.std.proofs.Common.{◌≡◌, ℕ, zero, suc, ◌+◌, ◌<◌, ◌⊎◌, inl, inr, Bool, true, false, Option, Some, None, Result, Ok, Err, OnOk, List, [], ◌∷◌, ◌++◌, map, set, length, length-append, eq-eqb, ne_eqb, refl, sym, ap, ap₂, ◌∙◌, subst, append_assoc, append-nil, arith}
+use Rattle.std.proofs.Common.{◌≡◌, ℕ, suc, ◌<◌, inl, inr, Bool, true, false, Option, Some, None, Result, Ok, Err, OnOk, List, [], ◌∷◌, ◌++◌, map, set, length, length-append, eq-eqb, ne_eqb, refl, sym, ap, ap₂, ◌∙◌, subst, append-nil, arith}
 use Rattle.std.specs.Prelude.{slice_get, nat_lt, option_to_list, ◌==◌, ◌&&◌, ◌||◌, not}
 use Rattle.std.specs.List.{list_any}
 use Rattle.std.proofs.Math.ListN.{length-set}
@@ -17,18 +17,19 @@ use Rattle.world_parties.specs.declared.fault.FaultNumber.{FaultNumber}
 use Rattle.world_parties.specs.declared.fault.FaultNumber.TheVariants.{NoSuchMessage, NoSuchParty, ClientClosed}
 use Rattle.world_schedule.specs.Cores.{frame_in}
 use Rattle.world_schedule.specs.Calls.{Call, Sent, Handed, Asked, Resent, Reopened, adding}
-use Rattle.world_schedule.specs.Reports.{Made, validator_of, told, said, said_as, newly, released_from, noted, told_of_call}
-use Rattle.world_schedule.specs.Making.{Request, Hands, Asks, Scene, IsOne, IsInsisted, IsTurn, AreTurns, IsReopened, IsRestart, scene_next, scene_after}
+use Rattle.world_schedule.specs.Reports.{Made, validator_of, said, said_as, newly, released_from, noted, told_of_call}
+use Rattle.world_schedule.specs.Making.{Request, Hands, Scene, IsInsisted, IsTurn, AreTurns, IsReopened, IsRestart, scene_next, scene_after}
 use Rattle.world_schedule.specs.Standings.{Holds, Says}
-use Rattle.world_schedule.specs.Validators.{AreUp, HaveTurned, places}
+use Rattle.world_schedule.specs.Validators.{HaveTurned}
 use Rattle.world_schedule.specs.Restarting.{HaveRestarted}
-use Rattle.world_schedule.specs.Events.{Course, Happens, turns, asked_of, comes, passes, unless, brought_by, course_after, cause_of}
+use Rattle.world_schedule.specs.Events.{Course, Happens, asked_of, comes, passes, unless, brought_by, cause_of}
 use Rattle.world_schedule.specs.Worlds.{LeadOn, HaveMet, HaveSent, sending_of, has_come, IsAt, IsMet, HasActed}
 use Rattle.world_schedule.specs.declared.event.Event.{Event}
 use Rattle.world_schedule.specs.declared.event.Event.TheVariants as events
+use Rattle.world_schedule.specs.declared.event.Failing.{Failing}
 use Rattle.world_schedule.specs.declared.report.Told.{Told}
 use Rattle.world_schedule.specs.declared.clients.Clients.{Clients}
-use Rattle.world_schedule.specs.declared.validator.Validator.{Validator}
+use Rattle.world_schedule.specs.declared.seat.Seat.{Seat}
 use Rattle.world_schedule.specs.declared.validators.Validators.{Validators}
 use Rattle.world_schedule.specs.declared.chronicle.Chronicle.{Chronicle}
 use Rattle.world_schedule.specs.declared.clients.Sending.{Sending}
@@ -36,7 +37,7 @@ use Rattle.world_schedule.specs.declared.brought.Brought.{Brought}
 use Rattle.world_schedule.specs.declared.stage.Stage.{Stage}
 use Rattle.world_schedule.proofs.Turning.{scene_append}
 use Rattle.world_schedule.proofs.InTurn.{turned_leads, passes_same}
-use Rattle.world_schedule.proofs.Others.{up_later, get_set_same, get_set_other}
+use Rattle.world_schedule.proofs.Others.{seat_later, get_set_same, get_set_other}
 
 -- ---- validators' calls send nothing
 
@@ -109,7 +110,7 @@ unsent_restart c s k p ms client t =
     subst (λ l. (scene_after c s l).standing.sent client ≡ s.standing.sent client) (sym t.2)
     (ap (λ (x : Scene). x.standing.sent client) (scene_append c s t.0 t.1) ∙ unsent_turn c (scene_after c s t.0) k p (Hands Settle) t.1 client t.4 ∙ unsent_reopened c s k p t.0 client t.3)
 
-restarted_leads : (c : Setting) (s : Scene) (p : ℕ) (old new : List (Option Validator)) (before after : Chronicle) → (k : HaveRestarted c s p old new before after) → LeadOn c s k.made old new before after
+restarted_leads : (c : Setting) (s : Scene) (p : ℕ) (old new : List Seat) (before after : Chronicle) → (k : HaveRestarted c s p old new before after) → LeadOn c s k.made old new before after
 restarted_leads c s p old new before after k = record { up = k.up; places_are = k.places_are; holds = k.holds; told = k.told; event = k.event }
 
 -- a cause that isn't
@@ -160,6 +161,16 @@ restarts cast w p q old vs chronicle e known at k =
       };
       told_is = k.told;
     }
+
+-- a store is to fail: nothing is told
+pub struck : (cast : Cast) (w : Course) (p : ℕ) (failing : Failing) (old : Stage) → is_correct cast p ≡ true → IsAt cast w old → HasActed cast w (events.Fail p failing) old old
+struck cast w p failing old known at = record {
+  made = [];
+  happens = refl;
+  possible = passed_by (is_correct cast p) NoSuchParty None known;
+  at = record { parties = at.parties; correct_are = at.correct_are; up = at.up; places_are = at.places_are; holds = at.holds; sent = at.sent; brought = at.brought };
+  told_is = sym (append-nil old.chronicle.told.items);
+}
 
 pub on_ok_two : {T E : Type 0} {P Q R : Type 0} (result : Result T E) → OnOk result P → OnOk result Q → (P → Q → R) → OnOk result R
 on_ok_two (Ok x) p q f = f p q
@@ -259,7 +270,7 @@ sends cast w client op old chronicle clients last at known within unclosed says 
       at = record {
         parties = at.parties;
         correct_are = at.correct_are;
-        up = λ i v here. let u = at.up i v here in (u.0, up_later (setting_of cast) s m v refl u.1);
+        up = λ i seat here. seat_later (setting_of cast) s m i seat refl (at.up i seat here);
         places_are = at.places_are;
         holds = subst (λ l. Holds (setting_of cast) (s.standing.numbered ++ newly s.standing.numbered l) chronicle.messages) (sym said_here) says.holds;
         sent = subst (HaveSent cast.clients (λ i. adding i (s.standing.sent i) (Sent client op))) (sym counted) (sent_more cast.clients client op s.standing.sent old.clients.each.items last at.sent within unclosed is);

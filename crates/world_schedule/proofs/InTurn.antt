@@ -2,20 +2,19 @@
 use Rattle.std.proofs.Common.{◌≡◌, ℕ, zero, suc, ◌+◌, ◌<◌, ◌≤◌, Bool, true, false, Option, Some, None, List, [], ◌∷◌, ◌++◌, map, filter, length, take, get_or, cond, refl, sym, ap, ap₂, ◌∙◌, subst, append_assoc, append-nil, arith, lt-ltb}
 use Rattle.std.specs.Prelude.{◌&&◌, not, slice_get, nat_lt, IfSome}
 use Rattle.std.proofs.lemmas.List.{map-append, take_more, take_all}
-use Rattle.std.proofs.lemmas.Bool.{cases_Bool}
 use Rattle.std.proofs.lemmas.Bool.Decides.{nat_tests}
 use Rattle.protocol.specs.Tags.{Setting}
 use Rattle.protocol.specs.Messages.{Body}
 use Rattle.protocol.specs.History.{Given}
 use Rattle.world_schedule.specs.Cores.{frame_in}
 use Rattle.world_schedule.specs.Reports.{Made, is_by, told, newly, said}
-use Rattle.world_schedule.specs.Making.{Request, Hands, Scene, IsTurn, AreTurns, scene_next, scene_after}
+use Rattle.world_schedule.specs.Making.{Request, Hands, Scene, AreTurns, scene_next, scene_after}
 use Rattle.world_schedule.specs.Standings.{Holds, sayer}
-use Rattle.world_schedule.specs.Validators.{AreUp, HaveTurned, places}
+use Rattle.world_schedule.specs.Validators.{AreUp, HaveTurned}
 use Rattle.world_schedule.specs.Events.{asked_of, is_wanting, passes}
 use Rattle.world_schedule.specs.Worlds.{LeadOn, HaveMet, has_come}
 use Rattle.world_schedule.specs.declared.brought.Brought.{Brought}
-use Rattle.world_schedule.specs.declared.validator.Validator.{Validator}
+use Rattle.world_schedule.specs.declared.seat.Seat.{Seat}
 use Rattle.world_schedule.specs.declared.chronicle.Chronicle.{Chronicle}
 use Rattle.world_schedule.proofs.Saying.{no_body}
 use Rattle.world_schedule.proofs.Turning.{scene_append, told_append}
@@ -32,10 +31,10 @@ turns_append c s k (r ∷ rs) qs ms ns a b = (
   turns_append c (scene_after c s a.0) k rs qs a.1 ns a.4 (subst (λ t. AreTurns c t k qs ns) (ap (scene_after c s) a.2 ∙ scene_append c s a.0 a.1) b),
 )
 
-pub leads_none : (c : Setting) (s : Scene) (validators : List (Option Validator)) (chronicle : Chronicle) → AreUp c s validators → Holds c s.standing.numbered chronicle.messages → LeadOn c s [] validators validators chronicle chronicle
+pub leads_none : (c : Setting) (s : Scene) (validators : List Seat) (chronicle : Chronicle) → AreUp c s validators → Holds c s.standing.numbered chronicle.messages → LeadOn c s [] validators validators chronicle chronicle
 leads_none c s validators chronicle up holds = record { up = up; places_are = refl; holds = holds; told = sym (append-nil chronicle.told.items); event = refl }
 
-pub leads_both : (c : Setting) (s : Scene) (xs ys : List Made) (old mid new : List (Option Validator)) (before between after : Chronicle) → LeadOn c s xs old mid before between → LeadOn c (scene_after c s xs) ys mid new between after → LeadOn c s (xs ++ ys) old new before after
+pub leads_both : (c : Setting) (s : Scene) (xs ys : List Made) (old mid new : List Seat) (before between after : Chronicle) → LeadOn c s xs old mid before between → LeadOn c (scene_after c s xs) ys mid new between after → LeadOn c s (xs ++ ys) old new before after
 leads_both c s xs ys old mid new before between after a b = record {
   up = subst (λ t. AreUp c t new) (sym (scene_append c s xs ys)) b.up;
   places_are = b.places_are ∙ a.places_are;
@@ -44,16 +43,16 @@ leads_both c s xs ys old mid new before between after a b = record {
   event = b.event ∙ a.event;
 }
 
-pub met_none : (c : Setting) (s : Scene) (validators : List (Option Validator)) (chronicle : Chronicle) → AreUp c s validators → Holds c s.standing.numbered chronicle.messages → HaveMet c s [] validators validators chronicle chronicle
+pub met_none : (c : Setting) (s : Scene) (validators : List Seat) (chronicle : Chronicle) → AreUp c s validators → Holds c s.standing.numbered chronicle.messages → HaveMet c s [] validators validators chronicle chronicle
 met_none c s validators chronicle up holds = record { made = []; turn = refl; leads = leads_none c s validators chronicle up holds }
 
-pub turned_leads : (c : Setting) (s : Scene) (p : ℕ) (request : Request) (old new : List (Option Validator)) (before after : Chronicle) → (k : HaveTurned c s p request old new before after) → LeadOn c s k.made old new before after
+pub turned_leads : (c : Setting) (s : Scene) (p : ℕ) (request : Request) (old new : List Seat) (before after : Chronicle) → (k : HaveTurned c s p request old new before after) → LeadOn c s k.made old new before after
 turned_leads c s p request old new before after k = record { up = k.up; places_are = k.places_are; holds = k.holds; told = k.told; event = k.event }
 
-pub met_one : (c : Setting) (s : Scene) (p : ℕ) (request : Request) (old new : List (Option Validator)) (before after : Chronicle) → HaveTurned c s p request old new before after → HaveMet c s (asked_of request p ∷ []) old new before after
+pub met_one : (c : Setting) (s : Scene) (p : ℕ) (request : Request) (old new : List Seat) (before after : Chronicle) → HaveTurned c s p request old new before after → HaveMet c s (asked_of request p ∷ []) old new before after
 met_one c s p request old new before after k = record { made = k.made; turn = (k.made, [], sym (append-nil k.made), k.turn, refl); leads = turned_leads c s p request old new before after k }
 
-pub met_both : (c : Setting) (s : Scene) (rs qs : List (ℕ × Request)) (old mid new : List (Option Validator)) (before between after : Chronicle) → (a : HaveMet c s rs old mid before between) → HaveMet c (scene_after c s a.made) qs mid new between after → HaveMet c s (rs ++ qs) old new before after
+pub met_both : (c : Setting) (s : Scene) (rs qs : List (ℕ × Request)) (old mid new : List Seat) (before between after : Chronicle) → (a : HaveMet c s rs old mid before between) → HaveMet c (scene_after c s a.made) qs mid new between after → HaveMet c s (rs ++ qs) old new before after
 met_both c s rs qs old mid new before between after a b = record {
   made = a.made ++ b.made;
   turn = turns_append c s before.event rs qs a.made b.made a.turn (subst (λ k. AreTurns c (scene_after c s a.made) k qs b.made) a.leads.event b.turn);
@@ -61,13 +60,13 @@ met_both c s rs qs old mid new before between after a b = record {
 }
 
 -- one of a list more
-pub met_more : (c : Setting) (s : Scene) (request : Request) (ps : List ℕ) (i : ℕ) (old mid new : List (Option Validator)) (before between after : Chronicle) → i < length ps
+pub met_more : (c : Setting) (s : Scene) (request : Request) (ps : List ℕ) (i : ℕ) (old mid new : List Seat) (before between after : Chronicle) → i < length ps
     → (a : HaveMet c s (map (asked_of request) (take i ps)) old mid before between) → HaveTurned c (scene_after c s a.made) (get_or ps i 0) request mid new between after → HaveMet c s (map (asked_of request) (take (i + 1) ps)) old new before after
 met_more c s request ps i old mid new before between after l a b =
     subst (λ t. HaveMet c s t old new before after) (sym (ap (map (asked_of request)) (take_more ps i 0 l) ∙ map-append (asked_of request) (take i ps) (get_or ps i 0 ∷ [])))
     (met_both c s _ _ old mid new before between after a (met_one c (scene_after c s a.made) (get_or ps i 0) request mid new between after b))
 
-pub met_all : (c : Setting) (s : Scene) (request : Request) (ps : List ℕ) (i : ℕ) (old new : List (Option Validator)) (before after : Chronicle) → length ps ≤ i → HaveMet c s (map (asked_of request) (take i ps)) old new before after → HaveMet c s (map (asked_of request) ps) old new before after
+pub met_all : (c : Setting) (s : Scene) (request : Request) (ps : List ℕ) (i : ℕ) (old new : List Seat) (before after : Chronicle) → length ps ≤ i → HaveMet c s (map (asked_of request) (take i ps)) old new before after → HaveMet c s (map (asked_of request) ps) old new before after
 met_all c s request ps i old new before after l a = subst (λ t. HaveMet c s (map (asked_of request) t) old new before after) (take_all i ps l) a
 
 -- ---- messages stay

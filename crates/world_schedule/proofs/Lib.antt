@@ -10,6 +10,8 @@ pub mod Clauses
 pub mod Spelled
 pub mod Numbered
 pub mod Saying
+pub mod Serving
+pub mod Causes
 pub mod Meeting
 pub mod Called
 pub mod Turning

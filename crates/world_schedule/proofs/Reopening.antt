@@ -21,9 +21,11 @@ use Rattle.world_schedule.specs.Reports.{decision_of}
 use Rattle.world_schedule.specs.Making.{Hands, Reopens, Scene, IsMetBy, scene_next, scene_after}
 use Rattle.world_schedule.specs.Standings.{Holds, Tells, Says}
 use Rattle.world_schedule.specs.Validators.{IsUp, HasMet, HasTurned}
-use Rattle.world_schedule.specs.Restarting.{HasStopped, IsBack, HasReopened, HasRestarted}
+use Rattle.world_schedule.specs.Restarting.{HasStopped, IsBack, HasSat, HasReturned, HasReopened, HasRestarted}
 use Rattle.world_schedule.specs.declared.validator.Validator.{Validator}
 use Rattle.world_schedule.specs.declared.restarting.Stopped.{Stopped}
+use Rattle.world_schedule.specs.declared.seat.Seat.{Seat}
+use Rattle.world_schedule.specs.declared.seat.Seat.TheVariants as seats
 use Rattle.world_schedule.specs.declared.chronicle.Chronicle.{Chronicle}
 use Rattle.world_schedule.specs.declared.report.What.TheVariants.{Answered, Decided}
 use Rattle.world_schedule.proofs.Called.{has_met}
@@ -129,7 +131,7 @@ reopened_again c s old new before between after k j = (
 )
 
 pub stopped_owing : (powers : List ℕ) (old : Validator) (stopped : Stopped) → HasStopped powers old stopped → HasStopped powers (owing old) stopped
-stopped_owing powers old stopped h = record { number = h.number; told = h.told; kept = h.kept }
+stopped_owing powers old stopped h = record { number = h.number; told = h.told; height = h.height; round = h.round; delivered = h.delivered; kept = h.kept }
 
 pub has_restarted : (c : Setting) (s : Scene) (old mid new : Validator) (before between after : Chronicle) → (k : HasReopened c s old mid before between) → HasTurned c (scene_after c s k.0) (Hands Settle) mid new between after → HasRestarted c s old new before after
 has_restarted c s old mid new before between after k j = (
@@ -137,3 +139,15 @@ has_restarted c s old mid new before between after k j = (
   (k.0, j.0, refl, k.1, moved_turn c (scene_after c s k.0) (Hands Settle) j.0 _ _ _ _ k.2.event k.2.number j.1),
   leads_on c s k.0 j.0 old mid new before between after k.2 j.2,
 )
+
+-- ---- where it sits again
+
+pub returned : (c : Setting) (s : Scene) (old : Validator) (seat : Seat) (before after : Chronicle) → HasSat c s old seat before after → HasReturned c s old seat before after
+returned c s old (seats.Up new) before after k = reopened_once c s old new before after k
+returned c s old seats.Liar before after k = k
+returned c s old (seats.Closed stopped) before after k = k
+
+pub returned_again : (c : Setting) (s : Scene) (old : Validator) (seat : Seat) (before between after : Chronicle) → (k : HasMet c s Reopens true old (owing old) before between) → HasSat c (scene_next c s k.made) (owing old) seat between after → HasReturned c s old seat before after
+returned_again c s old (seats.Up new) before between after k j = reopened_again c s old new before between after k j
+returned_again c s old seats.Liar before between after k j = j
+returned_again c s old (seats.Closed stopped) before between after k j = j

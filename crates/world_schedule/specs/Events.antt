@@ -1,19 +1,19 @@
 -- What is done to a world, and which calls it comes to.
-use Rattle.std.specs.Prelude.{◌≡◌, ℕ, suc, Bool, true, false, cond, not, ◌&&◌, ◌||◌, Option, Some, None, List, [], ◌∷◌, ◌++◌, map, filter, length, nat_lt, option_to_list, ◌==◌}
+use Rattle.std.specs.Prelude.{◌≡◌, ◌⊎◌, ℕ, suc, Bool, true, false, cond, not, ◌&&◌, ◌||◌, Option, Some, None, List, [], ◌∷◌, ◌++◌, map, filter, length, nat_lt, option_to_list, ◌==◌}
 use Rattle.std.specs.List.{list_all, slice_get}
 use Rattle.messages.specs.Framing.{frame_spelling}
 use Rattle.protocol.specs.Tags.{Setting}
-use Rattle.protocol.specs.Messages.{Body, OfProposal, OfVote, OfBundle, Message, tagged}
+use Rattle.protocol.specs.Messages.{Body, OfProposal, OfVote, OfBundle}
 use Rattle.protocol.specs.Queues.{is_closed}
 use Rattle.protocol.specs.History.{Given, Due}
 use Rattle.world_parties.specs.Cast.{Cast, setting_of, is_correct, is_liar, is_client, correct}
 use Rattle.world_parties.specs.Sending.{proposed, voted, bundled, submitted}
 use Rattle.world_parties.specs.declared.fault.FaultNumber.{FaultNumber}
-use Rattle.world_parties.specs.declared.fault.FaultNumber.TheVariants.{NoSuchMessage, NoSuchParty, ClientClosed}
+use Rattle.world_parties.specs.declared.fault.FaultNumber.TheVariants.{NoSuchMessage, NoSuchParty, ClientClosed, TooLong, OutOfMemory}
 use Rattle.world_schedule.specs.Calls.{Sent}
 use Rattle.world_schedule.specs.Cores.{frame_in}
 use Rattle.world_schedule.specs.Reports.{Made, Standing, is_by}
-use Rattle.world_schedule.specs.Making.{Request, Hands, Asks, Resends, Scene, beginning, scene_after, AreTurns, IsRestart}
+use Rattle.world_schedule.specs.Making.{Request, Hands, Asks, Resends, Scene, scene_after, AreTurns, IsRestart}
 use Rattle.world_schedule.specs.Standings.{sayer}
 use Rattle.world_schedule.specs.declared.event.Event.{Event}
 use Rattle.world_schedule.specs.declared.event.Event.TheVariants as events
@@ -49,6 +49,7 @@ turns cast w (events.Timeout p t) = (p, Hands (Due t)) ∷ []
 turns cast w (events.Ask p) = (p, Asks) ∷ []
 turns cast w (events.Resend p) = (p, Resends) ∷ []
 turns cast w (events.Restart p) = []
+turns cast w (events.Fail p failing) = []
 turns cast w (events.Submit p line) = comes p (frame_spelling (submitted (length cast.powers) line))
 turns cast w (events.Propose p line) = comes p (frame_in (setting_of cast) (OfProposal (proposed line)))
 turns cast w (events.Vote p line) = comes p (frame_in (setting_of cast) (OfVote (voted line)))
@@ -86,11 +87,33 @@ cause_of cast s (events.Timeout p t) = unless (is_correct cast p) NoSuchParty No
 cause_of cast s (events.Ask p) = unless (is_correct cast p) NoSuchParty None
 cause_of cast s (events.Resend p) = unless (is_correct cast p) NoSuchParty None
 cause_of cast s (events.Restart p) = unless (is_correct cast p) NoSuchParty None
+cause_of cast s (events.Fail p failing) = unless (is_correct cast p) NoSuchParty None
 cause_of cast s (events.Submit p line) = unless (is_correct cast p) NoSuchParty None
 cause_of cast s (events.Propose p line) = unless (is_correct cast p) NoSuchParty (unless (is_liar cast line.sender) NoSuchParty None)
 cause_of cast s (events.Vote p line) = unless (is_correct cast p) NoSuchParty (unless (is_liar cast line.sender) NoSuchParty None)
 cause_of cast s (events.Bundle p line) = unless (is_correct cast p) NoSuchParty (unless (list_all (is_liar cast) (line.sender ∷ line.signers)) NoSuchParty None)
 cause_of cast s (events.Frame p bytes) = unless (is_correct cast p) NoSuchParty None
+
+-- whether it is about something that has to be spelled
+abbrev pub is_spelled : Event → Bool
+is_spelled (events.Send client op) = true
+is_spelled (events.Submit p line) = true
+is_spelled (events.Propose p line) = true
+is_spelled (events.Vote p line) = true
+is_spelled (events.Bundle p line) = true
+is_spelled event = false
+
+-- The fault is the first cause, or that there is no spelling, where no other cause is. Memory can be wanting to any event.
+abbrev pub CannotHappen : FaultNumber → Cast → Standing → Event → Type 0
+CannotHappen OutOfMemory cast s event = Unit {0}
+CannotHappen TooLong cast s event = (cause_of cast s event ≡ None) × (is_spelled event ≡ true)
+CannotHappen NoSuchMessage cast s event = cause_of cast s event ≡ Some NoSuchMessage
+CannotHappen NoSuchParty cast s event = cause_of cast s event ≡ Some NoSuchParty
+CannotHappen ClientClosed cast s event = cause_of cast s event ≡ Some ClientClosed
+
+-- no correct validator has this number
+abbrev pub IsUnknown : Cast → ℕ → FaultNumber → Type 0
+IsUnknown cast p fault = (fault ≡ OutOfMemory) ⊎ ((fault ≡ NoSuchParty) × (is_correct cast p ≡ false))
 
 -- ---- events in turn
 

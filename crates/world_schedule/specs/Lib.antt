@@ -10,6 +10,7 @@ pub mod Answered
 pub mod Making
 pub mod Ends
 pub mod Standings
+pub mod Serving
 pub mod Validators
 pub mod Events
 pub mod Worlds

@@ -1,23 +1,35 @@
 -- A validator that is opened again over its journal.
-use Rattle.std.specs.Prelude.{◌≡◌, ℕ, false, Option, List, [], ◌++◌}
+use Rattle.std.specs.Prelude.{◌≡◌, ℕ, false, List, [], ◌++◌}
 use Rattle.vote_journal.specs.Saving.{KeepsRecords}
 use Rattle.protocol.specs.Tags.{Setting}
+use Rattle.round_states.specs.Seen.{delivered_by}
 use Rattle.protocol.specs.State.{Node}
 use Rattle.protocol.specs.Restart.{opened}
 use Rattle.world_schedule.specs.Cores.{StandsIn}
 use Rattle.world_schedule.specs.Reports.{Made, told}
-use Rattle.world_schedule.specs.Making.{Scene, IsReopened, IsRestart, scene_after}
+use Rattle.world_schedule.specs.Making.{Scene, Reopens, IsReopened, IsRestart, scene_after}
 use Rattle.world_schedule.specs.Standings.{Holds}
-use Rattle.world_schedule.specs.Validators.{LeadsTo, AreUp, places}
+use Rattle.world_schedule.specs.Validators.{HasMet, LeadsTo, AreUp, places}
 use Rattle.world_schedule.specs.declared.validator.Validator.{Validator}
+use Rattle.world_schedule.specs.declared.seat.Seat.{Seat}
+use Rattle.world_schedule.specs.declared.seat.Seat.TheVariants as seats
 use Rattle.world_schedule.specs.declared.restarting.Stopped.{Stopped}
 use Rattle.world_schedule.specs.declared.chronicle.Chronicle.{Chronicle}
 
--- The validator has ended: its store has the records that its journal had.
+-- The validator has ended: it is known where it stood, and its store has the records that its journal had.
 pub record HasStopped (powers : List ℕ) (old : Validator) (stopped : Stopped) : Type 0 where
   pub number : stopped.number ≡ old.number
   pub told : stopped.decisions_told ≡ old.decisions_told
-  pub kept : KeepsRecords powers old.number old.core.journal.bytes stopped.store.bytes.items
+  pub height : stopped.height ≡ old.core.machine.state.height
+  pub round : stopped.round ≡ old.core.machine.state.round
+  pub delivered : delivered_by stopped.delivered.items ≡ old.core.machine.state.delivered
+  pub kept : KeepsRecords powers old.number old.core.journal.bytes stopped.store.store.bytes.items
+
+-- What stood there has ended: a validator, or one that had ended before.
+abbrev pub HasLeft : List ℕ → Seat → Stopped → Type 0
+HasLeft powers seats.Liar stopped = ⊥
+HasLeft powers (seats.Up old) stopped = HasStopped powers old stopped
+HasLeft powers (seats.Closed old) stopped = stopped ≡ old
 
 -- It stands again where its journal tells, has released nothing since, and its journal serves.
 pub record IsBack (c : Setting) (n : Node) (old new : Validator) : Type 0 where
@@ -35,8 +47,24 @@ HasReopened c s old new before after = (made : List Made) × IsReopened c s befo
 abbrev pub HasRestarted : Setting → Scene → Validator → Validator → Chronicle → Chronicle → Type 0
 HasRestarted c s old new before after = (made : List Made) × IsRestart c s before.event old.number made × LeadsTo c s made old new before after
 
+-- and it stands there again
+abbrev pub HasSat : Setting → Scene → Validator → Seat → Chronicle → Chronicle → Type 0
+HasSat c s old (seats.Up new) before after = HasMet c s Reopens false old new before after
+HasSat c s old seats.Liar before after = ⊥
+HasSat c s old (seats.Closed stopped) before after = ⊥
+
+abbrev pub HasReturned : Setting → Scene → Validator → Seat → Chronicle → Chronicle → Type 0
+HasReturned c s old (seats.Up new) before after = HasReopened c s old new before after
+HasReturned c s old seats.Liar before after = ⊥
+HasReturned c s old (seats.Closed stopped) before after = ⊥
+
+abbrev pub HasComeBack : Setting → Scene → Validator → Seat → Chronicle → Chronicle → Type 0
+HasComeBack c s old (seats.Up new) before after = HasRestarted c s old new before after
+HasComeBack c s old seats.Liar before after = ⊥
+HasComeBack c s old (seats.Closed stopped) before after = ⊥
+
 -- A validator was restarted: all stand for their nodes after its calls, and these are told as the report has them.
-pub record HaveRestarted (c : Setting) (s : Scene) (p : ℕ) (old new : List (Option Validator)) (before after : Chronicle) : Type 0 where
+pub record HaveRestarted (c : Setting) (s : Scene) (p : ℕ) (old new : List Seat) (before after : Chronicle) : Type 0 where
   pub made : List Made
   pub restart : IsRestart c s before.event p made
   pub up : AreUp c (scene_after c s made) new

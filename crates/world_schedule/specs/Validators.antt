@@ -1,5 +1,5 @@
 -- One validator of a world, and the call that it meets.
-use Rattle.std.specs.Prelude.{◌≡◌, ℕ, ◌<◌, ◌≤◌, Bool, false, Option, List, [], ◌++◌, length, map, is_some, slice_get, Some}
+use Rattle.std.specs.Prelude.{◌≡◌, ℕ, ◌<◌, ◌≤◌, Bool, true, false, List, [], ◌++◌, length, map, slice_get, Some}
 use Rattle.protocol.specs.Tags.{Setting}
 use Rattle.protocol.specs.Messages.{◌∈◌}
 use Rattle.protocol.specs.History.{Settle, Given, Due}
@@ -8,6 +8,8 @@ use Rattle.world_schedule.specs.Reports.{Made, validator_of, noted, told_of_call
 use Rattle.world_schedule.specs.Making.{Request, Hands, Asks, Resends, Scene, IsOne, IsInsisted, IsTurn, is_refused_memory, scene_next, scene_after}
 use Rattle.world_schedule.specs.Standings.{Holds}
 use Rattle.world_schedule.specs.declared.validator.Validator.{Validator}
+use Rattle.world_schedule.specs.declared.seat.Seat.{Seat}
+use Rattle.world_schedule.specs.declared.seat.Seat.TheVariants as seats
 use Rattle.world_schedule.specs.declared.validator.Request.{Request as Asked}
 use Rattle.world_schedule.specs.declared.validator.Request.TheVariants as asked
 use Rattle.world_schedule.specs.declared.chronicle.Chronicle.{Chronicle}
@@ -61,16 +63,26 @@ HasTurned c s request old new before after = (made : List Made) × IsTurn c s be
 
 -- ---- all validators
 
--- Each stands at the place of its number.
-abbrev pub AreUp : Setting → Scene → List (Option Validator) → Type 0
-AreUp c s validators = (i : ℕ) (v : Validator) → slice_get validators i ≡ Some (Some v) → (v.number ≡ i) × IsUp c s v
+-- A validator that stands at the place of its number, or that of a liar.
+abbrev pub IsSeated : Setting → Scene → ℕ → Seat → Type 0
+IsSeated c s i seats.Liar = Unit {0}
+IsSeated c s i (seats.Up v) = (v.number ≡ i) × IsUp c s v
+IsSeated c s i (seats.Closed stopped) = ⊥
+
+abbrev pub AreUp : Setting → Scene → List Seat → Type 0
+AreUp c s validators = (i : ℕ) (seat : Seat) → slice_get validators i ≡ Some seat → IsSeated c s i seat
+
+abbrev pub is_up : Seat → Bool
+is_up (seats.Up v) = true
+is_up seats.Liar = false
+is_up (seats.Closed stopped) = false
 
 -- which places have a validator
-abbrev pub places : List (Option Validator) → List Bool
-places validators = map is_some validators
+abbrev pub places : List Seat → List Bool
+places validators = map is_up validators
 
 -- A validator had its turn: all stand for their nodes after its calls, and these are told as the report has them.
-pub record HaveTurned (c : Setting) (s : Scene) (p : ℕ) (request : Request) (old new : List (Option Validator)) (before after : Chronicle) : Type 0 where
+pub record HaveTurned (c : Setting) (s : Scene) (p : ℕ) (request : Request) (old new : List Seat) (before after : Chronicle) : Type 0 where
   pub made : List Made
   pub turn : IsTurn c s before.event p request made
   pub up : AreUp c (scene_after c s made) new

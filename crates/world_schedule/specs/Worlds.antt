@@ -1,11 +1,12 @@
 -- A world of code, and the run that its report tells of.
-use Rattle.std.specs.Prelude.{◌≡◌, ◌≢◌, ◌⊎◌, ℕ, suc, ◌<◌, ◌≤◌, Bool, true, false, ◌||◌, ◌&&◌, Option, Some, None, List, [], ◌∷◌, ◌++◌, map, take, length, nat_lt, option_to_list, ◌==◌}
+use Rattle.std.specs.Prelude.{◌≡◌, ◌≢◌, ℕ, suc, ◌<◌, ◌≤◌, Bool, false, ◌||◌, ◌&&◌, Option, Some, None, List, [], ◌∷◌, ◌++◌, map, flat_map, take, length, nat_lt, ◌==◌}
 use Rattle.std.specs.List.{list_any, slice_get}
-use Rattle.protocol.specs.Values.{Item}
+use Rattle.protocol.specs.Values.{Item, items}
 use Rattle.protocol.specs.Tags.{Setting}
 use Rattle.protocol.specs.Messages.{below}
 use Rattle.protocol.specs.Queues.{is_closed}
 use Rattle.protocol.specs.History.{Settle}
+use Rattle.round_states.specs.Machine.{Machine}
 use Rattle.world_parties.specs.Cast.{Cast, setting_of, is_correct, correct, LiesIn}
 use Rattle.world_parties.specs.declared.fault.FaultNumber.{FaultNumber}
 use Rattle.world_parties.specs.declared.fault.FaultNumber.TheVariants.{OutOfMemory}
@@ -13,8 +14,11 @@ use Rattle.world_schedule.specs.Reports.{Made, calls_of, told, end_of}
 use Rattle.world_schedule.specs.Making.{Request, Hands, Scene, beginning, scene_after, IsTurn, AreTurns}
 use Rattle.world_schedule.specs.Standings.{Holds}
 use Rattle.world_schedule.specs.Validators.{AreUp, places}
-use Rattle.world_schedule.specs.Events.{Course, asked_of, Happens, HaveHappened, course_after, cause_of}
+use Rattle.world_schedule.specs.Events.{Course, asked_of, Happens, HaveHappened, course_after, cause_of, CannotHappen}
 use Rattle.world_schedule.specs.declared.validator.Validator.{Validator}
+use Rattle.world_schedule.specs.declared.restarting.Stopped.{Stopped}
+use Rattle.world_schedule.specs.declared.seat.Seat.{Seat}
+use Rattle.world_schedule.specs.declared.seat.Seat.TheVariants as seats
 use Rattle.world_schedule.specs.declared.chronicle.Chronicle.{Chronicle}
 use Rattle.world_schedule.specs.declared.brought.Brought.{Brought}
 use Rattle.world_schedule.specs.declared.clients.Sending.{Sending}
@@ -28,7 +32,7 @@ use Rattle.world_schedule.specs.declared.world.World.{World}
 -- ---- several turns
 
 -- These calls lead on: the validators stand for their nodes after them, and they are told as the report has them.
-pub record LeadOn (c : Setting) (s : Scene) (made : List Made) (old new : List (Option Validator)) (before after : Chronicle) : Type 0 where
+pub record LeadOn (c : Setting) (s : Scene) (made : List Made) (old new : List Seat) (before after : Chronicle) : Type 0 where
   pub up : AreUp c (scene_after c s made) new
   pub places_are : places new ≡ places old
   pub holds : Holds c (scene_after c s made).standing.numbered after.messages
@@ -36,7 +40,7 @@ pub record LeadOn (c : Setting) (s : Scene) (made : List Made) (old new : List (
   pub event : after.event ≡ before.event
 
 -- each validator had its turn
-pub record HaveMet (c : Setting) (s : Scene) (turns : List (ℕ × Request)) (old new : List (Option Validator)) (before after : Chronicle) : Type 0 where
+pub record HaveMet (c : Setting) (s : Scene) (turns : List (ℕ × Request)) (old new : List Seat) (before after : Chronicle) : Type 0 where
   pub made : List Made
   pub turn : AreTurns c s before.event turns made
   pub leads : LeadOn c s made old new before after
@@ -76,12 +80,31 @@ scene_of cast ms = scene_after (setting_of cast) beginning ms
 abbrev pub IsWorld : Cast → List Made → (ℕ → ℕ → Bool) → World → Type 0
 IsWorld cast ms brought world = Rests cast (record { scene = scene_of cast ms; brought = brought }) world.stage × (world.spent ≡ false)
 
+-- the variables of a validator that is up, and what it keeps of its height
+abbrev pub machine_of : Seat → Option Machine
+machine_of (seats.Up v) = Some v.core.machine
+machine_of seats.Liar = None
+machine_of (seats.Closed stopped) = None
+
+abbrev pub machine_in : Option Seat → Option Machine
+machine_in (Some seat) = machine_of seat
+machine_in None = None
+
+abbrev pub machine_at : ℕ → List Seat → Option Machine
+machine_at p validators = machine_in (slice_get validators p)
+
 -- how a validator ends
 abbrev pub end_in : Validator → End
 end_in v = record { validator = v.number; height = v.core.machine.state.height; round = v.core.machine.state.round; delivered = v.core.machine.state.delivered }
 
-abbrev pub ends_in : Option Validator → List End
-ends_in place = map end_in (option_to_list place)
+-- or ended, before it was not opened
+abbrev pub end_of_stopped : Stopped → End
+end_of_stopped v = record { validator = v.number; height = v.height; round = v.round; delivered = flat_map items v.delivered.items }
+
+abbrev pub ends_in : Seat → List End
+ends_in seats.Liar = []
+ends_in (seats.Up v) = end_in v ∷ []
+ends_in (seats.Closed v) = end_of_stopped v ∷ []
 
 -- ---- the opening
 
@@ -141,7 +164,7 @@ pub record HaveAll (cast : Cast) (w : Course) (k : ℕ) (events : List Event) (o
   pub at : Rests cast last new.stage
   pub told_is : new.told.items ≡ old.told.items ++ told (setting_of cast) w.scene.standing made
 
--- Some of the events happened, and the one after them can't.
+-- Some of the events happened, and the one after them can't, for its first cause.
 pub record HaveSome (cast : Cast) (w : Course) (events : List Event) (fault : FaultNumber) (old new : World) : Type 0 where
   pub before : ℕ
   pub event_is : new.event ≡ suc before
@@ -152,6 +175,9 @@ pub record HaveSome (cast : Cast) (w : Course) (events : List Event) (fault : Fa
   pub leads : last.scene ≡ scene_after (setting_of cast) w.scene made
   pub told_is : new.told.items ≡ old.told.items ++ told (setting_of cast) w.scene.standing made
   pub rests : fault ≢ OutOfMemory → Rests cast last new.stage × (new.spent ≡ false)
+  pub event : Event
+  pub event_at : slice_get events before ≡ Some event
+  pub cause : CannotHappen fault cast last.scene.standing event
 
 -- The report is that of the calls that the events are: those that were made before stand.
 pub record IsReport (cast : Cast) (ms : List Made) (brought : ℕ → ℕ → Bool) (events : List Event) (old new : World) (report : Report) : Type 0 where
@@ -163,7 +189,7 @@ pub record IsReport (cast : Cast) (ms : List Made) (brought : ℕ → ℕ → Bo
   pub untold : new.told.items ≡ []
   pub ends_are : report.ends ≡ map (end_of (setting_of cast) (calls_of (ms ++ more))) (correct cast)
 
--- The event after some of these can't happen: those before it stand, and are told.
+-- The event after some of these can't happen, for its first cause: those before it stand, and are told.
 pub record IsStop (cast : Cast) (ms : List Made) (brought : ℕ → ℕ → Bool) (events : List Event) (old new : World) (fault : RunFault) : Type 0 where
   pub before : ℕ
   pub event_is : fault.event ≡ suc before
@@ -173,3 +199,4 @@ pub record IsStop (cast : Cast) (ms : List Made) (brought : ℕ → ℕ → Bool
   pub happened : HaveHappened cast (record { scene = scene_of cast ms; brought = brought }) 0 (take before events) more (record { scene = scene_of cast (ms ++ more); brought = last })
   pub told_is : fault.told ≡ old.told.items ++ told (setting_of cast) (scene_of cast ms).standing more
   pub is_world : fault.number ≢ OutOfMemory → IsWorld cast (ms ++ more) last new
+  pub cause : fault.number ≢ OutOfMemory → (event : Event) × (slice_get events before ≡ Some event) × CannotHappen fault.number cast (scene_of cast (ms ++ more)).standing event

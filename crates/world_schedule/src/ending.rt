@@ -2,9 +2,11 @@
 
 ghost use Rattle.std.specs.Prelude.{◌≡◌, ◌++◌, map, flat_map, IfOk, OnOk};
 ghost use Rattle.protocol.specs.Values.{item, items};
-ghost use Rattle.world_schedule.specs.Worlds.{end_in, ends_in};
+ghost use Rattle.world_schedule.specs.Worlds.{end_in, end_of_stopped, ends_in};
 
 use crate::report::End;
+use crate::restarting::Stopped;
+use crate::seat::Seat;
 use crate::validator::Validator;
 use crate::validators::Validators;
 use std::alloc::{AllocError, Global};
@@ -16,20 +18,21 @@ impl Validators {
         ensures { IfOk result (λ ends. ends.items ≡ flat_map ends_in self.now.each.items) }
     {
         let mut ends = Vec::new(alloc);
-        for place in &self.each {
-            put_end(alloc, &mut ends, place)?;
+        for seat in &self.each {
+            put_end(alloc, &mut ends, seat)?;
         }
         Ok(ends)
     }
 }
 
-fn put_end(alloc: Global, ends: &mut Vec<End>, place: &Option<Validator>) -> Result<(), AllocError>
-    ensures { OnOk result (ends.new.items ≡ ends.old.items ++ ends_in place.now) }
+fn put_end(alloc: Global, ends: &mut Vec<End>, seat: &Seat) -> Result<(), AllocError>
+    ensures { OnOk result (ends.new.items ≡ ends.old.items ++ ends_in seat.now) }
 {
-    if let Some(validator) = place {
-        ends.push(validator.end(alloc)?)?;
+    match seat {
+        Seat::Liar => Ok(()),
+        Seat::Up(validator) => Ok(ends.push(validator.end(alloc)?)?),
+        Seat::Closed(stopped) => Ok(ends.push(stopped.end(alloc)?)?),
     }
-    Ok(())
 }
 
 impl Validator {
@@ -42,6 +45,20 @@ impl Validator {
             height: self.core.height(),
             round: self.core.round(),
             delivered: Seq::from_vec(items_of(alloc, self.core.delivered())?),
+        })
+    }
+}
+
+impl Stopped {
+    /// How the validator ends: where it stood before its opening failed.
+    fn end(&self, alloc: Global) -> Result<End, AllocError>
+        ensures { IfOk result (λ end. end ≡ end_of_stopped self.now) }
+    {
+        Ok(End {
+            validator: self.number,
+            height: self.height,
+            round: self.round,
+            delivered: Seq::from_vec(items_of(alloc, &self.delivered)?),
         })
     }
 }

@@ -4,6 +4,18 @@ use protocol::Timeout;
 use transactions::{Op, Seq};
 use world_parties::{Bundling, Proposing, Tagged, Voting};
 
+/// A call of a store that is to fail, as when its device does.
+///
+/// A call of a validator whose save failed answers 17, and each later one 15, until its validator is opened again. An opening
+/// that fails answers 17, and there is no settling after it; then each call answers 15 too.
+#[derive(Clone, Copy, Debug, PartialEq, Eq)]
+pub struct Failing {
+    /// Its number, of the appends, cuts and syncs from now on, from 1; 0 for none.
+    pub call: u64,
+    /// How many bytes of an append stay; all, where there are fewer.
+    pub keep: u64,
+}
+
 /// One event of a world. A number of a validator, of a client or of a message may be anyone's or nobody's: which it has to
 /// be is told by the fault of a run.
 #[derive(Debug, Drop)]
@@ -24,6 +36,8 @@ pub enum Event {
     /// A correct validator ends, is opened again over its journal as its store has it, and is settled. What its journal
     /// holds that was never told is told then.
     Restart(u64),
+    /// From now on a call of a correct validator's store fails. Nothing is told of it until then.
+    Fail(u64, Failing),
     /// A transaction comes to a correct validator.
     Submit(u64, Tagged),
     /// A liar's proposal comes to a correct validator.

@@ -1,6 +1,6 @@
 //! The calls of a core, told as calls of a world.
 
-ghost use Rattle.std.specs.Prelude.{ℕ};
+ghost use Rattle.std.specs.Prelude.{◌≡◌, ◌≢◌, ℕ, false};
 ghost use Rattle.protocol.specs.Tags.{Setting};
 ghost use Rattle.protocol.specs.State.{Node};
 ghost use Rattle.protocol.specs.History.{Settle, Given, Due};
@@ -16,6 +16,7 @@ use vote_journal::Store;
 /// Hands one whole frame to a core: in every world that the core is of, the call is one of it.
 pub fn hand_frame<S: Store + Drop>(core: &mut NodeCore<S>, frame: &[u8]) -> Result<(), Refusal>
     ensures answered { (c : Setting) (p : ℕ) (n : Node) → StandsIn c p n core.old → IsAnsweredIn c p n (Given frame.now) (told_numbers result) core.old core.new }
+    ensures halted { (c : Setting) (p : ℕ) (n : Node) → StandsIn c p n core.old → core.old.journal.failed ≡ false → (told_numbers result).0 ≢ 15 }
     ensures journal { TellsJournal result core.old.journal core.new.journal }
 {
     core.handle(frame)
@@ -27,6 +28,7 @@ pub fn hand_timeout<S: Store + Drop>(
     timeout: Timeout,
 ) -> Result<(), Refusal>
     ensures answered { (c : Setting) (p : ℕ) (n : Node) → StandsIn c p n core.old → IsAnsweredIn c p n (Due timeout) (told_numbers result) core.old core.new }
+    ensures halted { (c : Setting) (p : ℕ) (n : Node) → StandsIn c p n core.old → core.old.journal.failed ≡ false → (told_numbers result).0 ≢ 15 }
     ensures journal { TellsJournal result core.old.journal core.new.journal }
 {
     core.fire_timeout(timeout)
@@ -35,6 +37,7 @@ pub fn hand_timeout<S: Store + Drop>(
 /// Settles a core: at its opening, and after a call that was refused memory.
 pub fn settle<S: Store + Drop>(core: &mut NodeCore<S>) -> Result<(), Refusal>
     ensures answered { (c : Setting) (p : ℕ) (n : Node) → StandsIn c p n core.old → IsAnsweredIn c p n Settle (told_numbers result) core.old core.new }
+    ensures halted { (c : Setting) (p : ℕ) (n : Node) → StandsIn c p n core.old → core.old.journal.failed ≡ false → (told_numbers result).0 ≢ 15 }
     ensures journal { TellsJournal result core.old.journal core.new.journal }
 {
     core.settle()

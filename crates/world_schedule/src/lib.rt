@@ -24,6 +24,7 @@ mod opening;
 mod passing;
 mod report;
 mod restarting;
+mod seat;
 mod stage;
 mod validator;
 mod validators;
@@ -34,7 +35,7 @@ pub use core_laws::{
     own_law, step_law,
 };
 pub use ends_laws::{ends_law, outcome_law, scene_law};
-pub use event::Event;
+pub use event::{Event, Failing};
 pub use fault::RunFault;
 pub use handing::{hand_frame, hand_timeout, settle};
 pub use laws::{delivered_law, made_law, past_law, report_law, ring_law, run_law, seeing_law};

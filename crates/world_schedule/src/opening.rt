@@ -9,8 +9,8 @@ ghost use Rattle.world_schedule.specs.Validators.{IsUp};
 use crate::validator::Validator;
 use node_core::{Config, NodeCore};
 use powers::Powers;
-use std::alloc::{AllocError, Global};
-use vote_journal::{Journal, MemoryStore};
+use std::alloc::Global;
+use vote_journal::{Journal, Strikes};
 use world_parties::{FaultNumber, Parties};
 
 impl Validator {
@@ -28,29 +28,15 @@ impl Validator {
         let _count = parties.count();
         let ring = parties.ring_of(alloc, number)?;
         let powers = parties.powers().copy(alloc)?;
-        let journal = empty_journal(alloc, number, &powers)?;
+        let strikes = Strikes::new(alloc)?;
+        let journal = Journal::struck_by(alloc, number, strikes.clone()?)?;
         let config = Config { me: number, powers };
         Ok(Validator {
             number,
+            strikes,
             core: NodeCore::new(alloc, config, ring, journal),
             decisions_told: 0,
             owes: false,
         })
     }
-}
-
-/// A journal without records. A store in memory of which no call is to fail refuses for memory alone.
-fn empty_journal(
-    alloc: Global,
-    me: u16,
-    powers: &Powers,
-) -> Result<Journal<MemoryStore>, AllocError>
-    ensures state { IfOk result (λ journal. (journal.me ≡ me) × (journal.failed ≡ false)) }
-    ensures empty { IfOk result (λ journal. IsWhole powers.now me journal.store.bytes.items []) }
-{
-    let store = MemoryStore::new(Vec::new(alloc), 0, 0);
-    let Ok(opened) = Journal::open(alloc, store, me, powers) else {
-        return Err(AllocError);
-    };
-    opened.without_records().map_err(|_| AllocError)
 }

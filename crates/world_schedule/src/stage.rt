@@ -1,20 +1,23 @@
 //! All of a world that events change.
 
-ghost use Rattle.std.specs.Prelude.{◌≡◌, ◌++◌, ◌∷◌, [], List, Option, cond, length, map, IfOk, OnOk};
+ghost use Rattle.std.specs.Prelude.{◌≡◌, ◌++◌, ◌∷◌, [], List, cond, length, map, IfOk, OnOk};
+ghost use Rattle.std.specs.List.{list_any};
 ghost use Rattle.protocol.specs.Tags.{Setting};
 ghost use Rattle.protocol.specs.Messages.{below};
 ghost use Rattle.protocol.specs.History.{Settle as Settling};
 ghost use Rattle.world_parties.specs.Cast.{setting_of, is_correct, correct};
 ghost use Rattle.world_schedule.specs.Making.{Hands, beginning};
+ghost use Rattle.world_schedule.specs.Serving.{is_failure};
 ghost use Rattle.world_schedule.specs.Standings.{Holds};
 ghost use Rattle.world_schedule.specs.Validators.{places};
-ghost use Rattle.world_schedule.specs.declared.validator.Validator.{Validator as Opened};
+ghost use Rattle.world_schedule.specs.declared.seat.Seat.{Seat as Seated};
 ghost use Rattle.world_schedule.specs.Events.{asked_of};
 ghost use Rattle.world_schedule.specs.Worlds.{HaveMet, HaveSettled};
 
 use crate::brought::Brought;
 use crate::chronicle::Chronicle;
 use crate::clients::Clients;
+use crate::report::{Told, What};
 use crate::validator::Request;
 use crate::validators::Validators;
 use std::alloc::{AllocError, Global};
@@ -85,13 +88,23 @@ fn settled(
 ) -> Result<Validators, AllocError>
     requires { (c : Setting) → Holds c [] chronicle.old.messages }
     ensures places { IfOk result (λ opened. places opened.each.items ≡ map (is_correct parties.now) (below (length parties.now.powers))) }
-    ensures met { IfOk result (λ opened. (first : List (Option Opened)) × HaveMet (setting_of parties.now) beginning (map (asked_of (Hands Settling)) correct.now) first opened.each.items chronicle.old chronicle.new) }
+    ensures met { IfOk result (λ opened. (first : List Seated) × HaveMet (setting_of parties.now) beginning (map (asked_of (Hands Settling)) correct.now) first opened.each.items chronicle.old chronicle.new) }
 {
     let Ok(mut validators) = Validators::open(alloc, parties) else {
         return Err(AllocError);
     };
-    match validators.turn_all(correct, Request::Settle, chronicle) {
-        Ok(()) => Ok(validators),
-        Err(_) => Err(AllocError),
+    let Ok(()) = validators.turn_all(correct, Request::Settle, chronicle) else {
+        return Err(AllocError);
+    };
+    if tells_failure(&chronicle.told) {
+        return Err(AllocError);
     }
+    Ok(validators)
+}
+
+/// Whether one of the answers is that a save or an opening failed: of no call of a store that no event made fail.
+fn tells_failure(told: &[Told]) -> bool
+    ensures { result ≡ list_any (λ t. is_failure t.what) told.now }
+{
+    told.iter().any(|one| matches!(&one.what, What::Answered(answer) if answer.number == 17))
 }

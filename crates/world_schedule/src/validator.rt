@@ -1,6 +1,6 @@
 //! One correct validator of a world.
 
-ghost use Rattle.std.specs.Prelude.{◌≡◌, ◌<◌, ◌^◌, ◌∷◌, [], ℕ, List, Some, drop, length, map, IfOk, OnOk};
+ghost use Rattle.std.specs.Prelude.{◌≡◌, ◌≢◌, ◌<◌, ◌^◌, ◌∷◌, [], ℕ, false, List, Some, drop, length, map, IfOk, OnOk};
 ghost use Rattle.protocol.specs.Tags.{Setting};
 ghost use Rattle.protocol.specs.State.{Node};
 ghost use Rattle.protocol.specs.Messages.{Body as AnyBody};
@@ -8,7 +8,8 @@ ghost use Rattle.node_core.specs.Calls.{TellsJournal};
 ghost use Rattle.world_schedule.specs.Handed.{told_numbers};
 ghost use Rattle.world_schedule.specs.Cores.{StandsIn, frame_in};
 ghost use Rattle.world_schedule.specs.Reports.{decision_of};
-ghost use Rattle.world_schedule.specs.Making.{IsMetBy, IsServed, Scene, Asks, Resends};
+ghost use Rattle.world_schedule.specs.Making.{IsMetBy, Scene, Asks, Resends};
+ghost use Rattle.world_schedule.specs.Serving.{AreServed, WasServed};
 ghost use Rattle.world_schedule.specs.Standings.{Holds, Tells, Says, AreReadable};
 ghost use Rattle.world_schedule.specs.Validators.{request_of, IsUp, HasMet, HasInsisted, HasTurned};
 ghost use Rattle.world_schedule.specs.declared.report.What.TheVariants.{Decided};
@@ -19,15 +20,11 @@ use crate::report::{Answer, What};
 use messages::Bundle;
 use node_core::{NodeCore, Refusal};
 use protocol::Timeout;
-use vote_journal::MemoryStore;
+use vote_journal::{Strikes, StrikingStore};
 use world_parties::FaultNumber;
 
-/// The numbers of answers: the node had halted, it was refused memory, and its journal failed.
-const HALTED: u8 = 15;
-
+/// The number of the answer that memory was refused.
 const NO_MEMORY: u8 = 16;
-
-const JOURNAL_FAILED: u8 = 17;
 
 /// What is asked of a validator.
 #[derive(Clone, Copy)]
@@ -47,7 +44,9 @@ pub(crate) enum Request<'a> {
 #[derive(Drop)]
 pub(crate) struct Validator {
     pub(crate) number: u16,
-    pub(crate) core: NodeCore<MemoryStore>,
+    /// What makes calls of its store fail.
+    pub(crate) strikes: Strikes,
+    pub(crate) core: NodeCore<StrikingStore>,
     /// How many of its decisions were told.
     pub(crate) decisions_told: usize,
     /// Whether its last call was refused memory.
@@ -61,8 +60,9 @@ impl Validator {
         request: Request<'_>,
         chronicle: &mut Chronicle,
     ) -> Result<(), FaultNumber>
-        ensures { (c : Setting) (s : Scene) → IsUp c s self.old → Holds c s.standing.numbered chronicle.old.messages
-            → OnOk result (HasTurned c s (request_of request.entry) self.old self.new chronicle.old chronicle.new) }
+        ensures turned { (c : Setting) (s : Scene) → IsUp c s self.old → Holds c s.standing.numbered chronicle.old.messages
+            → OnOk result (AreServed chronicle.new.told.items → HasTurned c s (request_of request.entry) self.old self.new chronicle.old chronicle.new) }
+        ensures serves { OnOk result (WasServed chronicle.old.told.items chronicle.new.told.items) }
     {
         if !self.owes {
             return self.insist(request, chronicle);
@@ -73,8 +73,9 @@ impl Validator {
 
     /// Makes a call; where memory is refused to it, the validator is settled and the call made once more.
     fn insist(&mut self, request: Request<'_>, chronicle: &mut Chronicle) -> Result<(), FaultNumber>
-        ensures { (c : Setting) (s : Scene) → IsUp c s self.old → Holds c s.standing.numbered chronicle.old.messages
-            → OnOk result (HasInsisted c s (request_of request.entry) self.old self.new chronicle.old chronicle.new) }
+        ensures insisted { (c : Setting) (s : Scene) → IsUp c s self.old → Holds c s.standing.numbered chronicle.old.messages
+            → OnOk result (AreServed chronicle.new.told.items → HasInsisted c s (request_of request.entry) self.old self.new chronicle.old chronicle.new) }
+        ensures serves { OnOk result (WasServed chronicle.old.told.items chronicle.new.told.items) }
     {
         let refused = self.call(request, chronicle)?;
         if !refused {
@@ -87,20 +88,16 @@ impl Validator {
 
     /// Makes a call, and tells its answer, then what was decided, then what was released. Whether memory was refused to
     /// the call.
-    ///
-    /// No store of a world fails, so no answer says so: `OutOfMemory` stands for one that would.
     pub(crate) fn call(
         &mut self,
         request: Request<'_>,
         chronicle: &mut Chronicle,
     ) -> Result<bool, FaultNumber>
-        ensures { (c : Setting) (s : Scene) → IsUp c s self.old → Holds c s.standing.numbered chronicle.old.messages
-            → IfOk result (λ starved. HasMet c s (request_of request.entry) starved self.old self.new chronicle.old chronicle.new) }
+        ensures met { (c : Setting) (s : Scene) → IsUp c s self.old → Holds c s.standing.numbered chronicle.old.messages
+            → IfOk result (λ starved. AreServed chronicle.new.told.items → HasMet c s (request_of request.entry) starved self.old self.new chronicle.old chronicle.new) }
+        ensures serves { OnOk result (WasServed chronicle.old.told.items chronicle.new.told.items) }
     {
         let answer = answer_of(&self.make(request));
-        if answer.number == HALTED || answer.number == JOURNAL_FAILED {
-            return Err(FaultNumber::OutOfMemory);
-        }
         self.owes = answer.number == NO_MEMORY;
         chronicle.tell(Some(self.number), What::Answered(answer))?;
         self.tell_decisions(chronicle)?;
@@ -110,7 +107,7 @@ impl Validator {
 
     /// Makes a call of the node.
     fn make(&mut self, request: Request<'_>) -> Result<(), Refusal>
-        ensures met { (c : Setting) (n : Node) → StandsIn c self.old.number n self.old.core → self.old.number < 2 ^ 16 → IsServed (told_numbers result)
+        ensures met { (c : Setting) (n : Node) → StandsIn c self.old.number n self.old.core → self.old.number < 2 ^ 16 → self.old.core.journal.failed ≡ false → (told_numbers result).0 ≢ 17
             → IsMetBy c self.old.number n (request_of request.entry) (told_numbers result) self.old.core self.new.core }
         ensures journal { TellsJournal result self.old.core.journal self.new.core.journal }
         ensures number { self.new.number ≡ self.old.number }
@@ -127,7 +124,7 @@ impl Validator {
 
     /// Lets an ask go.
     fn ask(&mut self) -> Result<(), Refusal>
-        ensures met { (c : Setting) (n : Node) → StandsIn c self.old.number n self.old.core → self.old.number < 2 ^ 16 → IsServed (told_numbers result)
+        ensures met { (c : Setting) (n : Node) → StandsIn c self.old.number n self.old.core → self.old.number < 2 ^ 16 → self.old.core.journal.failed ≡ false → (told_numbers result).0 ≢ 17
             → IsMetBy c self.old.number n Asks (told_numbers result) self.old.core self.new.core }
         ensures journal { TellsJournal result self.old.core.journal self.new.core.journal }
         ensures number { self.new.number ≡ self.old.number }
@@ -140,7 +137,7 @@ impl Validator {
 
     /// Lets the own messages of the height go again.
     fn resend(&mut self) -> Result<(), Refusal>
-        ensures met { (c : Setting) (n : Node) → StandsIn c self.old.number n self.old.core → IsServed (told_numbers result)
+        ensures met { (c : Setting) (n : Node) → StandsIn c self.old.number n self.old.core → self.old.core.journal.failed ≡ false → (told_numbers result).0 ≢ 17
             → IsMetBy c self.old.number n Resends (told_numbers result) self.old.core self.new.core }
         ensures journal { TellsJournal result self.old.core.journal self.new.core.journal }
         ensures number { self.new.number ≡ self.old.number }
@@ -168,6 +165,7 @@ impl Validator {
     pub(crate) fn tell_messages(&mut self, chronicle: &mut Chronicle) -> Result<(), FaultNumber>
         ensures told { (c : Setting) (numbered : List AnyBody) (bodies : List AnyBody) → Holds c numbered chronicle.old.messages → self.old.core.outgoing ≡ map (frame_in c) bodies → AreReadable c bodies
             → OnOk result (Says c numbered (Some self.old.number) bodies chronicle.old chronicle.new) }
+        ensures serves { OnOk result (WasServed chronicle.old.told.items chronicle.new.told.items) }
         ensures new { self.new ≡ record self.old { core = record self.old.core { outgoing = []; scheduled = [] } } }
     {
         let frames = self.core.outgoing();

@@ -1,24 +1,38 @@
 //! The correct validators of a world.
 
-ghost use Rattle.std.specs.Prelude.{◌≡◌, [], true, Some, length, map, is_some, IfOk, OnOk};
+ghost use Rattle.std.specs.Prelude.{◌≡◌, ◌∷◌, [], true, length, map, option_map, slice_get, Some, IfOk, OnOk};
 ghost use Rattle.protocol.specs.Tags.{Setting};
 ghost use Rattle.protocol.specs.Messages.{below};
 ghost use Rattle.world_parties.specs.Cast.{setting_of, is_validator, is_correct};
 ghost use Rattle.world_schedule.specs.Making.{Scene, beginning};
-ghost use Rattle.world_schedule.specs.Standings.{Holds};
-ghost use Rattle.world_schedule.specs.Validators.{request_of, IsUp, AreUp, HaveTurned, places};
+ghost use Rattle.world_schedule.specs.Serving.{AreServed, WasServed};
+ghost use Rattle.world_schedule.specs.Standings.{Holds, Tells};
+ghost use Rattle.world_schedule.specs.declared.report.What.TheVariants.{Answered};
+ghost use Rattle.world_schedule.specs.declared.restarting.Stopped.{Stopped as Ended};
+ghost use Rattle.world_schedule.specs.Worlds.{machine_at};
+ghost use Rattle.world_schedule.specs.Validators.{request_of, IsUp, IsSeated, AreUp, HaveTurned, is_up, places};
 ghost use Rattle.world_schedule.specs.Restarting.{HaveRestarted};
-ghost use Rattle.world_schedule.specs.declared.validator.Validator.{Validator as Opened};
 
 use crate::chronicle::Chronicle;
+use crate::event::Failing;
+use crate::report::{Answer, What};
+use crate::seat::Seat;
 use crate::validator::{Request, Validator};
-use std::alloc::Global;
+use round_states::State;
+use std::alloc::{AllocError, Global};
+use std::mem::replace;
 use world_parties::{FaultNumber, Parties};
 
-/// The correct validators by number, with none where one lies.
+/// What is told of a call of a validator that has no node.
+const HALTED: Answer = Answer {
+    number: 15,
+    inner: 0,
+};
+
+/// The seats of the validators, by number.
 #[derive(Drop)]
 pub(crate) struct Validators {
-    pub(crate) each: Vec<Option<Validator>>,
+    pub(crate) each: Vec<Seat>,
 }
 
 impl Validators {
@@ -32,23 +46,26 @@ impl Validators {
         Ok(Validators { each })
     }
 
-    /// A validator meets a request, and the others stay as they are.
+    /// A validator meets a request, and the others stay as they are. One that has no node answers that it has halted.
     pub(crate) fn turn(
         &mut self,
         number: u16,
         request: Request<'_>,
         chronicle: &mut Chronicle,
     ) -> Result<(), FaultNumber>
-        ensures { (c : Setting) (s : Scene) → AreUp c s self.old.each.items → Holds c s.standing.numbered chronicle.old.messages
-            → OnOk result (HaveTurned c s number (request_of request.entry) self.old.each.items self.new.each.items chronicle.old chronicle.new) }
+        ensures turned { (c : Setting) (s : Scene) → AreUp c s self.old.each.items → Holds c s.standing.numbered chronicle.old.messages
+            → OnOk result (AreServed chronicle.new.told.items → HaveTurned c s number (request_of request.entry) self.old.each.items self.new.each.items chronicle.old chronicle.new) }
+        ensures closed { (stopped : Ended) → slice_get self.old.each.items number ≡ Some (Seat.Closed stopped) → OnOk result (Tells (Some number) (Answered (record { number = 15; inner = 0 }) ∷ []) chronicle.old chronicle.new) }
+        ensures serves { OnOk result (WasServed chronicle.old.told.items chronicle.new.told.items) }
     {
         let place = usize::from(number);
         if place >= self.each.len() {
             return Err(FaultNumber::NoSuchParty);
         }
         match &mut self.each[place] {
-            Some(validator) => validator.turn(request, chronicle),
-            None => Err(FaultNumber::NoSuchParty),
+            Seat::Up(validator) => validator.turn(request, chronicle),
+            Seat::Closed(_) => Ok(chronicle.tell(Some(number), What::Answered(HALTED))?),
+            Seat::Liar => Err(FaultNumber::NoSuchParty),
         }
     }
 
@@ -60,28 +77,40 @@ impl Validators {
         number: u16,
         chronicle: &mut Chronicle,
     ) -> Result<(), FaultNumber>
-        ensures { (s : Scene) → AreUp (setting_of parties.now) s self.old.each.items → Holds (setting_of parties.now) s.standing.numbered chronicle.old.messages
-            → OnOk result (HaveRestarted (setting_of parties.now) s number self.old.each.items self.new.each.items chronicle.old chronicle.new) }
+        ensures restarted { (s : Scene) → AreUp (setting_of parties.now) s self.old.each.items → Holds (setting_of parties.now) s.standing.numbered chronicle.old.messages
+            → OnOk result (AreServed chronicle.new.told.items → HaveRestarted (setting_of parties.now) s number self.old.each.items self.new.each.items chronicle.old chronicle.new) }
+        ensures serves { OnOk result (WasServed chronicle.old.told.items chronicle.new.told.items) }
     {
         let place = usize::from(number);
         if place >= self.each.len() {
             return Err(FaultNumber::NoSuchParty);
         }
-        match self.each[place].take() {
-            Some(validator) => {
-                self.each[place] = Some(validator.restart(parties, chronicle)?);
-                Ok(())
-            }
-            None => Err(FaultNumber::NoSuchParty),
+        let stopped = replace(&mut self.each[place], Seat::Liar).stop(chronicle.alloc)?;
+        self.each[place] = stopped.restart(parties, chronicle)?;
+        Ok(())
+    }
+
+    /// A call of a validator's store is to fail.
+    pub(crate) fn strike(&self, number: u16, failing: Failing) -> Result<(), AllocError> {
+        match self.each.get(usize::from(number)) {
+            Some(seat) => seat.strike(failing),
+            None => Ok(()),
+        }
+    }
+
+    /// The variables of a validator that is up.
+    pub(crate) fn state(&self, number: u64) -> Option<&State>
+        ensures { option_map (λ state. state.now) result ≡ machine_at number self.now.each.items }
+    {
+        if number < self.each.len() as u64 {
+            self.each[number as usize].state()
+        } else {
+            None
         }
     }
 }
 
-fn open_all(
-    alloc: Global,
-    each: &mut Vec<Option<Validator>>,
-    parties: &Parties,
-) -> Result<(), FaultNumber>
+fn open_all(alloc: Global, each: &mut Vec<Seat>, parties: &Parties) -> Result<(), FaultNumber>
     requires { each.old.items ≡ [] }
     ensures up { OnOk result (AreUp (setting_of parties.now) beginning each.new.items) }
     ensures places { OnOk result (places each.new.items ≡ map (is_correct parties.now) (below (length parties.now.powers))) }
@@ -94,13 +123,13 @@ fn open_all(
 }
 
 /// The validator of this number, where it is correct.
-fn open_one(alloc: Global, parties: &Parties, number: u16) -> Result<Option<Validator>, FaultNumber>
-    ensures up { IfOk result (λ place. (v : Opened) → place ≡ Some v → (v.number ≡ number) × IsUp (setting_of parties.now) beginning v) }
-    ensures place { IfOk result (λ place. is_some place ≡ is_correct parties.now number) }
+fn open_one(alloc: Global, parties: &Parties, number: u16) -> Result<Seat, FaultNumber>
+    ensures up { IfOk result (λ place. IsSeated (setting_of parties.now) beginning number place) }
+    ensures place { IfOk result (λ place. is_up place ≡ is_correct parties.now number) }
 {
     match parties.correct_at(u64::from(number)) {
-        Ok(correct) => Ok(Some(open_again(alloc, parties, correct)?)),
-        Err(_) => Ok(None),
+        Ok(correct) => Ok(Seat::Up(open_again(alloc, parties, correct)?)),
+        Err(_) => Ok(Seat::Liar),
     }
 }
 

@@ -1,5 +1,6 @@
 //! Worlds of a few validators.
 
 mod calls;
+mod failures;
 mod parties;
 mod worlds;

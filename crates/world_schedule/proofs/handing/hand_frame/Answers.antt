@@ -1,6 +1,7 @@
 use Rattle.protocol.specs.History.{Given}
 use Rattle.world_schedule.proofs.Answered.{answered_law}
 use Rattle.world_schedule.proofs.Clauses.{at_err, at_ok}
+use Rattle.world_schedule.proofs.Serving.{not_halted}
 use Rattle.world_schedule.proofs.handing.hand_frame.Goals as goal
 
 pub returns-clause-answered : goal.returns-clause-answered
@@ -11,3 +12,6 @@ returns-clause-answered g c = λ s p n st. answered_law s p n c.args.core.now st
   refused = at_err _ c.handle.result c.handle.ensures.refused;
   quiet = at_ok _ c.handle.result c.handle.ensures.quiet;
 })
+
+pub returns-clause-halted : goal.returns-clause-halted
+returns-clause-halted g c = λ s p n st serves. not_halted c.args.core.now.journal.failed _ c.handle.result serves (c.handle.ensures.answer n st.stands)

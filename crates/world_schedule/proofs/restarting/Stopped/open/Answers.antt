@@ -12,7 +12,7 @@ pub returns-in-Ok-clause-back : goal.returns-in-Ok-clause-back
 returns-in-Ok-clause-back c = λ old n h st serves.
     let d : Setting = setting_of c.args.parties.now in
     let before = h.kept (reverse n.journal) (journal_of_core d old.number n old.core st serves) in
-    let held = subst (λ i. IsJournal d.powers i c.args.self.store.bytes.items (reverse n.journal)) (sym h.number) before in
+    let held = subst (λ i. IsJournal d.powers i c.args.self.store.store.bytes.items (reverse n.journal)) (sym h.number) before in
     let own = subst (λ i. AreOwn i n.journal) (sym h.number) st.decided in record {
       number = h.number;
       told = h.told;
@@ -23,8 +23,12 @@ returns-in-Ok-clause-back c = λ old n h st serves.
     }
 
 pub returns-in-Err-clause-stopped : goal.returns-in-Err-clause-stopped
-returns-in-Err-clause-stopped c = λ old h. record {
-  number = h.number;
-  told = h.told;
-  kept = λ rs j. subst (λ i. IsJournal c.args.parties.now.powers i c.in-Err.store.bytes.items rs) h.number (c.in-Err.ensures.kept rs (subst (λ i. IsJournal c.args.parties.now.powers i c.args.self.store.bytes.items rs) (sym h.number) (h.kept rs j)));
-}
+returns-in-Err-clause-stopped c = λ old h.
+    let kept = c.in-Err.ensures.kept in record {
+      number = h.number;
+      told = h.told;
+      height = h.height;
+      round = h.round;
+      delivered = h.delivered;
+      kept = λ rs j. subst (λ i. IsJournal c.args.parties.now.powers i c.in-Err.refused.store.store.bytes.items rs) h.number (kept rs (subst (λ i. IsJournal c.args.parties.now.powers i c.args.self.store.store.bytes.items rs) (sym h.number) (h.kept rs j)));
+    }

@@ -1,4 +1,4 @@
-use Rattle.std.proofs.Common.{◌≡◌, ◌∙◌, List, [], ◌++◌, ℕ, map, refl, sym, ap, subst}
+use Rattle.std.proofs.Common.{◌∙◌, List, [], ◌++◌, ℕ, map, refl, sym, ap, subst}
 use Rattle.protocol.specs.History.{Settle}
 use Rattle.protocol.specs.Values.{Item}
 use Rattle.world_parties.specs.Cast.{setting_of}

@@ -1,9 +1,8 @@
-use Rattle.std.proofs.Common.{◌≡◌, ◌∙◌, ℕ, [], ◌∷◌, Some, map, drop, sym, ap, subst, arith}
+use Rattle.std.proofs.Common.{◌≡◌, ◌≢◌, ◌∙◌, ℕ, [], ◌∷◌, Some, map, drop, sym, ap, subst, arith}
 use Rattle.std.specs.Prelude.{◌==◌}
 use Rattle.protocol.specs.Messages.{Bundle}
 use Rattle.world_schedule.specs.Handed.{told_numbers}
 use Rattle.world_schedule.specs.Reports.{decision_of}
-use Rattle.world_schedule.specs.Making.{IsServed}
 use Rattle.world_schedule.specs.Standings.{Holds, Tells, Says}
 use Rattle.world_schedule.specs.Validators.{request_of}
 use Rattle.world_schedule.specs.declared.report.Answer.{Answer}
@@ -11,10 +10,11 @@ use Rattle.world_schedule.specs.declared.report.What.TheVariants.{Answered, Deci
 use Rattle.world_schedule.specs.declared.validator.Validator.{Validator}
 use Rattle.world_schedule.proofs.Called.{has_met}
 use Rattle.world_schedule.proofs.Meeting.{still_serves}
+use Rattle.world_schedule.proofs.Serving.{tells_served, answer_served}
 use Rattle.world_schedule.proofs.validator.Validator.call.Goals as goal
 
-pub returns : goal.returns
-returns c = λ s scene up holds.
+pub returns-clause-met : goal.returns-clause-met
+returns-clause-met c = λ s scene up holds serves.
     let old : Validator = c.args.self.now in
     let made : Validator = c.make.new.self in
     let told : Validator = c.tell_decisions.new.self in
@@ -22,7 +22,8 @@ returns c = λ s scene up holds.
     let numbers : ℕ × ℕ = told_numbers c.make.result in
     let named = c.answer_of-answer.ensures in
     let own : made.number ≡ old.number = c.make.ensures.number in
-    let served : IsServed numbers = record { runs = λ e. c.if-answer-eq-HALTED.false (ap (λ (a : Answer). a.number) named ∙ e); serves = λ e. c.if-answer-eq-JOURNAL_FAILED.false (ap (λ (a : Answer). a.number) named ∙ e) } in
+    let before = tells_served _ _ _ _ c.in_ok-tell_decisions.ensures.told (c.in_ok-tell_messages.ensures.serves serves) in
+    let failed : numbers.0 ≢ 17 = λ e. answer_served (Some made.number) c.answer_of-answer.result c.args.chronicle.now c.tell.new.self c.in_ok-tell.ensures.told before (ap (λ (a : Answer). a.number) named ∙ e) in
     let counted = c.in_ok-tell_decisions.ensures.new in
     let after = c.tell_messages.ensures.new in
     let held : c.tell_decisions.new.chronicle.messages ≡ c.args.chronicle.now.messages = c.tell_decisions.ensures.messages ∙ c.tell.ensures.messages in
@@ -30,8 +31,8 @@ returns c = λ s scene up holds.
     let decided = subst (λ i. Tells (Some made.number) (map (λ (b : Bundle). Decided (decision_of b)) (drop i made.core.decisions)) c.tell.new.self c.tell_decisions.new.chronicle) c.make.ensures.told c.in_ok-tell_decisions.ensures.told in
     has_met s scene (request_of c.args.request) numbers old last made.core c.args.chronicle.now c.tell.new.self c.tell_decisions.new.chronicle c.tell_messages.new.chronicle (record {
       up = up;
-      met = c.make.ensures.met s (scene.standing.nodes old.number) up.stands (omega (arith, up.known, up.few)) served;
-      serves = still_serves c.make.result old.core.journal made.core.journal served c.make.ensures.journal ∙ up.serves;
+      met = c.make.ensures.met s (scene.standing.nodes old.number) up.stands (omega (arith, up.known, up.few)) up.serves failed;
+      serves = still_serves c.make.result old.core.journal made.core.journal failed c.make.ensures.journal ∙ up.serves;
       answer = subst (λ i. Tells (Some i) (Answered (record { number = numbers.0; inner = numbers.1 }) ∷ []) c.args.chronicle.now c.tell.new.self) own begun;
       decisions = subst (λ i. Tells (Some i) (map (λ (b : Bundle). Decided (decision_of b)) (drop old.decisions_told made.core.decisions)) c.tell.new.self c.tell_decisions.new.chronicle) own decided;
       messages = λ bodies e r. subst (λ i. Says s scene.standing.numbered (Some i) bodies c.tell_decisions.new.chronicle c.tell_messages.new.chronicle) (ap (λ (v : Validator). v.number) counted ∙ own)
@@ -41,3 +42,6 @@ returns c = λ s scene up holds.
       told = ap (λ (v : Validator). v.decisions_told) after ∙ ap (λ (v : Validator). v.decisions_told) counted;
       owes = ap (λ (v : Validator). v.owes) after ∙ ap (λ (v : Validator). v.owes) counted ∙ ap (λ (a : Answer). a.number == 16) named;
     })
+
+pub returns-clause-serves : goal.returns-clause-serves
+returns-clause-serves c = λ serves. tells_served _ _ _ _ c.in_ok-tell.ensures.told (tells_served _ _ _ _ c.in_ok-tell_decisions.ensures.told (c.in_ok-tell_messages.ensures.serves serves))

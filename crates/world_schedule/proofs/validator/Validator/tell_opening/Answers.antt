@@ -8,11 +8,12 @@ use Rattle.world_schedule.specs.declared.report.What.TheVariants.{Answered, Deci
 use Rattle.world_schedule.specs.declared.validator.Validator.{Validator}
 use Rattle.world_schedule.specs.declared.chronicle.Chronicle.{Chronicle}
 use Rattle.world_schedule.proofs.Called.{has_met}
+use Rattle.world_schedule.proofs.Serving.{tells_served}
 use Rattle.world_schedule.proofs.Reopening.{meets_reopening}
 use Rattle.world_schedule.proofs.validator.Validator.tell_opening.Goals as goal
 
-pub returns : goal.returns
-returns c = λ s scene old up back holds.
+pub returns-clause-met : goal.returns-clause-met
+returns-clause-met c = λ s scene old up back holds.
     let begun : Validator = c.args.self.now in
     let told : Validator = c.tell_decisions.new.self in
     let last : Validator = c.tell_messages.new.self in
@@ -37,3 +38,6 @@ returns c = λ s scene old up back holds.
       told = ap (λ (v : Validator). v.decisions_told) after ∙ ap (λ (v : Validator). v.decisions_told) counted;
       owes = none;
     }))
+
+pub returns-clause-serves : goal.returns-clause-serves
+returns-clause-serves c = λ served. tells_served _ _ _ _ c.in_ok-tell.ensures.told (tells_served _ _ _ _ c.in_ok-tell_decisions.ensures.told (c.in_ok-tell_messages.ensures.serves served))

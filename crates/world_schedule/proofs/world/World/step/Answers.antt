@@ -10,3 +10,6 @@ returns-after-matches-clause-err c = λ cast w rests other.
       record { parties = at.parties; correct_are = at.correct_are; up = at.up; places_are = at.places_are; holds = at.holds; sent = at.sent; brought = at.brought },
       c.clear.ensures.items,
     )
+
+pub returns-after-matches-clause-cause : goal.returns-after-matches-clause-cause
+returns-after-matches-clause-cause c = λ cast w rests. c.in-Err.ensures.cause cast w (at_event cast w c.args.self.now.stage c.args.self.now.event rests)
