@@ -3,9 +3,10 @@
 #
 # usage: schedules/check.sh [--rewrite] [--with PROGRAM] [NAME..]
 #
-# With no NAME (as first_decision) all are run. A difference is shown as a diff; --rewrite keeps what the program
-# prints, for a person to read before it is committed. PROGRAM is a built tmsim; without it the one in bin/ is taken
-# where it is up to date, else the sources run unproved, which takes a minute. The last line is 'N passed, M failed'.
+# With no NAME (as first_decision) all are run. Beside NAME.txt stand NAME.report, NAME.status where the exit status isn't 0, and
+# NAME.errors where something is told on standard error. A difference is shown as a diff; --rewrite keeps what the program prints,
+# for a person to read before it is committed. PROGRAM is a built tmsim; without it the one in bin/ is taken where it is up to
+# date, else the sources run unproved, which takes a minute. The last line is 'N passed, M failed'.
 set -euo pipefail
 here=$(cd "$(dirname "${BASH_SOURCE[0]}")" && pwd)
 rewrite= program= names=()
@@ -13,7 +14,7 @@ while [ $# -gt 0 ]; do
     case $1 in
     --rewrite) rewrite=yes ;;
     --with) program=$(realpath -- "${2:?--with wants a program}") && shift ;;
-    -*) sed -n '2,8s/^# \{0,1\}//p' "${BASH_SOURCE[0]}" >&2 && exit 2 ;;
+    -*) sed -n '2,9s/^# \{0,1\}//p' "${BASH_SOURCE[0]}" >&2 && exit 2 ;;
     *) names+=("$1") ;;
     esac
     shift
@@ -22,7 +23,17 @@ done
 got=$(mktemp -d)
 trap 'rm -rf "$got"' EXIT
 
-# Prints the reports of the schedules as the unproved program gives them, each under a line '== NAME'.
+# Runs the schedules with the built program.
+run_all() {
+    for name in "${names[@]}"; do
+        local status=0
+        (cd "$here" && "$program" "$name.txt") > "$got/$name.report" 2> "$got/$name.errors" || status=$?
+        echo "$status" > "$got/$name.status"
+    done
+}
+
+# Runs the schedules with the unproved program, which prints each report under a line '== NAME'. On standard error each case's
+# lines stand above the one that tells of its status.
 try_all() {
     local cases=$got/cases data=()
     mkdir "$cases"
@@ -31,27 +42,39 @@ try_all() {
         echo "$name.txt" > "$cases/$name.args"
         data+=(--data "$name.txt=$here/$name.txt")
     done
-    (cd "$here/../crates/tmsim" && rt try --cases "$cases" "${data[@]}" 2> "$got/said") || { cat "$got/said" >&2; return 1; }
+    (cd "$here/../crates/tmsim" && rt try --cases "$cases" "${data[@]}" 2> "$got/said" > "$got/printed") || { cat "$got/said" >&2; return 1; }
+    awk -v folder="$got" '/^== /{file = folder "/" $2 ".report"; printf "" > file; next} {print > file}' "$got/printed"
+    awk -v folder="$got" '
+        /^case=/ { name = substr($1, 6); printf "%s", told > (folder "/" name ".errors")
+                   match($0, /status=[0-9]+/); print substr($0, RSTART + 7, RLENGTH - 7) > (folder "/" name ".status"); told = ""; next }
+        { told = told $0 "\n" }' "$got/said"
+}
+
+# Compares one text with the one that is kept, or keeps it; WANTED is what is meant where no file is kept.
+compare() {
+    local name=$1 wanted=$2
+    if [ -n "$rewrite" ]; then
+        if [ "$(cat "$got/$name")" = "$wanted" ]; then rm -f "$here/$name"; else cp "$got/$name" "$here/$name"; fi
+        return
+    fi
+    if [ -e "$here/$name" ]; then cp "$here/$name" "$got/wanted"; else printf '%s' "${wanted:+$wanted$'\n'}" > "$got/wanted"; fi
+    diff -u --label "$name" --label "as printed" "$got/wanted" "$got/$name"
 }
 
 cd "$here/.."
 source gate/sources.sh
 [ -n "$program" ] || ! is_built || program=$PWD/bin/tmsim
-if [ -n "$program" ]; then
-    for name in "${names[@]}"; do
-        (cd "$here" && "$program" "$name.txt") > "$got/$name.report" || echo "$name: status $?" >&2
-    done
-else
-    try_all | awk -v folder="$got" '/^== /{file = folder "/" $2 ".report"; printf "" > file; next} {print > file}'
-fi
+if [ -n "$program" ]; then run_all; else try_all; fi
 
 failed=0
 for name in "${names[@]}"; do
-    if [ -n "$rewrite" ]; then
-        cp "$got/$name.report" "$here/$name.report"
-    elif ! diff -u --label "$name.report" --label "as printed" "$here/$name.report" "$got/$name.report"; then
-        failed=$((failed + 1))
-    fi
+    right=yes
+    [ -e "$here/$name.report" ] || [ -n "$rewrite" ] || { echo "$name.report isn't there"; right=; }
+    [ -z "$rewrite" ] || cp "$got/$name.report" "$here/$name.report"
+    [ -n "$rewrite" ] || compare "$name.report" "" || right=
+    compare "$name.status" 0 || right=
+    compare "$name.errors" "" || right=
+    [ -n "$right" ] || failed=$((failed + 1))
 done
 echo "$((${#names[@]} - failed)) passed, $failed failed"
 [ "$failed" -eq 0 ]

@@ -1,7 +1,7 @@
 #!/usr/bin/env python3
 """Runs tmsim on schedules, with each of its growths refused in turn.
 
-usage: each_refusal.py [SCHEDULE ..]
+usage: each_refusal.py [--with PROGRAM] [SCHEDULE ..]
 
 Wants the built program (./build.sh builds it) and gcc. With no schedule, all of this folder are run. Where a validator
 refuses a call for want of memory, it is settled and the call made once more: the report has to be the stored one but for
@@ -9,22 +9,50 @@ the line that tells of that refusal, and a line of the second call, where the fi
 is kept already, that its height is decided, or that the validator halted in between. Where memory is refused outside the
 validator, the report has to be a beginning of the stored one, and the program has to say why it ended.
 """
-
+import concurrent.futures
 import os
 import pathlib
 import subprocess
 import sys
 import tempfile
+from typing import NamedTuple
 
 HERE = pathlib.Path(__file__).resolve().parent
-PROGRAM = HERE.parent / "bin/tmsim"
 
 
-def run(library, schedule, number, counted):
-    """The status and the two texts of the run in which growth NUMBER is refused; none is for number 0."""
-    env = {"LD_PRELOAD": library, "REFUSED": str(number), "COUNTED": counted, "PATH": os.environ["PATH"]}
-    done = subprocess.run([PROGRAM, schedule.name], cwd=HERE, env=env, capture_output=True, text=True)
-    return done.returncode, done.stdout, done.stderr
+class Wanted(NamedTuple):
+    """What a run without a refusal ends with."""
+
+    status: int
+    report: list
+    errors: str
+
+
+class Growths:
+    """The runs of one program with a growth refused."""
+
+    def __init__(self, program, work):
+        self.program, self.work = program, work
+        self.library = f"{work}/refuse.so"
+        subprocess.run(["gcc", "-O1", "-shared", "-fPIC", "-o", self.library, HERE / "refuse.c", "-ldl"], check=True)
+
+    def run(self, schedule, number):
+        """The status and the two texts of the run in which growth NUMBER is refused, and how many there were; none is for number 0."""
+        counted = pathlib.Path(f"{self.work}/counted.{number}")
+        env = {"LD_PRELOAD": self.library, "REFUSED": str(number), "COUNTED": str(counted), "PATH": os.environ["PATH"]}
+        done = subprocess.run([self.program, schedule.name], cwd=HERE, env=env, capture_output=True, text=True, check=False)
+        growths = int(counted.read_text(encoding="ascii"))
+        counted.unlink()
+        return done.returncode, done.stdout, done.stderr, growths
+
+
+def text_of(file, other):
+    return file.read_text(encoding="ascii") if file.exists() else other
+
+
+def wanted_of(schedule):
+    return Wanted(int(text_of(schedule.with_suffix(".status"), "0")), text_of(schedule.with_suffix(".report"), "").splitlines(),
+                  text_of(schedule.with_suffix(".errors"), ""))
 
 
 def without_refusal(lines):
@@ -40,35 +68,41 @@ def without_refusal(lines):
 
 
 def is_right(status, out, err, wanted):
-    lines = out.splitlines()
-    if status == 0:
-        return wanted in without_refusal(lines) and err == ""
+    told = without_refusal(out.splitlines())
+    if status == wanted.status and err == wanted.errors:
+        return wanted.report in told
     said = err == "tmsim: out of memory\n" if status == 4 else err.endswith(": fault 5\n") and status == 3
-    return said and any(told == wanted[: len(told)] for told in without_refusal(lines))
+    return said and any(lines == wanted.report[: len(lines)] for lines in told)
+
+
+def refuse_each(growths, schedule, pool):
+    """Tells of the runs of one schedule, and returns how many were wrong."""
+    wanted = wanted_of(schedule)
+    status, out, err, count = growths.run(schedule, 0)
+    bad = [] if is_right(status, out, err, wanted) else [0]
+    settled = told_of = 0
+    numbers = range(1, count + 1)
+    for number, (status, out, err, _) in zip(numbers, pool.map(lambda number: growths.run(schedule, number), numbers)):
+        settled += status == wanted.status and err == wanted.errors
+        told_of += " refuses 16" in out
+        if not is_right(status, out, err, wanted):
+            bad.append(number)
+    print(f"{schedule.name}: {count} growths refused in turn, {settled} runs to the end, {told_of} with a refusal told, wrong at {bad or 'none'}",
+          flush=True)
+    return len(bad)
 
 
 def main():
-    schedules = [pathlib.Path(name).resolve() for name in sys.argv[1:]] or sorted(HERE.glob("*.txt"))
-    wrong = 0
-    with tempfile.TemporaryDirectory() as work:
-        library, counted = f"{work}/refuse.so", f"{work}/counted"
-        subprocess.run(["gcc", "-O1", "-shared", "-fPIC", "-o", library, HERE / "refuse.c", "-ldl"], check=True)
-        for schedule in schedules:
-            wanted = schedule.with_suffix(".report").read_text().splitlines()
-            status, out, err = run(library, schedule, 0, counted)
-            growths = int(pathlib.Path(counted).read_text())
-            settled = told_of = 0
-            bad = [] if is_right(status, out, err, wanted) else [0]
-            for number in range(1, growths + 1):
-                status, out, err = run(library, schedule, number, counted)
-                settled += status == 0
-                told_of += " refuses 16" in out
-                if not is_right(status, out, err, wanted):
-                    bad.append(number)
-            wrong += len(bad)
-            print(f"{schedule.name}: {growths} growths refused in turn, {settled} runs to the end, "
-                  f"{told_of} with a refusal told, wrong at {bad or 'none'}")
-    sys.exit(1 if wrong else 0)
+    words = sys.argv[1:]
+    program = HERE.parent / "bin/tmsim"
+    if words[:1] == ["--with"]:
+        program, words = pathlib.Path(words[1]).resolve(), words[2:]
+    schedules = [pathlib.Path(name).resolve() for name in words] or sorted(HERE.glob("*.txt"))
+    with tempfile.TemporaryDirectory() as work, concurrent.futures.ThreadPoolExecutor(os.cpu_count()) as pool:
+        growths = Growths(program, work)
+        wrong = sum(refuse_each(growths, schedule, pool) for schedule in schedules)
+    return 1 if wrong else 0
 
 
-main()
+if __name__ == "__main__":
+    sys.exit(main())

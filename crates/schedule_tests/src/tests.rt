@@ -5,7 +5,6 @@ mod faults;
 mod refusals;
 mod running;
 mod streams;
-mod worked;
 
 use schedule_text::simulate;
 use std::alloc::{AllocError, Global};

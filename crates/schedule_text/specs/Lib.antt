@@ -1,9 +1,6 @@
 pub mod Failures
 pub mod Numbers
 pub mod Names
-pub mod Sets
-pub mod Keys
-pub mod KeyFile
+pub mod Values
 pub mod Lines
-pub mod Events
-pub mod SenderKeys
+pub mod Runs

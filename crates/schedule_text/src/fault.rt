@@ -2,7 +2,7 @@
 
 use std::alloc::{AllocError, AllocFailed};
 use std::fmt;
-use thiserror::Error;
+use world_parties::FaultNumber;
 
 /// Why a line isn't one of a schedule.
 #[derive(Clone, Copy)]
@@ -23,12 +23,22 @@ impl LineFault {
 }
 
 impl From<AllocError> for LineFault {
+    ghost use Rattle.std.specs.Prelude.{◌≡◌};
+    ghost use Rattle.schedule_text.specs.declared.fault.LineFault.TheVariants.{OutOfMemory};
+
+    ghost from_gives = { λ _ fault. fault ≡ OutOfMemory };
+
     fn from(_e: AllocError) -> LineFault {
         LineFault::OutOfMemory
     }
 }
 
 impl<T: Drop> From<AllocFailed<T>> for LineFault {
+    ghost use Rattle.std.specs.Prelude.{◌≡◌};
+    ghost use Rattle.schedule_text.specs.declared.fault.LineFault.TheVariants.{OutOfMemory};
+
+    ghost from_gives = { λ _ fault. fault ≡ OutOfMemory };
+
     fn from(_e: AllocFailed<T>) -> LineFault {
         LineFault::OutOfMemory
     }
@@ -42,41 +52,6 @@ pub(crate) enum ReadFault {
     OutOfMemory,
 }
 
-/// Why an event can't happen, and its number in a report.
-#[derive(Clone, Copy, Debug, Error, PartialEq, Eq)]
-pub enum EventFault {
-    /// It names no validator.
-    #[error("no such validator")]
-    NoSuchParty = 2,
-    /// What it is about has no spelling.
-    #[error("it cannot be spelled")]
-    TooLong = 4,
-    #[error("out of memory")]
-    OutOfMemory = 5,
-}
-
-impl From<AllocError> for EventFault {
-    ghost use Rattle.std.specs.Prelude.{◌≡◌};
-    ghost use Rattle.schedule_text.specs.declared.fault.EventFault.TheVariants.{OutOfMemory};
-
-    ghost from_gives = { λ _ e. e ≡ OutOfMemory };
-
-    fn from(_e: AllocError) -> EventFault {
-        EventFault::OutOfMemory
-    }
-}
-
-impl<T: Drop> From<AllocFailed<T>> for EventFault {
-    ghost use Rattle.std.specs.Prelude.{◌≡◌};
-    ghost use Rattle.schedule_text.specs.declared.fault.EventFault.TheVariants.{OutOfMemory};
-
-    ghost from_gives = { λ _ e. e ≡ OutOfMemory };
-
-    fn from(_e: AllocFailed<T>) -> EventFault {
-        EventFault::OutOfMemory
-    }
-}
-
 /// Why the program ends early: the text that it tells on standard error, and its exit status.
 #[derive(Clone, Copy, Debug)]
 pub enum Failure<'a> {
@@ -87,7 +62,7 @@ pub enum Failure<'a> {
     /// The first bad line, from 1 on.
     BadLine(usize),
     /// The event, of the executed lines from 1 on, and why it can't happen.
-    Event(usize, EventFault),
+    Event(u64, FaultNumber),
     OutOfMemory,
     /// A write failed.
     CannotWrite,
@@ -137,5 +112,16 @@ impl From<ReadFault> for Failure<'_> {
             ReadFault::BadLine(line) => Failure::BadLine(line),
             ReadFault::OutOfMemory => Failure::OutOfMemory,
         }
+    }
+}
+
+impl From<AllocError> for Failure<'_> {
+    ghost use Rattle.std.specs.Prelude.{◌≡◌};
+    ghost use Rattle.schedule_text.specs.declared.fault.Failure.TheVariants.{OutOfMemory};
+
+    ghost from_gives = { λ _ failure. failure ≡ OutOfMemory };
+
+    fn from(_e: AllocError) -> Self {
+        Failure::OutOfMemory
     }
 }

@@ -1,50 +1,22 @@
 //! Names, bytes and items as words.
 
-ghost use Rattle.std.specs.Prelude.{◌≡◌, ◌≤◌, IfSome, is_some};
+ghost use Rattle.std.specs.Prelude.{◌≡◌, true, false, IfOk, IfSome, IsErrOf, is_some, nat_lt};
 ghost use Rattle.std.specs.List.{list_all};
 ghost use Rattle.std.specs.Char.{is_ascii_uppercase};
 ghost use Rattle.schedule_text.specs.Names.{is_name};
-ghost use Rattle.schedule_text.specs.Sets.{is_right_for};
 
 use crate::fault::LineFault;
 use crate::numbers::{list_in, number_in, number_in_u16};
 use crate::words::words_between;
-use crate::world::ValidatorSet;
 use std::alloc::Global;
 use transactions::{Item, Op, Seq};
+use world_parties::{Parties, Tagged};
 
 /// The greatest number of bytes in an item.
 const MOST_BYTES: usize = 1024;
 
 /// The greatest number of letters in a name.
 const MOST_LETTERS: usize = 8;
-
-/// Which tags of a transaction are right; the others are zeros.
-#[derive(Clone, Copy)]
-pub(crate) enum RightTags {
-    All,
-    /// Those for these validators.
-    For(ValidatorSet),
-}
-
-impl RightTags {
-    /// Whether the tag for this validator is right.
-    pub(crate) fn includes(&self, validator: u16) -> bool
-        ensures { result ≡ is_right_for self.now validator }
-    {
-        match self {
-            RightTags::All => true,
-            RightTags::For(validators) => validators.contains(u64::from(validator)),
-        }
-    }
-}
-
-/// A transaction as a line has it.
-#[derive(Drop)]
-pub(crate) struct Tagged {
-    pub(crate) item: Item,
-    pub(crate) right: RightTags,
-}
 
 /// The name that the word is: one to eight letters A to Z.
 #[tactic(auto, using(crate::proofs::Letters::letters_are_text))]
@@ -64,30 +36,58 @@ fn all_letters(word: &[u8]) -> bool
     word.iter().all(|byte| byte.is_ascii_uppercase())
 }
 
+/// The transactions that the words are.
+pub(crate) fn items_in(
+    alloc: Global,
+    words: &[&[u8]],
+    parties: &Parties,
+) -> Result<Vec<Tagged>, LineFault> {
+    let mut items = Vec::with_capacity(alloc, words.len())?;
+    for word in words {
+        items.push(tagged_in(alloc, word, parties)?)?;
+    }
+    Ok(items)
+}
+
 /// The transaction that the word is: an item, which may have `/LIST` behind it, the validators for
 /// whom its tags are right.
-pub(crate) fn tagged_in(alloc: Global, word: &[u8], validators: u16) -> Result<Tagged, LineFault>
-    requires { validators ≤ 64 }
-{
+pub(crate) fn tagged_in(
+    alloc: Global,
+    word: &[u8],
+    parties: &Parties,
+) -> Result<Tagged, LineFault> {
     let Some(end) = word.iter().position(|byte| *byte == b'/') else {
         return Ok(Tagged {
-            right: RightTags::All,
             item: item_in(alloc, word)?,
+            right: None,
         });
     };
-    let members = members_in(alloc, &word[end + 1..], validators)?;
+    let right = members_in(alloc, &word[end + 1..], parties.count())?;
     Ok(Tagged {
-        right: RightTags::For(members),
         item: item_in(alloc, &word[..end])?,
+        right: Some(right),
     })
 }
 
 /// The validators of a list.
-fn members_in(alloc: Global, word: &[u8], validators: u16) -> Result<ValidatorSet, LineFault>
-    requires { validators ≤ 64 }
-{
+fn members_in(alloc: Global, word: &[u8], validators: u16) -> Result<Seq<u16>, LineFault> {
     let numbers = list_in(alloc, word)?;
-    ValidatorSet::new(validators, &numbers).ok_or(LineFault::BadLine)
+    members_of(alloc, &numbers, validators)
+}
+
+/// The validators with these numbers.
+fn members_of(alloc: Global, numbers: &[u64], validators: u16) -> Result<Seq<u16>, LineFault>
+    ensures ok { IfOk result (λ members. (members ≡ numbers.now) × (list_all (λ number. nat_lt number validators) numbers.now ≡ true)) }
+    ensures err { IsErrOf result LineFault.BadLine → list_all (λ number. nat_lt number validators) numbers.now ≡ false }
+{
+    let mut members = Vec::with_capacity(alloc, numbers.len())?;
+    for number in numbers {
+        if *number >= u64::from(validators) {
+            return Err(LineFault::BadLine);
+        }
+        members.push(*number as u16)?;
+    }
+    Ok(Seq::from_vec(members))
 }
 
 /// The item that the word is.
@@ -103,29 +103,31 @@ fn item_of(alloc: Global, words: &[&[u8]]) -> Result<Item, LineFault> {
     };
     let client = number_in_u16(client).ok_or(LineFault::BadLine)?;
     let number = number_in(number).ok_or(LineFault::BadLine)?;
-    let op = op_in(alloc, op)?;
+    let op = match *op {
+        b"close" => Op::Close,
+        bytes => sent_in(alloc, bytes)?,
+    };
     Ok(Item { client, number, op })
 }
 
-/// What an item asks for: bytes, or a close.
-fn op_in(alloc: Global, word: &[u8]) -> Result<Op, LineFault> {
-    match word {
-        b"close" => Ok(Op::Close),
-        _ if word.len() > 2 * MOST_BYTES => Err(LineFault::BadLine),
-        _ => Ok(Op::Bytes(Seq::from_vec(bytes_in(alloc, word)?))),
+/// The bytes that a client sends.
+pub(crate) fn sent_in(alloc: Global, word: &[u8]) -> Result<Op, LineFault> {
+    if word.len() > 2 * MOST_BYTES {
+        return Err(LineFault::BadLine);
     }
+    Ok(Op::Bytes(bytes_in(alloc, word)?))
 }
 
 /// The bytes that the word is: two digits for each, or `-` for none.
-pub(crate) fn bytes_in(alloc: Global, word: &[u8]) -> Result<Vec<u8>, LineFault> {
+pub(crate) fn bytes_in(alloc: Global, word: &[u8]) -> Result<Seq<u8>, LineFault> {
     if word == b"-".as_slice() {
-        return Ok(Vec::new(alloc));
+        return Ok(Seq::new(alloc));
     }
     if word.is_empty() || !word.iter().all(|byte| is_digit(*byte)) {
         return Err(LineFault::BadLine);
     }
     match hex::decode(alloc, word) {
-        Ok(bytes) => Ok(bytes),
+        Ok(bytes) => Ok(Seq::from_vec(bytes)),
         Err(hex::FromHexError::OutOfMemory) => Err(LineFault::OutOfMemory),
         Err(_) => Err(LineFault::BadLine),
     }

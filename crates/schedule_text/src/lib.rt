@@ -1,5 +1,4 @@
-//! Schedules as texts: what comes to the validators of a world, line by line, and the report of the
-//! run.
+//! Schedules as texts: what is done to a world of validators and clients, line by line, and the report of the run.
 //!
 //! A schedule is a text of lines, each ended by a line feed; the last may lack it. An empty line
 //! and one that begins with `#` are skipped. Any other line is words with single spaces between
@@ -15,10 +14,13 @@
 //!   every validator; with `/LIST` behind it, for the listed ones alone, and the others are zeros.
 //!   With no item it is the empty value.
 //!
-//! Then the world begins, and the executed lines follow:
+//! Then the world begins, and the executed lines follow, each an event of it:
 //!
-//! - `propose S P H R VR NAME`: liar S's proposal of height H and round R comes to the correct
-//!   validator P. VR, the valid round, is -1 for none.
+//! - `send C BYTES` and `close C`: client C sends its next transaction, which is a message with a number.
+//! - `deliver M P`: message number M comes to the correct validator P.
+//! - `pass`: each message so far comes to each correct validator but its sender to which it wasn't brought.
+//! - `propose S P H R VR NAME`: liar S's proposal of height H and round R comes to P. VR, the valid round, is -1
+//!   for none.
 //! - `vote S P KIND H R CONTENT`: liar S's vote comes to P. KIND is `prevote` or `precommit`, and
 //!   CONTENT a name or `nil`.
 //! - `bundle S P H R NAME IDNAME LIST`: liar S's bundle comes to P: the value NAME under the id of
@@ -35,29 +37,24 @@
 //!   Each such line counts by itself; where several come at one call, the latest tells what stays. Where P can't be opened
 //!   again for it, P refuses all as one that has halted, until it is opened.
 //!
-//! What comes, comes as a frame, with right tags but where an item says otherwise. The key of what
-//! FROM sends to TO is the SHA-256 digest of the text `tmsim FROM TO`, as `tmsim c7 v2`.
+//! One line is no event: `state P` tells how P stands, and which proposals it keeps.
 //!
-//! One correct validator is wanted so far: while there isn't exactly one, no line after the first
-//! three is taken.
+//! What comes, comes as a frame, with right tags but where an item says otherwise. The keys, the messages, the calls of the
+//! validators and what is told are those of a `World`.
 #![tactic(auto)]
 
-mod event;
+mod cast;
 mod fault;
 mod items;
-mod keys;
 mod lines;
 mod numbers;
 mod program;
 mod report;
 mod running;
 mod schedule;
-mod sender_keys;
-mod senders;
-mod validator;
+mod standing;
 mod values;
 mod words;
-mod world;
 
-pub use fault::{EventFault, Failure};
+pub use fault::Failure;
 pub use program::{HELP, simulate};

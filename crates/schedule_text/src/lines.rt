@@ -1,237 +1,313 @@
-//! The forms of lines, each by the words behind its first one.
+//! The forms of executed lines, each by the words behind its first one.
 //!
-//! A validator's number in an executed line is read at any length: one that is too large is no
-//! validator's.
+//! A number of a message, of a validator or of a client is read at any length: one that is too large is nobody's.
 
-ghost use Rattle.std.specs.Prelude.{◌≤◌};
+ghost use Rattle.std.specs.Prelude.{◌≡◌, true, false, Some, IfOk, IfSome, OnOk};
+ghost use Rattle.std.specs.List.{list_all};
+ghost use Rattle.world_parties.specs.Cast.{Cast, is_liar};
+ghost use Rattle.schedule_text.specs.Lines.{receiver, sender, is_no_correct, allows};
 
-use crate::event::{Bundling, Event, Failing, Input, Proposing, Voting};
 use crate::fault::LineFault;
-use crate::items::{Tagged, bytes_in, name_in, tagged_in};
-use crate::numbers::{count_in, counts_in, list_in, number_in, number_in_u16, number_in_u32};
+use crate::items::{bytes_in, name_in, sent_in, tagged_in};
+use crate::numbers::{count_in, list_in, number_in, number_in_u32};
 use crate::values::Values;
 use crate::words::is_word;
-use crate::world::{Clients, ValidatorSet};
 use messages::Step;
 use protocol::Timeout;
 use std::alloc::Global;
+use transactions::{Duplicate, Op, Seq, Value};
+use world_parties::{Bundling, Parties, Proposing, Voting};
+use world_schedule::{Event, Failing};
 
-/// The greatest number of clients.
-const MOST_CLIENTS: u16 = 1024;
-
-/// Whether the line says nothing: it is empty, or begins with `#`.
-pub(crate) fn is_skipped(line: &[u8]) -> bool {
-    matches!(line, [] | [b'#', ..])
+/// What executed lines are read with.
+#[derive(Clone, Copy)]
+pub(crate) struct Forms<'a> {
+    pub(crate) alloc: Global,
+    pub(crate) parties: &'a Parties,
+    pub(crate) values: &'a Values,
 }
 
-/// `P P ..`
-pub(crate) fn powers_in(alloc: Global, words: &[&[u8]]) -> Result<Vec<u32>, LineFault> {
-    let mut powers = Vec::with_capacity(alloc, words.len())?;
-    for word in words {
-        let power = number_in_u32(word).ok_or(LineFault::BadLine)?;
-        powers.push(power)?;
+impl Forms<'_> {
+    /// The event of an executed line.
+    pub(crate) fn event(&self, kind: &[u8], words: &[&[u8]]) -> Result<Event, LineFault>
+        ensures { IfOk result (λ event. allows self.now.parties.now event ≡ true) }
+    {
+        if is_word(kind, "propose") {
+            self.propose(words)
+        } else if is_word(kind, "vote") {
+            self.vote(words)
+        } else if is_word(kind, "bundle") {
+            self.bundle(words)
+        } else if is_word(kind, "tx") {
+            self.tx(words)
+        } else if is_word(kind, "raw") {
+            self.raw(words)
+        } else if is_word(kind, "send") {
+            self.send(words)
+        } else {
+            self.bare_event(kind, words).ok_or(LineFault::BadLine)
+        }
     }
-    Ok(powers)
-}
 
-/// `N`
-pub(crate) fn clients_in(words: &[&[u8]]) -> Option<Clients> {
-    let [count] = words else {
-        return None;
-    };
-    let count = number_in_u16(count)?;
-    if count == 0 || count > MOST_CLIENTS {
-        return None;
+    /// An executed line of a form that has no value, item or bytes.
+    fn bare_event(&self, kind: &[u8], words: &[&[u8]]) -> Option<Event>
+        ensures { IfSome result (λ event. allows self.now.parties.now event ≡ true) }
+    {
+        if is_word(kind, "pass") {
+            pass_line(words)
+        } else if is_word(kind, "deliver") {
+            self.deliver(words)
+        } else if is_word(kind, "timeout") {
+            self.timeout(words)
+        } else if is_word(kind, "fail") {
+            self.fail(words)
+        } else if is_word(kind, "close") {
+            close_line(words)
+        } else {
+            self.asked(kind, words)
+        }
     }
-    Some(Clients { count })
+
+    /// `ask P`, `resend P` or `restart P`
+    fn asked(&self, kind: &[u8], words: &[&[u8]]) -> Option<Event>
+        ensures { IfSome result (λ event. allows self.now.parties.now event ≡ true) }
+    {
+        let [receiver] = words else {
+            return None;
+        };
+        let receiver = self.receiver(receiver)?;
+        if is_word(kind, "ask") {
+            Some(Event::Ask(receiver))
+        } else if is_word(kind, "resend") {
+            Some(Event::Resend(receiver))
+        } else if is_word(kind, "restart") {
+            Some(Event::Restart(receiver))
+        } else {
+            None
+        }
+    }
+
+    /// `deliver M P`
+    fn deliver(&self, words: &[&[u8]]) -> Option<Event>
+        ensures { IfSome result (λ event. allows self.now.parties.now event ≡ true) }
+    {
+        let [number, receiver] = words else {
+            return None;
+        };
+        let number = count_in(number)?;
+        Some(Event::Deliver(number, self.receiver(receiver)?))
+    }
+
+    /// `timeout P KIND H R`
+    fn timeout(&self, words: &[&[u8]]) -> Option<Event>
+        ensures { IfSome result (λ event. allows self.now.parties.now event ≡ true) }
+    {
+        let [receiver, kind, height, round] = words else {
+            return None;
+        };
+        let receiver = self.receiver(receiver)?;
+        let timeout = Timeout {
+            kind: timeout_step_in(kind)?,
+            height: number_in(height)?,
+            round: number_in_u32(round)?,
+        };
+        Some(Event::Timeout(receiver, timeout))
+    }
+
+    /// `fail P CALL KEEP`
+    fn fail(&self, words: &[&[u8]]) -> Option<Event>
+        ensures { IfSome result (λ event. allows self.now.parties.now event ≡ true) }
+    {
+        let [receiver, call, keep] = words else {
+            return None;
+        };
+        let receiver = self.receiver(receiver)?;
+        let failing = Failing {
+            call: count_in(call)?,
+            keep: keep_in(keep)?,
+        };
+        Some(Event::Fail(receiver, failing))
+    }
+
+    /// `propose S P H R VR NAME`
+    fn propose(&self, words: &[&[u8]]) -> Result<Event, LineFault>
+        ensures { IfOk result (λ event. allows self.now.parties.now event ≡ true) }
+    {
+        let [sender, receiver, height, round, valid_round, name] = words else {
+            return Err(LineFault::BadLine);
+        };
+        let (sender, receiver) = self.liar_to(sender, receiver).ok_or(LineFault::BadLine)?;
+        let (height, round) = height_and_round_in(height, round).ok_or(LineFault::BadLine)?;
+        let line = Proposing {
+            sender,
+            height,
+            round,
+            valid_round: valid_round_in(valid_round).ok_or(LineFault::BadLine)?,
+            value: self.value(name)?,
+        };
+        Ok(Event::Propose(receiver, line))
+    }
+
+    /// `vote S P KIND H R CONTENT`
+    fn vote(&self, words: &[&[u8]]) -> Result<Event, LineFault>
+        ensures { IfOk result (λ event. allows self.now.parties.now event ≡ true) }
+    {
+        let [sender, receiver, kind, height, round, content] = words else {
+            return Err(LineFault::BadLine);
+        };
+        let (sender, receiver) = self.liar_to(sender, receiver).ok_or(LineFault::BadLine)?;
+        let (height, round) = height_and_round_in(height, round).ok_or(LineFault::BadLine)?;
+        let line = Voting {
+            sender,
+            step: vote_step_in(kind).ok_or(LineFault::BadLine)?,
+            height,
+            round,
+            value: self.content(content)?,
+        };
+        Ok(Event::Vote(receiver, line))
+    }
+
+    /// `bundle S P H R NAME IDNAME LIST`
+    fn bundle(&self, words: &[&[u8]]) -> Result<Event, LineFault>
+        ensures { IfOk result (λ event. allows self.now.parties.now event ≡ true) }
+    {
+        let [sender, receiver, height, round, name, named, signers] = words else {
+            return Err(LineFault::BadLine);
+        };
+        let (sender, receiver) = self.liar_to(sender, receiver).ok_or(LineFault::BadLine)?;
+        let (height, round) = height_and_round_in(height, round).ok_or(LineFault::BadLine)?;
+        let line = Bundling {
+            sender,
+            height,
+            round,
+            value: self.value(name)?,
+            named: self.value(named)?,
+            signers: self.signers(signers)?,
+        };
+        Ok(Event::Bundle(receiver, line))
+    }
+
+    /// `tx P ITEM`
+    fn tx(&self, words: &[&[u8]]) -> Result<Event, LineFault>
+        ensures { IfOk result (λ event. allows self.now.parties.now event ≡ true) }
+    {
+        let [receiver, item] = words else {
+            return Err(LineFault::BadLine);
+        };
+        let receiver = self.receiver(receiver).ok_or(LineFault::BadLine)?;
+        let line = tagged_in(self.alloc, item, self.parties)?;
+        Ok(Event::Submit(receiver, line))
+    }
+
+    /// `raw P BYTES`
+    fn raw(&self, words: &[&[u8]]) -> Result<Event, LineFault>
+        ensures { IfOk result (λ event. allows self.now.parties.now event ≡ true) }
+    {
+        let [receiver, bytes] = words else {
+            return Err(LineFault::BadLine);
+        };
+        let receiver = self.receiver(receiver).ok_or(LineFault::BadLine)?;
+        Ok(Event::Frame(receiver, bytes_in(self.alloc, bytes)?))
+    }
+
+    /// `send C BYTES`
+    fn send(&self, words: &[&[u8]]) -> Result<Event, LineFault>
+        ensures { IfOk result (λ event. allows self.now.parties.now event ≡ true) }
+    {
+        let [client, bytes] = words else {
+            return Err(LineFault::BadLine);
+        };
+        let client = count_in(client).ok_or(LineFault::BadLine)?;
+        Ok(Event::Send(client, sent_in(self.alloc, bytes)?))
+    }
+
+    /// `P`: a correct validator, or a number that is no validator's.
+    fn receiver(&self, word: &[u8]) -> Option<u64>
+        ensures exact { result ≡ receiver self.now.parties.now word.now }
+        ensures no_liar { IfSome result (λ number. is_liar self.now.parties.now number ≡ false) }
+    {
+        let number = count_in(word)?;
+        match self.parties.liar_at(number) {
+            Ok(_) => None,
+            Err(_) => Some(number),
+        }
+    }
+
+    /// A liar, or a number that is no validator's.
+    fn is_no_correct(&self, number: u64) -> bool
+        ensures { result ≡ is_no_correct self.now.parties.now number }
+    {
+        self.parties.correct_at(number).is_err()
+    }
+
+    /// `S P`
+    fn liar_to(&self, from: &[u8], to: &[u8]) -> Option<(u64, u64)>
+        ensures exact { IfSome result (λ both. (sender self.now.parties.now from.now ≡ Some both.0) × (receiver self.now.parties.now to.now ≡ Some both.1)) }
+        ensures fit { IfSome result (λ both. (is_no_correct self.now.parties.now both.0 ≡ true) × (is_liar self.now.parties.now both.1 ≡ false)) }
+    {
+        let sender = count_in(from)?;
+        if self.is_no_correct(sender) {
+            Some((sender, self.receiver(to)?))
+        } else {
+            None
+        }
+    }
+
+    /// `LIST`, of liars.
+    fn signers(&self, word: &[u8]) -> Result<Seq<u64>, LineFault>
+        ensures { IfOk result (λ signers. list_all (is_no_correct self.now.parties.now) signers ≡ true) }
+    {
+        let signers = list_in(self.alloc, word)?;
+        self.check_signers(&signers)?;
+        Ok(Seq::from_vec(signers))
+    }
+
+    /// None of these is a correct validator.
+    fn check_signers(&self, signers: &[u64]) -> Result<(), LineFault>
+        ensures { OnOk result (list_all (is_no_correct self.now.parties.now) signers.now ≡ true) }
+    {
+        for signer in signers {
+            if !self.is_no_correct(*signer) {
+                return Err(LineFault::BadLine);
+            }
+        }
+        Ok(())
+    }
+
+    /// `NAME`
+    fn value(&self, word: &[u8]) -> Result<Value, LineFault> {
+        let name = name_in(word).ok_or(LineFault::BadLine)?;
+        let value = self.values.get(name).ok_or(LineFault::BadLine)?;
+        Ok(value.copy(self.alloc)?)
+    }
+
+    /// `nil`, or a name.
+    fn content(&self, word: &[u8]) -> Result<Option<Value>, LineFault> {
+        match word {
+            b"nil" => Ok(None),
+            _ => Ok(Some(self.value(word)?)),
+        }
+    }
 }
 
-/// `V V ..`
-pub(crate) fn liars_in(
-    alloc: Global,
-    words: &[&[u8]],
-    validators: u16,
-) -> Result<ValidatorSet, LineFault>
-    requires { validators ≤ 64 }
+fn pass_line(words: &[&[u8]]) -> Option<Event>
+    ensures { (cast : Cast) → IfSome result (λ event. allows cast event ≡ true) }
 {
     if words.is_empty() {
-        return Err(LineFault::BadLine);
-    }
-    let numbers = counts_in(alloc, words)?;
-    ValidatorSet::new(validators, &numbers).ok_or(LineFault::BadLine)
-}
-
-/// `ITEM ..`
-pub(crate) fn items_in(
-    alloc: Global,
-    words: &[&[u8]],
-    validators: u16,
-) -> Result<Vec<Tagged>, LineFault>
-    requires { validators ≤ 64 }
-{
-    let mut items = Vec::with_capacity(alloc, words.len())?;
-    for word in words {
-        items.push(tagged_in(alloc, word, validators)?)?;
-    }
-    Ok(items)
-}
-
-/// An executed line, whose names are those of these values.
-pub(crate) fn event_in(
-    alloc: Global,
-    kind: &[u8],
-    words: &[&[u8]],
-    values: &Values,
-    validators: u16,
-) -> Result<Event, LineFault>
-    requires { validators ≤ 64 }
-{
-    if is_word(kind, "bundle") {
-        bundle_line(alloc, words, values)
-    } else if is_word(kind, "tx") {
-        tx_line(alloc, words, validators)
-    } else if is_word(kind, "raw") {
-        raw_line(alloc, words)
-    } else {
-        short_event_in(kind, words, values).ok_or(LineFault::BadLine)
-    }
-}
-
-/// An executed line of a form that has no list, item or bytes.
-fn short_event_in(kind: &[u8], words: &[&[u8]], values: &Values) -> Option<Event> {
-    if is_word(kind, "propose") {
-        propose_line(words, values)
-    } else if is_word(kind, "vote") {
-        vote_line(words, values)
-    } else if is_word(kind, "timeout") {
-        timeout_line(words)
-    } else if is_word(kind, "ask") {
-        bare_line(words, Input::Ask)
-    } else if is_word(kind, "resend") {
-        bare_line(words, Input::Resend)
-    } else if is_word(kind, "restart") {
-        bare_line(words, Input::Restart)
-    } else if is_word(kind, "fail") {
-        fail_line(words)
+        Some(Event::Pass)
     } else {
         None
     }
 }
 
-/// `propose S P H R VR NAME`
-fn propose_line(words: &[&[u8]], values: &Values) -> Option<Event> {
-    let [sender, receiver, height, round, valid_round, name] = words else {
-        return None;
-    };
-    let (sender, receiver) = parties_in(sender, receiver)?;
-    let (height, round) = height_and_round_in(height, round)?;
-    Some(Event {
-        receiver,
-        input: Input::Propose(Proposing {
-            sender,
-            height,
-            round,
-            valid_round: valid_round_in(valid_round)?,
-            value: place_in(name, values)?,
-        }),
-    })
-}
-
-/// `vote S P KIND H R CONTENT`
-fn vote_line(words: &[&[u8]], values: &Values) -> Option<Event> {
-    let [sender, receiver, kind, height, round, content] = words else {
-        return None;
-    };
-    let (sender, receiver) = parties_in(sender, receiver)?;
-    let (height, round) = height_and_round_in(height, round)?;
-    Some(Event {
-        receiver,
-        input: Input::Vote(Voting {
-            sender,
-            step: vote_step_in(kind)?,
-            height,
-            round,
-            value: content_in(content, values)?,
-        }),
-    })
-}
-
-/// `bundle S P H R NAME IDNAME LIST`
-fn bundle_line(alloc: Global, words: &[&[u8]], values: &Values) -> Result<Event, LineFault> {
-    let [sender, receiver, height, round, name, named, signers] = words else {
-        return Err(LineFault::BadLine);
-    };
-    let (sender, receiver) = parties_in(sender, receiver).ok_or(LineFault::BadLine)?;
-    let (height, round) = height_and_round_in(height, round).ok_or(LineFault::BadLine)?;
-    let (value, named) = places_in(name, named, values).ok_or(LineFault::BadLine)?;
-    let signers = list_in(alloc, signers)?;
-    Ok(Event {
-        receiver,
-        input: Input::Bundle(Bundling {
-            sender,
-            height,
-            round,
-            value,
-            named,
-            signers,
-        }),
-    })
-}
-
-/// `tx P ITEM`
-fn tx_line(alloc: Global, words: &[&[u8]], validators: u16) -> Result<Event, LineFault>
-    requires { validators ≤ 64 }
+/// `close C`
+fn close_line(words: &[&[u8]]) -> Option<Event>
+    ensures { (cast : Cast) → IfSome result (λ event. allows cast event ≡ true) }
 {
-    let [receiver, item] = words else {
-        return Err(LineFault::BadLine);
-    };
-    let receiver = count_in(receiver).ok_or(LineFault::BadLine)?;
-    Ok(Event {
-        receiver,
-        input: Input::Submit(tagged_in(alloc, item, validators)?),
-    })
-}
-
-/// `raw P BYTES`
-fn raw_line(alloc: Global, words: &[&[u8]]) -> Result<Event, LineFault> {
-    let [receiver, bytes] = words else {
-        return Err(LineFault::BadLine);
-    };
-    let receiver = count_in(receiver).ok_or(LineFault::BadLine)?;
-    Ok(Event {
-        receiver,
-        input: Input::Frame(bytes_in(alloc, bytes)?),
-    })
-}
-
-/// `timeout P KIND H R`
-fn timeout_line(words: &[&[u8]]) -> Option<Event> {
-    let [receiver, kind, height, round] = words else {
+    let [client] = words else {
         return None;
     };
-    let (height, round) = height_and_round_in(height, round)?;
-    Some(Event {
-        receiver: count_in(receiver)?,
-        input: Input::Timeout(Timeout {
-            kind: timeout_step_in(kind)?,
-            height,
-            round,
-        }),
-    })
-}
-
-/// `fail P CALL KEEP`
-fn fail_line(words: &[&[u8]]) -> Option<Event> {
-    let [receiver, call, keep] = words else {
-        return None;
-    };
-    Some(Event {
-        receiver: count_in(receiver)?,
-        input: Input::Fail(Failing {
-            call: count_in(call)?,
-            keep: keep_in(keep)?,
-        }),
-    })
+    Some(Event::Send(count_in(client)?, Op::Close))
 }
 
 /// `-` for no bytes, or how many.
@@ -242,30 +318,9 @@ fn keep_in(word: &[u8]) -> Option<u64> {
     }
 }
 
-/// `ask P`, `resend P` or `restart P`
-fn bare_line(words: &[&[u8]], input: Input) -> Option<Event> {
-    let [receiver] = words else {
-        return None;
-    };
-    Some(Event {
-        receiver: count_in(receiver)?,
-        input,
-    })
-}
-
-/// `S P`
-fn parties_in(sender: &[u8], receiver: &[u8]) -> Option<(u64, u64)> {
-    Some((count_in(sender)?, count_in(receiver)?))
-}
-
 /// `H R`
 fn height_and_round_in(height: &[u8], round: &[u8]) -> Option<(u64, u32)> {
     Some((number_in(height)?, number_in_u32(round)?))
-}
-
-/// `NAME IDNAME`
-fn places_in(name: &[u8], named: &[u8], values: &Values) -> Option<(usize, usize)> {
-    Some((place_in(name, values)?, place_in(named, values)?))
 }
 
 /// -1 for none, or a round.
@@ -296,17 +351,4 @@ fn timeout_step_in(word: &[u8]) -> Option<protocol::Step> {
     } else {
         None
     }
-}
-
-/// `nil`, or the name of a value.
-fn content_in(word: &[u8], values: &Values) -> Option<Option<usize>> {
-    match word {
-        b"nil" => Some(None),
-        _ => Some(Some(place_in(word, values)?)),
-    }
-}
-
-/// The place of the value with this name.
-fn place_in(word: &[u8], values: &Values) -> Option<usize> {
-    values.place_of(name_in(word)?)
 }

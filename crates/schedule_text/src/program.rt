@@ -1,21 +1,22 @@
 //! The program, after its file was opened.
 
-ghost use Rattle.std.specs.Prelude.{◌≡◌, ◌≢◌, ◌≤◌, ◌⊎◌, IfErr, OnOk};
+ghost use Rattle.std.specs.Prelude.{◌≡◌, ◌≢◌, ◌≤◌, ◌⊎◌, [], IfOk, IfErr, OnOk};
+ghost use Rattle.world_schedule.specs.Serving.{AreServed};
+ghost use Rattle.schedule_text.specs.Runs.{IsRunOf};
 ghost use Rattle.std.specs.Io.KnownBytes.{IsAtEnd};
 ghost use Rattle.schedule_text.specs.Failures.{status_of};
 
-use crate::fault::{EventFault, Failure};
-use crate::report::{EndLine, ReportLine, Told};
-use crate::running::Run;
+use crate::fault::Failure;
+use crate::running::{Run, write_ends};
 use crate::schedule::Schedule;
-use crate::values::Values;
 use std::alloc::Global;
+use std::io;
 use std::io::{BufRead, ErrorKind, Write};
-use std::{fmt, io};
+use world_schedule::Report;
 
 /// What the program is for, and how it is called.
 pub const HELP: &str = "\
-tmsim reads a schedule of what comes to a validator, and prints the report of its run.
+tmsim reads a schedule of what is done to a world of validators and clients, and prints the report of its run.
 
 usage: tmsim FILE
 ";
@@ -112,7 +113,7 @@ fn run<'a, W: Write>(alloc: Global, schedule: &Schedule, out: &mut W) -> Result<
     told
 }
 
-/// Writes the report of a schedule's run, line by line.
+/// Writes the report of a schedule's run.
 fn write_report<'a, W: Write>(
     alloc: Global,
     schedule: &Schedule,
@@ -120,62 +121,21 @@ fn write_report<'a, W: Write>(
 ) -> Result<(), Failure<'a>>
     ensures { IfErr result (λ failure. status_of failure ≢ 2) }
 {
-    match Run::new(alloc, schedule) {
-        Ok(mut run) => tell(&mut run, schedule, out),
-        Err(_) => Err(Failure::OutOfMemory),
-    }
+    let report = reported(alloc, schedule, out)?;
+    write_ends(report.ends.as_slice(), out)
 }
 
-/// Tells of the beginning and of each event, line by line, and where the validator stands at the end.
-fn tell<'a, W: Write>(run: &mut Run, schedule: &Schedule, out: &mut W) -> Result<(), Failure<'a>>
-    ensures { IfErr result (λ failure. status_of failure ≢ 2) }
-{
-    write_outcome(0, run.begin(), &schedule.values, out)?;
-    for (before, event) in schedule.events.iter().enumerate() {
-        write_outcome(before + 1, run.happen(event), &schedule.values, out)?;
-    }
-    let (me, validator) = (run.me(), run.validator());
-    write_line(&EndLine { me, validator }, out)
-}
-
-/// Writes what there is to tell of the event with this number, or answers its failure.
-fn write_outcome<'a, W: Write>(
-    number: usize,
-    outcome: Result<Vec<Told>, EventFault>,
-    values: &Values,
+/// Runs a schedule, and writes what is told of it up to the ends. The world's report of the events behind the last state that
+/// is told is the answer: without any, that of the whole.
+fn reported<'a, W: Write>(
+    alloc: Global,
+    schedule: &Schedule,
     out: &mut W,
-) -> Result<(), Failure<'a>>
-    ensures { IfErr result (λ failure. status_of failure ≢ 2) }
+) -> Result<Report, Failure<'a>>
+    ensures quiet { IfErr result (λ failure. status_of failure ≢ 2) }
+    ensures whole { schedule.now.stretches.items ≡ [] → IfOk result (λ report. AreServed report.told → IsRunOf schedule.now report) }
 {
-    let told = at_event(number, outcome)?;
-    write_all(&told, values, out)
-}
-
-/// A fault becomes the failure of the event with this number.
-fn at_event<'a, T>(number: usize, outcome: Result<T, EventFault>) -> Result<T, Failure<'a>>
-    ensures { IfErr result (λ failure. status_of failure ≡ 3) }
-{
-    match outcome {
-        Ok(done) => Ok(done),
-        Err(fault) => Err(Failure::Event(number, fault)),
-    }
-}
-
-fn write_all<'a, W: Write>(told: &[Told], values: &Values, out: &mut W) -> Result<(), Failure<'a>>
-    ensures { IfErr result (λ failure. status_of failure ≢ 2) }
-{
-    for told in told {
-        write_line(&ReportLine { told, values }, out)?;
-    }
-    Ok(())
-}
-
-/// Writes a line, and its line feed.
-fn write_line<'a, L: fmt::Display, W: Write>(line: &L, out: &mut W) -> Result<(), Failure<'a>>
-    ensures { IfErr result (λ failure. status_of failure ≡ 5) }
-{
-    match writeln!(out, "{line}") {
-        Ok(()) => Ok(()),
-        Err(_) => Err(Failure::CannotWrite),
-    }
+    let mut run = Run::new(alloc, schedule)?;
+    run.tell_stretches(&schedule.stretches, out)?;
+    run.tell_events(&schedule.rest, out)
 }

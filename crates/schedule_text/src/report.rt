@@ -1,164 +1,160 @@
 //! The lines of a report.
 
-use crate::validator::Validator;
 use crate::values::Values;
-use messages::{Ask, Step, Vote};
-use node_core::Refusal;
+use messages::{Ask, Body, Bundle, Proposal, Step, Vote};
+use std::alloc::{AllocError, Global};
 use std::fmt;
-use transactions::{Id, Op, Tx};
-
-/// What there is to tell of an event.
-#[derive(Clone, Copy)]
-pub(crate) enum Told {
-    /// The validator refused the call.
-    Refused(u16, Refusal),
-    /// The validator decided a height.
-    Decided {
-        validator: u16,
-        height: u64,
-        round: u32,
-        id: Id,
-    },
-    /// A new message, with its number in the run.
-    Released(usize, Release),
-}
-
-/// A message, as a report tells it.
-#[derive(Clone, Copy)]
-pub(crate) enum Release {
-    Proposal {
-        sender: u16,
-        height: u64,
-        round: u32,
-        valid_round: Option<u32>,
-        id: Id,
-    },
-    Vote(Vote),
-    Ask(Ask),
-    Bundle {
-        sender: u16,
-        height: u64,
-        round: u32,
-        id: Id,
-    },
-}
+use transactions::{Id, Item, Op, Tx, value_id};
+use world_schedule::{Answer, Decision, End, Release, Told, What};
 
 /// A line of a report, without its line feed.
 #[derive(Clone, Copy)]
 pub(crate) struct ReportLine<'a> {
-    pub(crate) told: &'a Told,
-    pub(crate) values: &'a Values,
+    told: &'a Told,
+    /// The id of the value that is proposed in it.
+    id: Option<Id>,
+    values: &'a Values,
+}
+
+impl<'a> ReportLine<'a> {
+    /// The line of what is told, by the names of these values.
+    pub(crate) fn new(
+        alloc: Global,
+        told: &'a Told,
+        values: &'a Values,
+    ) -> Result<ReportLine<'a>, AllocError> {
+        let id = proposed_in(alloc, &told.what)?;
+        Ok(ReportLine { told, id, values })
+    }
+}
+
+/// Whether there is a line of it: there is none of a call that went well.
+pub(crate) fn is_shown(told: &Told) -> bool {
+    !matches!(&told.what, What::Answered(Answer { number: 0, .. }))
+}
+
+/// The id of the value that is proposed.
+fn proposed_in(alloc: Global, what: &What) -> Result<Option<Id>, AllocError> {
+    let What::Released(
+        Release {
+            body: Body::Proposal(proposal),
+            ..
+        },
+    ) = what
+    else {
+        return Ok(None);
+    };
+    match value_id(alloc, &proposal.value) {
+        Ok(id) => Ok(Some(id)),
+        Err(_) => Err(AllocError),
+    }
 }
 
 impl fmt::Display for ReportLine<'_> {
     fn fmt<W: fmt::Write>(&self, f: &mut fmt::Formatter<W>) -> fmt::Result {
-        match self.told {
-            Told::Refused(validator, refusal) => write_refusal(*validator, refusal, f),
-            Told::Decided {
-                validator,
-                height,
-                round,
-                id,
-            } => {
-                let content = self.content(Some(id));
-                write_of_round(*validator, "decides", *height, *round, content, f)
+        match (&self.told.what, self.told.validator) {
+            (What::Answered(answer), Some(validator)) => write_refusal(validator, answer, f),
+            (What::Decided(decision), Some(validator)) => {
+                self.write_decision(validator, decision, f)
             }
-            Told::Released(number, release) => {
+            (What::Released(release), _) => {
+                let number = release.number;
                 write!(f, "{number} ")?;
-                self.write_release(release, f)
+                self.write_body(&release.body, f)
             }
+            // Of a client its messages alone are told.
+            (_, None) => Ok(()),
         }
     }
 }
 
 impl ReportLine<'_> {
     fn content<'b>(&'b self, id: Option<&'b Id>) -> Content<'b> {
-        Content {
-            id,
-            values: self.values,
-        }
+        Content::new(id, self.values)
     }
 
-    fn write_release<W: fmt::Write>(
+    fn write_decision<W: fmt::Write>(
         &self,
-        release: &Release,
+        validator: u16,
+        decision: &Decision,
         f: &mut fmt::Formatter<W>,
     ) -> fmt::Result {
-        match release {
-            Release::Proposal {
-                sender,
-                height,
-                round,
-                valid_round,
-                id,
-            } => {
-                let valid_round = Round(*valid_round);
-                let name = self.content(Some(id));
-                write!(
-                    f,
-                    "v{sender} proposal {height} {round} {valid_round} {name}"
-                )
-            }
-            Release::Vote(vote) => {
-                let content = self.content(vote.content.as_ref());
-                let kind = kind_of(vote.step);
-                write_of_round(vote.sender, kind, vote.height, vote.round, content, f)
-            }
-            Release::Ask(ask) => write_ask(ask, f),
-            Release::Bundle {
-                sender,
-                height,
-                round,
-                id,
-            } => {
-                let content = self.content(Some(id));
-                write_of_round(*sender, "bundle", *height, *round, content, f)
-            }
+        let content = self.content(Some(&decision.id));
+        let (height, round) = (decision.height, decision.round);
+        write!(f, "v{validator} decides {height} {round} {content}")
+    }
+
+    fn write_body<W: fmt::Write>(&self, body: &Body, f: &mut fmt::Formatter<W>) -> fmt::Result {
+        match body {
+            Body::Proposal(proposal) => write_proposal(proposal, self.content(self.id.as_ref()), f),
+            Body::Vote(vote) => write_vote(vote, self.content(vote.content.as_ref()), f),
+            Body::Ask(ask) => write_ask(ask, f),
+            Body::Bundle(bundle) => write_bundle(bundle, self.content(Some(&bundle.id)), f),
+            Body::Tx(tx) => write_tx(tx, f),
         }
     }
 }
 
 fn write_refusal<W: fmt::Write>(
     validator: u16,
-    refusal: &Refusal,
+    answer: &Answer,
     f: &mut fmt::Formatter<W>,
 ) -> fmt::Result {
-    let number = refusal.number();
-    match refusal.inner() {
+    let number = answer.number;
+    match answer.inner {
         0 => write!(f, "v{validator} refuses {number}"),
         inner => write!(f, "v{validator} refuses {number} {inner}"),
     }
 }
 
-/// What a validator does in a round about a value.
-fn write_of_round<W: fmt::Write>(
-    validator: u16,
-    what: &str,
-    height: u64,
-    round: u32,
+pub(crate) fn write_proposal<W: fmt::Write>(
+    proposal: &Proposal,
     content: Content<'_>,
     f: &mut fmt::Formatter<W>,
 ) -> fmt::Result {
-    write!(f, "v{validator} {what} {height} {round} {content}")
+    let (sender, height, round) = (proposal.sender, proposal.height, proposal.round);
+    let valid_round = Round(proposal.valid_round);
+    write!(
+        f,
+        "v{sender} proposal {height} {round} {valid_round} {content}"
+    )
+}
+
+fn write_vote<W: fmt::Write>(
+    vote: &Vote,
+    content: Content<'_>,
+    f: &mut fmt::Formatter<W>,
+) -> fmt::Result {
+    let (sender, height, round) = (vote.sender, vote.height, vote.round);
+    let kind = match vote.step {
+        Step::Prevote => "prevote",
+        Step::Precommit => "precommit",
+    };
+    write!(f, "v{sender} {kind} {height} {round} {content}")
 }
 
 fn write_ask<W: fmt::Write>(ask: &Ask, f: &mut fmt::Formatter<W>) -> fmt::Result {
-    let sender = ask.sender;
-    let height = ask.height;
+    let (sender, height) = (ask.sender, ask.height);
     write!(f, "v{sender} ask {height}")
 }
 
-/// The word for a vote of this kind.
-fn kind_of(step: Step) -> &'static str {
-    match step {
-        Step::Prevote => "prevote",
-        Step::Precommit => "precommit",
-    }
+fn write_bundle<W: fmt::Write>(
+    bundle: &Bundle,
+    content: Content<'_>,
+    f: &mut fmt::Formatter<W>,
+) -> fmt::Result {
+    let (sender, height, round) = (bundle.sender, bundle.height, bundle.round);
+    write!(f, "v{sender} bundle {height} {round} {content}")
 }
 
-/// A valid round: -1 for none.
+fn write_tx<W: fmt::Write>(tx: &Tx, f: &mut fmt::Formatter<W>) -> fmt::Result {
+    let (client, number, op) = (tx.client, tx.number, OpText(&tx.op));
+    write!(f, "c{client} tx {number} {op}")
+}
+
+/// A round: -1 for none.
 #[derive(Clone, Copy)]
-struct Round(Option<u32>);
+pub(crate) struct Round(pub(crate) Option<u32>);
 
 impl fmt::Display for Round {
     fn fmt<W: fmt::Write>(&self, f: &mut fmt::Formatter<W>) -> fmt::Result {
@@ -171,9 +167,15 @@ impl fmt::Display for Round {
 
 /// Nil, or an id by the first name of its values, or else by its digits.
 #[derive(Clone, Copy)]
-struct Content<'a> {
+pub(crate) struct Content<'a> {
     id: Option<&'a Id>,
     values: &'a Values,
+}
+
+impl<'a> Content<'a> {
+    pub(crate) fn new(id: Option<&'a Id>, values: &'a Values) -> Content<'a> {
+        Content { id, values }
+    }
 }
 
 impl fmt::Display for Content<'_> {
@@ -188,16 +190,13 @@ impl fmt::Display for Content<'_> {
     }
 }
 
-/// A transaction as an item.
+/// What a transaction asks for, as in an item.
 #[derive(Clone, Copy)]
-struct ItemText<'a>(&'a Tx);
+struct OpText<'a>(&'a Op);
 
-impl fmt::Display for ItemText<'_> {
+impl fmt::Display for OpText<'_> {
     fn fmt<W: fmt::Write>(&self, f: &mut fmt::Formatter<W>) -> fmt::Result {
-        let client = self.0.client;
-        let number = self.0.number;
-        write!(f, "{client}:{number}:")?;
-        match &self.0.op {
+        match self.0 {
             Op::Close => f.write_str("close"),
             Op::Bytes(contents) if contents.len() == 0 => f.write_str("-"),
             Op::Bytes(contents) => write_digits(contents.as_slice(), f),
@@ -215,28 +214,20 @@ fn write_digits<W: fmt::Write>(bytes: &[u8], f: &mut fmt::Formatter<W>) -> fmt::
 
 /// The end line of a validator: where it stands, and what was delivered.
 #[derive(Clone, Copy)]
-pub(crate) struct EndLine<'a> {
-    pub(crate) me: u16,
-    pub(crate) validator: &'a Validator,
-}
+pub(crate) struct EndLine<'a>(pub(crate) &'a End);
 
 impl fmt::Display for EndLine<'_> {
     fn fmt<W: fmt::Write>(&self, f: &mut fmt::Formatter<W>) -> fmt::Result {
-        let me = self.me;
-        let height = self.validator.height();
-        let round = self.validator.round();
-        write!(f, "v{me} at {height} {round}:")?;
-        for value in self.validator.delivered() {
-            write_items(value.txs.as_slice(), f)?;
+        let (validator, height, round) = (self.0.validator, self.0.height, self.0.round);
+        write!(f, "v{validator} at {height} {round}:")?;
+        for item in self.0.delivered.as_slice() {
+            write_item(item, f)?;
         }
         Ok(())
     }
 }
 
-fn write_items<W: fmt::Write>(txs: &[Tx], f: &mut fmt::Formatter<W>) -> fmt::Result {
-    for tx in txs {
-        let item = ItemText(tx);
-        write!(f, " {item}")?;
-    }
-    Ok(())
+fn write_item<W: fmt::Write>(item: &Item, f: &mut fmt::Formatter<W>) -> fmt::Result {
+    let (client, number, op) = (item.client, item.number, OpText(&item.op));
+    write!(f, " {client}:{number}:{op}")
 }

@@ -1,186 +1,159 @@
-//! The run of a schedule, event by event.
+//! The run of a schedule.
 
-use crate::event::Event;
-use crate::fault::EventFault;
-use crate::report::{Release, Told};
-use crate::schedule::Schedule;
-use crate::senders::{Call, Senders, fault_of};
-use crate::validator::Validator;
-use indexmap::IndexSet;
-use messages::{Body, Bundle, body_in, read};
-use node_core::Refusal;
+ghost use Rattle.std.specs.Prelude.{◌≡◌, ◌≢◌, [], ℕ, Bool, List, IfOk, IfErr};
+ghost use Rattle.world_parties.specs.Cast.{Cast};
+ghost use Rattle.world_schedule.specs.Reports.{Made};
+ghost use Rattle.world_schedule.specs.Serving.{AreServed};
+ghost use Rattle.world_schedule.specs.Worlds.{HasOpened, IsWorld, IsReport};
+ghost use Rattle.schedule_text.specs.Failures.{status_of};
+
+use crate::fault::Failure;
+use crate::report::{EndLine, ReportLine, is_shown};
+use crate::schedule::{Schedule, Stretch};
+use crate::standing::{KeptLine, StateLine};
+use crate::values::Values;
 use std::alloc::{AllocError, Global};
-use transactions::{Id, Value, value_id};
+use std::fmt;
+use std::io::Write;
+use world_schedule::{End, Event, Report, RunFault, Told, World};
 
-/// A run: the correct validator, and what was told of it.
+/// A run of a schedule, whose report is written as it goes on.
 #[derive(Drop)]
 pub(crate) struct Run<'a> {
     alloc: Global,
-    schedule: &'a Schedule,
-    senders: Senders<'a>,
-    validator: Validator,
-    /// How many of the validator's decisions were told.
-    decisions_told: usize,
-    /// The spelled bodies of messages; a message's number is its place.
-    numbered: IndexSet<Vec<u8>>,
-    /// Whether the last call was refused memory twice, so that the next event begins anew.
-    is_unsettled: bool,
+    values: &'a Values,
+    world: World,
+    /// How many events happened.
+    before: u64,
 }
 
 impl<'a> Run<'a> {
-    /// The world before its first rule fires.
-    pub(crate) fn new(alloc: Global, schedule: &'a Schedule) -> Result<Run<'a>, AllocError> {
-        let senders = Senders::new(alloc, schedule)?;
+    /// The world's beginning.
+    pub(crate) fn new(alloc: Global, schedule: &'a Schedule) -> Result<Run<'a>, AllocError>
+        ensures { IfOk result (λ run. HasOpened schedule.now.cast.parties.powers schedule.now.cast.clients schedule.now.cast.liars.items run.world × (run.before ≡ 0)) }
+    {
         Ok(Run {
             alloc,
-            schedule,
-            senders,
-            validator: Validator::new(alloc, &schedule.world)?,
-            decisions_told: 0,
-            numbered: IndexSet::new(alloc),
-            is_unsettled: false,
+            values: &schedule.values,
+            world: schedule.cast.world(alloc)?,
+            before: 0,
         })
     }
 
-    /// The correct validator.
-    pub(crate) fn validator(&self) -> &Validator {
-        &self.validator
-    }
-
-    /// The correct validator's number.
-    pub(crate) fn me(&self) -> u16 {
-        self.schedule.world.correct
-    }
-
-    /// The beginning of the world: the validator is settled.
-    pub(crate) fn begin(&mut self) -> Result<Vec<Told>, EventFault> {
-        self.told_of(&Call::Settle)
-    }
-
-    /// An event, and what there is to tell of it.
-    pub(crate) fn happen(&mut self, event: &Event) -> Result<Vec<Told>, EventFault> {
-        let call = self.senders.call(event)?;
-        self.told_of(&call)
-    }
-
-    /// What there is to tell of a call.
-    fn told_of(&mut self, call: &Call) -> Result<Vec<Told>, EventFault> {
-        let mut told = Vec::new(self.alloc);
-        match call {
-            Call::Restart => self.restart(&mut told)?,
-            Call::Fail(failing) => self.validator.fail(*failing)?,
-            _ => self.settle_and_insist(call, &mut told)?,
-        }
-        Ok(told)
-    }
-
-    /// Opens the validator again, and settles it.
-    fn restart(&mut self, told: &mut Vec<Told>) -> Result<(), EventFault> {
-        self.is_unsettled = false;
-        match self.validator.open(&self.schedule.world)? {
-            Ok(()) => self.insist(&Call::Settle, told),
-            Err(refusal) => Ok(told.push(Told::Refused(self.me(), refusal))?),
-        }
-    }
-
-    /// Makes a call of the settled validator.
-    fn settle_and_insist(&mut self, call: &Call, told: &mut Vec<Told>) -> Result<(), EventFault> {
-        if self.is_unsettled {
-            self.call(&Call::Settle, told)?;
-            self.is_unsettled = false;
-        }
-        self.insist(call, told)
-    }
-
-    /// Makes a call. Where memory is refused, the validator is settled, and the call made once more.
-    fn insist(&mut self, call: &Call, told: &mut Vec<Told>) -> Result<(), EventFault> {
-        if self.call(call, told)? == Some(Refusal::OutOfMemory) {
-            self.call(&Call::Settle, told)?;
-            self.is_unsettled = self.call(call, told)? == Some(Refusal::OutOfMemory);
-        }
-        Ok(())
-    }
-
-    /// Makes a call, and tells of it: the refusal, then the decisions, then the new messages.
-    fn call(&mut self, call: &Call, told: &mut Vec<Told>) -> Result<Option<Refusal>, EventFault> {
-        let refusal = self.validator.call(call).err();
-        if let Some(refusal) = refusal {
-            told.push(Told::Refused(self.me(), refusal))?;
-        }
-        self.tell_decisions(told)?;
-        self.tell_messages(told)?;
-        Ok(refusal)
-    }
-
-    fn tell_decisions(&mut self, told: &mut Vec<Told>) -> Result<(), AllocError> {
-        let me = self.me();
-        let decisions = self.validator.decisions();
-        for bundle in decisions.iter().skip(self.decisions_told) {
-            told.push(decision(me, bundle))?;
-        }
-        self.decisions_told = self.decisions_told.max(decisions.len());
-        Ok(())
-    }
-
-    fn tell_messages(&mut self, told: &mut Vec<Told>) -> Result<(), EventFault> {
-        for frame in self.validator.outgoing() {
-            self.tell_frame(&frame, told)?;
-        }
-        Ok(())
-    }
-
-    fn tell_frame(&mut self, frame: &[u8], told: &mut Vec<Told>) -> Result<(), EventFault> {
-        let message = read(self.alloc, frame).map_err(fault_of)?;
-        self.tell_message(&message.body, body_in(frame, &message), told)
-    }
-
-    /// Numbers a message, whose body has this spelling, and tells of it where it is new.
-    fn tell_message(
+    /// Runs stretches in turn.
+    pub(crate) fn tell_stretches<'f, W: Write>(
         &mut self,
-        body: &Body,
-        spelled: &[u8],
-        told: &mut Vec<Told>,
-    ) -> Result<(), EventFault> {
-        let spelled = spelled.to_vec(self.alloc)?;
-        let (number, is_new) = self.numbered.insert_full(spelled)?;
-        if is_new && let Some(release) = release_of(self.alloc, body)? {
-            told.push(Told::Released(number, release))?;
+        stretches: &[Stretch],
+        out: &mut W,
+    ) -> Result<(), Failure<'f>>
+        ensures quiet { IfErr result (λ failure. status_of failure ≢ 2) }
+        ensures none { stretches.now ≡ [] → self.new ≡ self.old }
+    {
+        for stretch in stretches {
+            self.tell_stretch(stretch, out)?;
+        }
+        Ok(())
+    }
+
+    /// Runs a stretch, and tells the state behind it.
+    fn tell_stretch<'f, W: Write>(
+        &mut self,
+        stretch: &Stretch,
+        out: &mut W,
+    ) -> Result<(), Failure<'f>>
+        ensures { IfErr result (λ failure. status_of failure ≢ 2) }
+    {
+        self.tell_events(&stretch.events, out)?;
+        self.tell_state(stretch.validator, out)
+    }
+
+    /// Runs events, and tells of them.
+    pub(crate) fn tell_events<'f, W: Write>(
+        &mut self,
+        events: &[Event],
+        out: &mut W,
+    ) -> Result<Report, Failure<'f>>
+        ensures quiet { IfErr result (λ failure. status_of failure ≢ 2) }
+        ensures handed { (cast : Cast) (ms : List Made) (brought : ℕ → ℕ → Bool) → IsWorld cast ms brought self.old.world → IfOk result (λ report. AreServed report.told → IsReport cast ms brought events.now self.old.world self.new.world report) }
+    {
+        match self.world.run(events) {
+            Ok(report) => {
+                self.before = self.before.saturating_add(events.len() as u64);
+                self.write_all(report.told.as_slice(), out)?;
+                Ok(report)
+            }
+            Err(fault) => {
+                self.write_all(fault.told.as_slice(), out)?;
+                Err(self.failure(&fault))
+            }
+        }
+    }
+
+    /// The failure of an event, counted from the first one of the schedule.
+    fn failure<'f>(&self, fault: &RunFault) -> Failure<'f>
+        ensures { status_of result ≡ 3 }
+    {
+        Failure::Event(self.before.saturating_add(fault.event), fault.number)
+    }
+
+    fn write_all<'f, W: Write>(&self, told: &[Told], out: &mut W) -> Result<(), Failure<'f>>
+        ensures { IfErr result (λ failure. status_of failure ≢ 2) }
+    {
+        for told in told {
+            if is_shown(told) {
+                write_line(&ReportLine::new(self.alloc, told, self.values)?, out)?;
+            }
+        }
+        Ok(())
+    }
+
+    /// Tells a validator's state, and the proposals that it keeps.
+    fn tell_state<'f, W: Write>(&self, validator: u16, out: &mut W) -> Result<(), Failure<'f>>
+        ensures { IfErr result (λ failure. status_of failure ≢ 2) }
+    {
+        let values = self.values;
+        let state = self.world.state(u64::from(validator));
+        write_line(
+            &StateLine {
+                validator,
+                state,
+                values,
+            },
+            out,
+        )?;
+        let Some(state) = state else {
+            return Ok(());
+        };
+        for kept in state.kept() {
+            write_line(
+                &KeptLine {
+                    validator,
+                    kept,
+                    values,
+                },
+                out,
+            )?;
         }
         Ok(())
     }
 }
 
-fn decision(validator: u16, bundle: &Bundle) -> Told {
-    Told::Decided {
-        validator,
-        height: bundle.height,
-        round: bundle.round,
-        id: bundle.id,
+/// Writes how the validators end.
+pub(crate) fn write_ends<'a, W: Write>(ends: &[End], out: &mut W) -> Result<(), Failure<'a>>
+    ensures { IfErr result (λ failure. status_of failure ≡ 5) }
+{
+    for end in ends {
+        write_line(&EndLine(end), out)?;
     }
+    Ok(())
 }
 
-/// What a report tells of a message; none for a transaction, which no validator sends.
-fn release_of(alloc: Global, body: &Body) -> Result<Option<Release>, EventFault> {
-    match body {
-        Body::Proposal(proposal) => Ok(Some(Release::Proposal {
-            sender: proposal.sender,
-            height: proposal.height,
-            round: proposal.round,
-            valid_round: proposal.valid_round,
-            id: id_of(alloc, &proposal.value)?,
-        })),
-        Body::Vote(vote) => Ok(Some(Release::Vote(*vote))),
-        Body::Ask(ask) => Ok(Some(Release::Ask(*ask))),
-        Body::Bundle(bundle) => Ok(Some(Release::Bundle {
-            sender: bundle.sender,
-            height: bundle.height,
-            round: bundle.round,
-            id: bundle.id,
-        })),
-        Body::Tx(_) => Ok(None),
+/// Writes a line, and its line feed.
+fn write_line<'a, L: fmt::Display, W: Write>(line: &L, out: &mut W) -> Result<(), Failure<'a>>
+    ensures { IfErr result (λ failure. status_of failure ≡ 5) }
+{
+    match writeln!(out, "{line}") {
+        Ok(()) => Ok(()),
+        Err(_) => Err(Failure::CannotWrite),
     }
-}
-
-fn id_of(alloc: Global, value: &Value) -> Result<Id, EventFault> {
-    value_id(alloc, value).map_err(fault_of)
 }

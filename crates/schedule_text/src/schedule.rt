@@ -1,25 +1,32 @@
 //! Schedules, and their reading.
 
-ghost use Rattle.std.specs.Prelude.{◌≤◌};
-
-use crate::event::Event;
+use crate::cast::Cast;
 use crate::fault::{LineFault, ReadFault};
-use crate::items::name_in;
-use crate::lines::{clients_in, event_in, is_skipped, items_in, liars_in, powers_in};
+use crate::items::{items_in, name_in};
+use crate::lines::Forms;
+use crate::numbers::{number_in_u16, number_in_u32};
 use crate::values::{Values, value_of};
 use crate::words::{is_word, words_between};
-use crate::world::{Clients, World};
 use powers::Powers;
 use std::alloc::Global;
-use std::mem;
-use transactions::Named;
+use std::mem::replace;
+use world_schedule::Event;
 
-/// A schedule: a world with one correct validator, and what comes to it.
+/// A schedule: who takes part, and what is done.
 #[derive(Drop)]
 pub(crate) struct Schedule {
-    pub(crate) world: World,
+    pub(crate) cast: Cast,
     pub(crate) values: Values,
+    pub(crate) stretches: Vec<Stretch>,
+    /// The events behind the last stretch.
+    pub(crate) rest: Vec<Event>,
+}
+
+/// Events, and a validator whose state is told after them.
+#[derive(Drop)]
+pub(crate) struct Stretch {
     pub(crate) events: Vec<Event>,
+    pub(crate) validator: u16,
 }
 
 /// The setup lines that came so far, those of values aside.
@@ -27,10 +34,15 @@ pub(crate) struct Schedule {
 enum Setup {
     Nothing,
     Powers(Powers),
-    Clients(Powers, Clients),
-    World(World),
-    /// All came, and not exactly one validator is correct.
-    NoWorld,
+    Cast(Cast),
+}
+
+/// Of which sort the line before is.
+#[derive(Clone, Copy, PartialEq, Eq)]
+enum Latest {
+    Setup,
+    Value,
+    Executed,
 }
 
 /// What the lines so far say.
@@ -38,7 +50,9 @@ enum Setup {
 struct Reading {
     alloc: Global,
     setup: Setup,
+    latest: Latest,
     values: Values,
+    stretches: Vec<Stretch>,
     events: Vec<Event>,
 }
 
@@ -47,7 +61,9 @@ impl Reading {
         Reading {
             alloc,
             setup: Setup::Nothing,
+            latest: Latest::Setup,
             values: Values::new(alloc),
+            stretches: Vec::new(alloc),
             events: Vec::new(alloc),
         }
     }
@@ -62,8 +78,9 @@ impl Reading {
         Ok(())
     }
 
+    /// A line that says nothing is skipped: it is empty, or begins with `#`.
     fn take_line(&mut self, line: &[u8]) -> Result<(), LineFault> {
-        if is_skipped(line) {
+        if matches!(line, [] | [b'#', ..]) {
             return Ok(());
         }
         let words = words_between(self.alloc, line, b' ')?;
@@ -84,15 +101,20 @@ impl Reading {
         } else if is_word(kind, "value") {
             self.take_value(rest)
         } else {
-            self.take_event(kind, rest)
+            self.take_executed(kind, rest)
         }
     }
 
+    /// `powers P P ..`
     fn take_powers(&mut self, words: &[&[u8]]) -> Result<(), LineFault> {
         let Setup::Nothing = self.setup else {
             return Err(LineFault::BadLine);
         };
-        match Powers::new(powers_in(self.alloc, words)?) {
+        let mut powers = Vec::with_capacity(self.alloc, words.len())?;
+        for word in words {
+            powers.push(number_in_u32(word).ok_or(LineFault::BadLine)?)?;
+        }
+        match Powers::new(powers) {
             Ok(powers) => {
                 self.setup = Setup::Powers(powers);
                 Ok(())
@@ -101,89 +123,108 @@ impl Reading {
         }
     }
 
+    /// `clients N`
     fn take_clients(&mut self, words: &[&[u8]]) -> Result<(), LineFault> {
-        let clients = clients_in(words).ok_or(LineFault::BadLine)?;
-        match mem::replace(&mut self.setup, Setup::NoWorld) {
+        let [count] = words else {
+            return Err(LineFault::BadLine);
+        };
+        let count = number_in_u16(count).ok_or(LineFault::BadLine)?;
+        match replace(&mut self.setup, Setup::Nothing) {
             Setup::Powers(powers) => {
-                self.setup = Setup::Clients(powers, clients);
+                self.setup = Setup::Cast(Cast::honest(self.alloc, powers, count)?);
                 Ok(())
             }
             _ => Err(LineFault::BadLine),
         }
     }
 
+    /// `liars V V ..`
     fn take_liars(&mut self, words: &[&[u8]]) -> Result<(), LineFault> {
-        let Setup::Clients(powers, _) = &self.setup else {
+        let cast = self.cast()?;
+        if self.latest != Latest::Setup || !cast.liars.is_empty() || words.is_empty() {
             return Err(LineFault::BadLine);
-        };
-        let liars = liars_in(self.alloc, words, powers.count())?;
-        if let Setup::Clients(powers, clients) = mem::replace(&mut self.setup, Setup::NoWorld) {
-            if let Some(world) = World::new(powers, clients, liars) {
-                self.setup = Setup::World(world);
-            }
         }
+        let mut liars = Vec::with_capacity(self.alloc, words.len())?;
+        for word in words {
+            liars.push(number_in_u16(word).ok_or(LineFault::BadLine)?)?;
+        }
+        self.setup = Setup::Cast(cast.with_liars(self.alloc, liars)?);
         Ok(())
     }
 
+    /// `value NAME ITEM ..`
     fn take_value(&mut self, words: &[&[u8]]) -> Result<(), LineFault> {
-        let validators = self.world()?.count();
         let [name, items @ ..] = words else {
             return Err(LineFault::BadLine);
         };
         let name = self.new_name(name).ok_or(LineFault::BadLine)?;
-        let value = value_in(self.alloc, items, validators)?;
+        let parties = &self.cast()?.parties;
+        let value = value_of(self.alloc, &items_in(self.alloc, items, parties)?, parties)?;
         self.values.define(self.alloc, name, value)?;
+        self.latest = Latest::Value;
         Ok(())
     }
 
-    /// The name that the word is, which a value may have until an event comes, and where none has it.
+    /// The name that the word is, which a value may have until a line is executed, and where none has it.
     fn new_name<'w>(&self, word: &'w [u8]) -> Option<&'w str> {
         let name = name_in(word)?;
-        if self.events.is_empty() && self.values.place_of(name).is_none() {
+        if self.latest != Latest::Executed && self.values.get(name).is_none() {
             Some(name)
         } else {
             None
         }
     }
 
-    fn take_event(&mut self, kind: &[u8], words: &[&[u8]]) -> Result<(), LineFault> {
-        let event = self.event(kind, words)?;
+    fn take_executed(&mut self, kind: &[u8], words: &[&[u8]]) -> Result<(), LineFault> {
+        self.latest = Latest::Executed;
+        if is_word(kind, "state") {
+            return self.take_state(words);
+        }
+        let forms = Forms {
+            alloc: self.alloc,
+            parties: &self.cast()?.parties,
+            values: &self.values,
+        };
+        let event = forms.event(kind, words)?;
         self.events.push(event)?;
         Ok(())
     }
 
-    /// The event of an executed line, which has to be one that the world allows.
-    fn event(&self, kind: &[u8], words: &[&[u8]]) -> Result<Event, LineFault> {
-        let world = self.world()?;
-        let event = event_in(self.alloc, kind, words, &self.values, world.count())?;
-        if world.allows(&event) {
-            Ok(event)
-        } else {
-            Err(LineFault::BadLine)
-        }
+    /// `state P`
+    fn take_state(&mut self, words: &[&[u8]]) -> Result<(), LineFault> {
+        let [validator] = words else {
+            return Err(LineFault::BadLine);
+        };
+        let validator = self.cast()?.correct_in(validator)?;
+        let events = replace(&mut self.events, Vec::new(self.alloc));
+        self.stretches.push(Stretch { events, validator })?;
+        Ok(())
     }
 
-    /// The world, once it stands.
-    fn world(&self) -> Result<&World, LineFault> {
+    /// Who takes part, once that is settled.
+    fn cast(&self) -> Result<&Cast, LineFault> {
         match &self.setup {
-            Setup::World(world) => Ok(world),
+            Setup::Cast(cast) => Ok(cast),
             _ => Err(LineFault::BadLine),
         }
     }
 
-    /// The whole schedule, where its world stands.
+    /// The whole schedule, where it is settled who takes part.
     fn finish(self) -> Option<Schedule> {
         let Reading {
             alloc: _,
             setup,
+            latest: _,
             values,
+            stretches,
             events,
         } = self;
         match setup {
-            Setup::World(world) => Some(Schedule {
-                world,
+            Setup::Cast(cast) => Some(Schedule {
+                cast,
                 values,
-                events,
+                stretches,
+                rest: events,
             }),
             _ => None,
         }
@@ -199,14 +240,6 @@ impl Schedule {
             .finish()
             .ok_or(ReadFault::BadLine(line_past_end(text)))
     }
-}
-
-/// The value of a value line's items; none where it has no spelling.
-fn value_in(alloc: Global, words: &[&[u8]], validators: u16) -> Result<Option<Named>, LineFault>
-    requires { validators ≤ 64 }
-{
-    let items = items_in(alloc, words, validators)?;
-    Ok(value_of(alloc, &items, validators)?)
 }
 
 /// The number of the line behind the last one, from 1 on. A line feed at the end of the text makes no

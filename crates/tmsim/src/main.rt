@@ -1,4 +1,4 @@
-//! Reads a schedule of what comes to a validator, and prints the report of its run.
+//! Reads a schedule of what is done to a world of validators and clients, and prints the report of its run.
 #![tactic(auto)]
 
 ghost use Rattle.std.specs.Prelude.{◌≡◌, ◌≤◌, ◌⊎◌};

@@ -50,22 +50,24 @@ fn setup(rt: HostRuntime) -> Result<(), Fail> {
 2 # nothing
 2 powers 1 1 1 1
 3 powers 1 1 1 1;;
-3 powers 1 1 1 1;clients 8;
-4 powers 1 1 1 1;clients 8;liars 0 1;
-5 powers 1 1 1 1;clients 8;liars 0 1 2 3;#;
 4 powers 1 1 1 1;clients 8;liars 0 1 2;propose 0 3 0 0 -1 A;
 1 clients 8;powers 1 1 1 1;
 1 liars 0 1 2;
 1 value A;
 1 vote 0 3 prevote 0 0 nil;
+1 pass;
+1 state 3;
+2 powers 1 1 1 1;pass;
+4 powers 1 1 1 1;clients 8;value A;liars 0;
+4 powers 1 1 1 1;clients 8;pass;liars 0;
+4 powers 1 1 1 1;clients 8;pass;value A;
+4 powers 1 1 1 1;clients 8;state 3;value A;
 2 powers 1 1 1 1;liars 0 1 2;
 2 powers 1 1 1 1;value A;
 2 powers 1 1 1 1;vote 0 3 prevote 0 0 nil;
 2 powers 1 1 1 1;powers 1 1 1 1;
 3 powers 1 1 1 1;clients 8;clients 8;
-3 powers 1 1 1 1;clients 8;value A;
 3 powers 1 1 1 1;clients 8;vote 0 3 prevote 0 0 nil;
-5 powers 1 1 1 1;clients 8;liars 0 1;# two are correct;value A;
 4 powers 1 1 1 1;clients 8;liars 0 1 2;liars 0 1 2;
 5 powers 1 1 1 1;clients 8;liars 0 1 2;value A;liars 0 1 2;
 6 powers 1 1 1 1;clients 8;liars 0 1 2;value A;vote 0 3 prevote 0 0 A;value B;
@@ -182,10 +184,25 @@ timeout 0 propose 0 0
 ask
 ask 0
 ask 3 0
-send 7 61
-close 7
-deliver 0 3
-pass
+send
+send 7
+send x 61
+send 7 6
+send 7 close
+send 7 61 62
+close
+close 7 7
+close -
+deliver 0
+deliver 0 2
+deliver x 3
+deliver 0 3 3
+pass 3
+state
+state 0
+state 4
+state 3 3
+state 65536
 resend
 restart
 restart 0
@@ -221,6 +238,17 @@ fn value_of_bytes(alloc: Global, count: u32) -> Result<String, AllocError> {
 fn longest_item(rt: HostRuntime) -> Result<(), Fail> {
     let line = value_of_bytes(rt.alloc(), 1024)?;
     assert_report(&rt, rt.alloc(), line.as_str(), "v3 at 0 0:\n")
+}
+
+/// The same bytes are taken of a client that sends them, and one more isn't.
+#[test]
+fn longest_sent(rt: HostRuntime) -> Result<(), Fail> {
+    let line = value_of_bytes(rt.alloc(), 1024)?.replace(rt.alloc(), "value A 7:1:", "send 7 ")?;
+    let told = line.replace(rt.alloc(), "send 7 ", "0 c7 tx 1 ")?;
+    let report = format!(in rt.alloc(); "{told}\nv3 at 0 0:\n")?;
+    assert_report(&rt, rt.alloc(), line.as_str(), report.as_str())?;
+    let longer = format!(in rt.alloc(); "{line}0a")?;
+    assert_bad_in_world(&rt, rt.alloc(), longer.as_str(), "4")
 }
 
 /// 1,025 bytes in an item are too many.

@@ -76,7 +76,12 @@ fn each_fault(rt: HostRuntime) -> Result<(), Fail> {
 2 resend 4
 2 restart 4
 2 restart 18446744073709551616
-2 fail 4 0 -";
+2 fail 4 0 -
+1 deliver 1 3
+1 deliver 99999999999999999999 4
+2 deliver 0 4
+2 send 8 61
+2 close 18446744073709551616";
     assert_each_fails(&rt, rt.alloc(), rows)
 }
 

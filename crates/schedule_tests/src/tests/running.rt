@@ -1,25 +1,44 @@
-use super::{assert_each_report, assert_report, assert_run};
+use super::{assert_each_report, assert_report, assert_run, world};
 use std::test::Fail;
 
-const DECISION: &str = "\
-value A 7:1:61
-propose 0 3 0 0 -1 A
-vote 0 3 prevote 0 0 A
-vote 1 3 prevote 0 0 A
-vote 0 3 precommit 0 0 A
-vote 1 3 precommit 0 0 A
-";
-
-const DECIDED: &str = "\
-0 v3 prevote 0 0 A
-1 v3 precommit 0 0 A
-v3 decides 0 0 A
-v3 at 1 0: 7:1:61
-";
-
+/// Among four correct validators the proposal comes to the others, and validator 3's state is told.
 #[test]
-fn first_decision(rt: HostRuntime) -> Result<(), Fail> {
-    assert_report(&rt, rt.alloc(), DECISION, DECIDED)
+fn four_correct_validators(rt: HostRuntime) -> Result<(), Fail> {
+    let case = "\
+value E
+send 7 61
+deliver 0 2
+pass
+state 3
+report
+0 v0 proposal 0 0 -1 E
+1 v0 prevote 0 0 E
+2 c7 tx 1 61
+3 v2 prevote 0 0 E
+4 v1 prevote 0 0 E
+5 v3 prevote 0 0 E
+6 v1 precommit 0 0 E
+7 v3 precommit 0 0 E
+v3 state 0 0 precommit lock 0 E valid 0 E prevotes 3 precommits 1
+v3 keeps v0 proposal 0 0 -1 E
+v0 at 0 0:
+v1 at 0 0:
+v2 at 0 0:
+v3 at 0 0:";
+    assert_each_report(&rt, rt.alloc(), case)
+}
+
+/// Events are counted over a state that is told.
+#[test]
+fn fault_behind_a_state(rt: HostRuntime) -> Result<(), Fail> {
+    let schedule = world(rt.alloc(), "ask 3\nstate 3\nask 3\nask 4\n")?;
+    let out = "\
+0 v3 ask 0
+v3 state 0 0 propose lock -1 nil valid -1 nil prevotes 0 precommits 0
+";
+    let err = "tmsim: event 3: fault 2\n";
+    assert_run(&rt, rt.alloc(), schedule.as_bytes(), 3, out, err);
+    Ok(())
 }
 
 /// What is sent again was told of before.

@@ -1,6 +1,0 @@
-use Rattle.std.proofs.Common.{◌≡◌}
-use Rattle.schedule_text.specs.Keys.{tags_for}
-use Rattle.schedule_text.proofs.keys.tags_of.Given as goal
-
-abbrev pub invariant-loop-to : goal.invariant-loop-to
-invariant-loop-to l = l.tags.items ≡ tags_for l.right l.from l.to l.body
