@@ -1,17 +1,20 @@
 #!/usr/bin/env python3
 """Measures four validators on this machine: what bench/cluster.sh prints.
 
-usage: bench/cluster.py [--with PROGRAM] [--seconds S] [--idle S]
+usage: bench/cluster.py [--with PROGRAM] [--seconds S] [--idle S] [--clients N] [--waiting M]
 
-PROGRAM is a built tmnode, bin/tmnode if none is named. S are the seconds under load and at idle, 10 and 60 if left out.
+PROGRAM is a built tmnode, bin/tmnode if none is named. S are the seconds under load and at idle, 10 and 60 if left out; N are
+the clients, 64 if left out, and M is how many transactions of each wait, 60 and at most 64. What a validator does under load
+is told where the machine has `perf`. Journals are on the disk of TMPDIR.
 """
 import argparse
-import hashlib
-import hmac
 import multiprocessing
 import os
+import re
 import shutil
+import signal
 import statistics
+import subprocess
 import sys
 import tempfile
 import threading
@@ -19,25 +22,20 @@ import time
 
 TOP = os.path.dirname(os.path.dirname(os.path.realpath(__file__)))
 sys.path.insert(0, f"{TOP}/test")
-import processes  # noqa: E402
+import validators  # noqa: E402
 
-# How many clients there are and how many processes send for them, how many transactions of each wait, and their bytes.
-CLIENTS, SENDERS, WINDOW, BYTES = 64, 4, 60, 64
+# How many processes send, and how many bytes a transaction has.
+SENDERS, BYTES = 4, 64
 TICKS = os.sysconf("SC_CLK_TCK")
-
-
-def frame_of(client, number, keys):
-    body = b"\1" + client.to_bytes(2, "big") + number.to_bytes(8, "big") + b"\0" + BYTES.to_bytes(2, "big") + b"x" * BYTES
-    tags = b"".join(hmac.digest(key, body, hashlib.sha256) for key in keys)
-    message = body + b"\4" + tags
-    return len(message).to_bytes(4, "big") + message
+# How many transactions a second there are at most to be sent.
+MOST_A_SECOND = 96_000
 
 
 class Clients:
     """Some clients that send each transaction to all validators, and follow validator 0's list."""
 
     def __init__(self, cluster, clients, each):
-        self.links = [processes.dial(it) for it in cluster.addresses]
+        self.links = [validators.dial(it) for it in cluster.addresses]
         for link in self.links:
             link.settimeout(None)
             threading.Thread(target=self.forget_replies, args=(link,), daemon=True).start()
@@ -49,9 +47,8 @@ class Clients:
 
     @staticmethod
     def frames_of(cluster, client, each):
-        lines = (it.split() for it in processes.read(cluster.keys_of(f"c{client}")).splitlines())
-        keys = dict(it[1:] for it in lines)
-        return [frame_of(client, it + 1, [bytes.fromhex(keys[f"v{at}"]) for at in range(4)]) for it in range(each)]
+        keys = cluster.tag_keys_of(client)
+        return [validators.transaction_frame(client, it + 1, b"x" * BYTES, keys) for it in range(each)]
 
     @staticmethod
     def forget_replies(link):
@@ -96,15 +93,17 @@ class Clients:
         return count
 
 
-def send_for(cluster, clients, seconds, barrier, told):
+def send_for(cluster, clients, given, barrier, told):
     """Sends for these clients, in a process of its own."""
-    own = Clients(cluster, clients, 1_500 * seconds)
+    own = Clients(cluster, clients, MOST_A_SECOND * given.seconds // given.clients)
     barrier.wait()
-    told.put((own.run(seconds, WINDOW), own.waits))
+    began = time.process_time()
+    count = own.run(given.seconds, given.waiting)
+    told.put((count, own.waits, (time.process_time() - began) / given.seconds))
 
 
 def processor_seconds(process):
-    fields = processes.read(f"/proc/{process.pid}/stat").rpartition(")")[2].split()
+    fields = validators.read(f"/proc/{process.pid}/stat").rpartition(")")[2].split()
     return sum(map(int, fields[11:13])) / TICKS
 
 
@@ -125,32 +124,81 @@ class Spent:
         return f"{', '.join(f'{it:.2f}' for it in share)} of a processor; journals grow by {max(grown):,} bytes", max(grown)
 
 
-def measure(cluster, seconds, idle):
-    cluster.begin(CLIENTS + 1)
+class Profile:
+    """What a validator's processor time goes into meanwhile, by samples."""
+
+    def __init__(self, process, file):
+        self.file, self.perf = file, None
+        if shutil.which("perf"):
+            words = ["perf", "record", "-e", "cpu-clock", "-F", "499", "-o", file, "-p", str(process.pid)]
+            self.perf = subprocess.Popen(words, stdout=subprocess.DEVNULL, stderr=subprocess.DEVNULL)
+
+    def told(self):
+        """Returns the shares of hashing and of the system, and the dearest functions."""
+        if not self.perf:
+            return "no `perf` is here to tell what a validator does"
+        self.perf.send_signal(signal.SIGINT)
+        self.perf.wait()
+        words = ["perf", "report", "-i", self.file, "--stdio", "-q", "--sort", "symbol"]
+        report = subprocess.run(words, capture_output=True, text=True, check=False).stdout
+        rows = [(float(it[1]), it[2], it[3]) for it in re.finditer(r"(?m)^ *([\d.]+)% +\[(.)\] +(.*?)(?: +- +-)? *$", report)]
+        if not rows:
+            return "`perf` takes no samples here"
+        hashing = sum(it[0] for it in rows if "sha2::" in it[2])
+        system = sum(it[0] for it in rows if it[1] == "k")
+        rest = [f"{it[2]} {it[0]:.0f}" for it in rows if it[1] != "k" and "sha2::" not in it[2]]
+        dearest = ", ".join(rest[:6])
+        return f"of validator 0's time {hashing:.0f} % is hashing, {system:.0f} % the system's; the dearest of the rest: {dearest}"
+
+
+def sync_time(folder):
+    """Returns how long the disk takes to save and sync 600 bytes, the middle of some times, in seconds."""
+    took = []
+    with open(f"{folder}/synced", "ab", buffering=0) as it:
+        for _ in range(200):
+            began = time.monotonic()
+            it.write(b"x" * 600)
+            os.fdatasync(it.fileno())
+            took.append(time.monotonic() - began)
+    return statistics.median(took)
+
+
+def told_of_waits(waits):
+    if not waits:
+        return "none has its line"
+    waits = sorted(waits)
+    middle, late = waits[len(waits) // 2], waits[len(waits) * 99 // 100]
+    return f"{middle * 1e3:.2f} ms from sending to its line, the middle of {len(waits)}; {late * 1e3:.2f} ms the 99th of a hundred"
+
+
+def measure(cluster, given):
+    cluster.begin(given.clients + 1)
+    print(f"a save and sync of 600 bytes takes {sync_time(cluster.folder) * 1e3:.2f} ms", flush=True)
     for me in range(4):
         cluster.start(me)
     time.sleep(2)
-    alone = one_at_a_time(Clients(cluster, [CLIENTS], 100))
-    print(f"one transaction at a time: {statistics.median(alone) * 1e3:.2f} ms from sending to its line, the middle of {len(alone)}", flush=True)
-    under_load(cluster, seconds)
+    print(f"one transaction at a time: {told_of_waits(one_at_a_time(Clients(cluster, [given.clients], 100)))}", flush=True)
+    under_load(cluster, given)
     time.sleep(3)
     spent, heights = Spent(cluster), cluster.decisions_of(0)
-    time.sleep(idle)
-    print(f"idle for {idle} s: {spent.told()[0]}; {(cluster.decisions_of(0) - heights) / idle:.0f} heights a second")
+    time.sleep(given.idle)
+    print(f"idle for {given.idle} s: {spent.told()[0]}; {(cluster.decisions_of(0) - heights) / given.idle:.0f} heights a second")
 
 
-def under_load(cluster, seconds):
+def under_load(cluster, given):
     barrier, told = multiprocessing.Barrier(SENDERS + 1), multiprocessing.Queue()
     for it in range(SENDERS):
-        multiprocessing.Process(target=send_for, args=(cluster, range(it, CLIENTS, SENDERS), seconds, barrier, told), daemon=True).start()
+        clients = range(it, given.clients, SENDERS)
+        multiprocessing.Process(target=send_for, args=(cluster, clients, given, barrier, told), daemon=True).start()
     barrier.wait()
-    spent, heights = Spent(cluster), cluster.decisions_of(0)
+    spent, heights, profile = Spent(cluster), cluster.decisions_of(0), Profile(cluster.running[0], cluster.path("perf.data"))
     each = [told.get() for _ in range(SENDERS)]
-    count, waits, (text, grown) = sum(it[0] for it in each), sorted(wait for it in each for wait in it[1]), spent.told()
+    count, waits, (text, grown) = sum(it[0] for it in each), [wait for it in each for wait in it[1]], spent.told()
     heights = cluster.decisions_of(0) - heights
-    print(f"{CLIENTS} clients with {WINDOW} waiting: {count / seconds:,.0f} transactions and {heights / seconds:.0f} heights a second")
-    print(f"  from sending to its line: {waits[len(waits) // 2] * 1e3:.0f} ms the middle, {waits[len(waits) * 99 // 100] * 1e3:.0f} ms the 99th of a hundred")
-    print(f"  the validators take {text}, {grown / max(1, count):.0f} for each transaction", flush=True)
+    print(f"{given.clients} clients with {given.waiting} waiting: {count / given.seconds:,.0f} transactions and {heights / given.seconds:.0f} heights a second")
+    print(f"  {told_of_waits(waits)}")
+    print(f"  the validators take {text}, {grown / max(1, count):.0f} for each transaction; who sends takes {sum(it[2] for it in each):.2f}")
+    print(f"  {profile.told()}", flush=True)
 
 
 def one_at_a_time(clients):
@@ -168,11 +216,13 @@ def main():
     words.add_argument("--with", dest="program", default=f"{TOP}/bin/tmnode")
     words.add_argument("--seconds", type=int, default=10)
     words.add_argument("--idle", type=int, default=60)
+    words.add_argument("--clients", type=int, default=64)
+    words.add_argument("--waiting", type=int, default=60)
     given = words.parse_args()
     folder = tempfile.mkdtemp(prefix="cluster.")
-    cluster = processes.Cluster(os.path.realpath(given.program), folder)
+    cluster = validators.Cluster(os.path.realpath(given.program), folder)
     try:
-        measure(cluster, given.seconds, given.idle)
+        measure(cluster, given)
     finally:
         cluster.end()
         shutil.rmtree(folder)

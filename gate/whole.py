@@ -5,8 +5,8 @@ usage: gate/whole.py
 
 Its stages run in turn, each of which says 'N passed, M failed' on its last line: the files' layout; what must not
 compile; `rt ci`, which proves and tests each crate and runs each program; the schedules, by the program as both
-compilers made it; one of them with each write of the validator's journal failing; what `tmnode` says of failures and what a
-cluster of it outlives, as processes; and the wrong bodies. Then come the
+compilers made it; one of them with each write of the validator's journal failing; random ones; what `tmnode` says of failures
+and what a cluster of it outlives, as processes; and the wrong bodies. Then come the
 processor seconds of each crate, and a last line that counts everything. Where the layout or `rt ci` fails, nothing behind
 it is tried.
 """
@@ -29,6 +29,7 @@ STAGES = {
     "schedules, as LLVM builds the program": ["schedules/check.sh", "--with", "crates/tmsim/out/tmsim"],
     "schedules, as Rattle's compiler builds it": ["schedules/check.sh", "--with", "crates/tmsim/out/tmsim.by-rattle"],
     "a stop at each write": ["schedules/each_stop.py", "--with", "crates/tmsim/out/tmsim"],
+    "random schedules": ["schedules/random_runs.py", "--count", "200", "--with", "crates/tmsim/out/tmsim"],
     "the program as processes": ["test/processes.py", "--with", "crates/tmnode/out/tmnode"],
     "wrong bodies": ["gate/wrong_bodies.py", "--built"],
 }
@@ -38,7 +39,7 @@ ENDS = {
     "proofs, tests and programs": "The stages behind stand on these proofs, so they are left out.",
 }
 # About what a whole run takes, in processor seconds; its table says what it took.
-USUAL = 24_000
+USUAL = 26_000
 # The part of a crate's time that a check belongs to.
 PARTS = ("proof", "tests", "edits")
 TICKS = os.sysconf("SC_CLK_TCK")

@@ -396,8 +396,11 @@ class Group:
 def tried_alone(crate, edit, kept):
     """Tries one edit of code by itself."""
     if not edit.is_equal:
-        well, text = rt.must_fail(crate, edit.path, ONE_JOB, kept)
-        return well, f"{edit.label}: {text.partition(': ')[2]}"
+        kind, text = rt.must_fail(crate, edit.path, ONE_JOB, kept)
+        if kind == rt.UNSURE:
+            # (its check was killed for memory, most likely)
+            kind, text = rt.must_fail(crate, edit.path, ONE_JOB, kept)
+        return kind in (rt.REFUSED, rt.AT_LIMIT), f"{edit.label}: {text.partition(': ')[2]}"
     together = Together(crate)
     together.add_in_place(edit)
     return Group(together, kept).verdict(edit) or (False, f"{edit.label}: NOT PROVED, though it does the same")
