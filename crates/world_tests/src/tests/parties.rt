@@ -56,11 +56,16 @@ fn assert_who(rt: &impl Abort, parties: &Parties) {
 fn no_such_worlds(rt: HostRuntime) -> Result<(), Fail> {
     let alloc = rt.alloc();
     for (clients, liar) in [(0, 1), (1_025, 1), (8, 4)] {
-        let powers = Powers::new(vec![in alloc; 1, 1, 1, 1]?)?;
-        let made = Parties::new(powers, clients, &[liar]);
-        assert!(rt; matches!(made, Err(FaultNumber::NoSuchParty)));
+        assert!(rt; are_no_parties(alloc, clients, liar)?);
     }
     Ok(())
+}
+
+/// Whether there are no parties with so many clients, or the liar is none.
+fn are_no_parties(alloc: Global, clients: u16, liar: u16) -> Result<bool, Fail> {
+    let powers = Powers::new(vec![in alloc; 1, 1, 1, 1]?)?;
+    let made = Parties::new(powers, clients, &[liar]);
+    Ok(matches!(made, Err(FaultNumber::NoSuchParty)))
 }
 
 /// A ring of a world has the keys of its validators.

@@ -1,5 +1,6 @@
 //! Runs of worlds of four validators.
 
+use super::{run, world};
 use messages::Step;
 use powers::Powers;
 use protocol::{Step as Kind, Timeout};
@@ -8,12 +9,6 @@ use std::process::Abort;
 use std::test::Fail;
 use transactions::{Op, Seq, read_value};
 use world_schedule::{Event, FaultNumber, Proposing, Report, RunFault, Told, Voting, What, World};
-
-/// Four validators, of whom these lie, and eight clients.
-fn world(alloc: Global, liars: &[u16]) -> Result<World, Fail> {
-    let powers = Powers::new(vec![in alloc; 1, 1, 1, 1]?)?;
-    Ok(World::new(alloc, powers, 8, liars)?)
-}
 
 /// A client's transaction, its close, and six passes.
 fn two_heights(alloc: Global) -> Result<Vec<Event>, Fail> {
@@ -42,6 +37,12 @@ fn told_of(told: &[Told]) -> (u64, u64, u64) {
     (messages, decisions, refusals)
 }
 
+/// The same of a run of these events, and how many lines it tells.
+fn told_in(world: &mut World, events: &[Event]) -> Result<((u64, u64, u64), usize), Fail> {
+    let report = run(world, events)?;
+    Ok((told_of(report.told.as_slice()), report.told.len()))
+}
+
 /// Whether each of four validators ends at height 2 with the client's two transactions.
 fn all_delivered(report: &Report) -> bool {
     report.ends.len() == 4
@@ -50,14 +51,20 @@ fn all_delivered(report: &Report) -> bool {
             && end.delivered.len() == 2)
 }
 
+/// The same at the end of a run of these events.
+fn delivers_all(world: &mut World, events: &[Event]) -> Result<bool, Fail> {
+    let report = run(world, events)?;
+    Ok(all_delivered(&report))
+}
+
 /// Each validator decides twice; the second value has what the client sent.
 #[test]
 fn a_client_is_delivered(rt: HostRuntime) -> Result<(), Fail> {
     let alloc = rt.alloc();
     let mut world = world(alloc, &[])?;
-    let report = world.run(&two_heights(alloc)?)?;
-    assert_eq!(rt; told_of(report.told.as_slice()), (22, 8, 8));
-    assert!(rt; all_delivered(&report));
+    let events = two_heights(alloc)?;
+    assert_eq!(rt; told_in(&mut world, &events)?.0, (22, 8, 8));
+    assert!(rt; delivers_all(&mut world, &[])?);
     Ok(())
 }
 
@@ -100,17 +107,43 @@ fn lies(alloc: Global) -> Result<Vec<Event>, Fail> {
     Ok(events)
 }
 
+/// How many validators end.
+fn ends_of(world: &mut World) -> Result<usize, Fail> {
+    let report = run(world, &[])?;
+    Ok(report.ends.len())
+}
+
 /// Three correct validators decide what the liar proposed.
 #[test]
 fn a_liar_proposes(rt: HostRuntime) -> Result<(), Fail> {
     let alloc = rt.alloc();
     let mut world = world(alloc, &[0])?;
-    let first = world.run(&lies(alloc)?)?;
-    assert_eq!(rt; told_of(first.told.as_slice()), (3, 0, 0));
-    let second = world.run(&[Event::Pass, Event::Pass])?;
-    assert_eq!(rt; told_of(second.told.as_slice()).1, 3);
-    assert_eq!(rt; second.ends.len(), 3);
+    let events = lies(alloc)?;
+    assert_eq!(rt; told_in(&mut world, &events)?.0, (3, 0, 0));
+    assert_eq!(rt; told_in(&mut world, &[Event::Pass, Event::Pass])?.0.1, 3);
+    assert_eq!(rt; ends_of(&mut world)?, 3);
     Ok(())
+}
+
+/// Each timeout of a round at three validators, and what they say of it.
+fn three_timeouts(alloc: Global) -> Result<Vec<Event>, Fail> {
+    let mut events = Vec::new(alloc);
+    for kind in [Kind::Propose, Kind::Prevote, Kind::Precommit] {
+        events.push(due(1, kind))?;
+        events.push(due(2, kind))?;
+        events.push(due(3, kind))?;
+        events.push(Event::Pass)?;
+    }
+    Ok(events)
+}
+
+/// Whether each validator ends in round 1 of height 0.
+fn all_in_round_one(report: &Report) -> bool {
+    report
+        .ends
+        .as_slice()
+        .iter()
+        .all(|end| end.height == 0 && end.round == 1)
 }
 
 /// Nil is precommitted where timeouts come before anything else, and the next round begins.
@@ -118,21 +151,9 @@ fn a_liar_proposes(rt: HostRuntime) -> Result<(), Fail> {
 fn timeouts_end_a_round(rt: HostRuntime) -> Result<(), Fail> {
     let alloc = rt.alloc();
     let mut world = world(alloc, &[0])?;
-    let mut events = Vec::new(alloc);
-    for kind in [Kind::Propose, Kind::Prevote, Kind::Precommit] {
-        for validator in 1..4 {
-            events.push(due(validator, kind))?;
-        }
-        events.push(Event::Pass)?;
-    }
-    let report = world.run(&events)?;
-    assert!(rt;
-        report
-            .ends
-            .as_slice()
-            .iter()
-            .all(|end| end.height == 0 && end.round == 1)
-    );
+    let events = three_timeouts(alloc)?;
+    let report = run(&mut world, &events)?;
+    assert!(rt; all_in_round_one(&report));
     Ok(())
 }
 
@@ -141,16 +162,22 @@ fn timeouts_end_a_round(rt: HostRuntime) -> Result<(), Fail> {
 fn opened_again_within_a_height(rt: HostRuntime) -> Result<(), Fail> {
     let alloc = rt.alloc();
     let mut world = world(alloc, &[0])?;
-    let first = world.run(&lies(alloc)?)?;
-    assert_eq!(rt; told_of(first.told.as_slice()), (3, 0, 0));
-    let opened = world.run(&[Event::Restart(1), Event::Resend(1)])?;
-    assert_eq!(rt; told_of(opened.told.as_slice()), (0, 0, 0));
-    assert_eq!(rt; opened.told.len(), 3);
-    let again = world.run(&lies(alloc)?)?;
-    assert_eq!(rt; told_of(again.told.as_slice()), (0, 0, 2));
-    let last = world.run(&[Event::Pass, Event::Pass])?;
-    assert_eq!(rt; told_of(last.told.as_slice()).1, 3);
+    let events = lies(alloc)?;
+    assert_eq!(rt; told_in(&mut world, &events)?.0, (3, 0, 0));
+    let opened = [Event::Restart(1), Event::Resend(1)];
+    assert_eq!(rt; told_in(&mut world, &opened)?, ((0, 0, 0), 3));
+    assert_eq!(rt; told_in(&mut world, &events)?.0, (0, 0, 2));
+    assert_eq!(rt; told_in(&mut world, &[Event::Pass, Event::Pass])?.0.1, 3);
     Ok(())
+}
+
+/// Four restarts.
+fn restarts(alloc: Global) -> Result<Vec<Event>, Fail> {
+    let mut events = Vec::new(alloc);
+    for validator in 0..4 {
+        events.push(Event::Restart(validator))?;
+    }
+    Ok(events)
 }
 
 /// What was delivered is delivered by a validator that is opened again, and its decisions aren't told twice.
@@ -158,15 +185,11 @@ fn opened_again_within_a_height(rt: HostRuntime) -> Result<(), Fail> {
 fn opened_again_after_decisions(rt: HostRuntime) -> Result<(), Fail> {
     let alloc = rt.alloc();
     let mut world = world(alloc, &[])?;
-    let first = world.run(&two_heights(alloc)?)?;
-    assert_eq!(rt; told_of(first.told.as_slice()).1, 8);
-    let mut restarts = Vec::new(alloc);
-    for validator in 0..4 {
-        restarts.push(Event::Restart(validator))?;
-    }
-    let second = world.run(&restarts)?;
-    assert_eq!(rt; told_of(second.told.as_slice()), (0, 0, 0));
-    assert!(rt; all_delivered(&second));
+    let events = two_heights(alloc)?;
+    assert_eq!(rt; told_in(&mut world, &events)?.0.1, 8);
+    let events = restarts(alloc)?;
+    assert_eq!(rt; told_in(&mut world, &events)?.0, (0, 0, 0));
+    assert!(rt; delivers_all(&mut world, &[])?);
     Ok(())
 }
 
@@ -213,15 +236,15 @@ fn what_is_too_long(rt: HostRuntime) -> Result<(), Fail> {
     let alloc = rt.alloc();
     let mut world = world(alloc, &[])?;
     let long = Op::Bytes(Seq::from_vec(vec![in alloc; 0; 1025]?));
-    let ran = world.run(&[Event::Ask(1), Event::Send(7, long)]);
-    assert!(rt; is_too_long(&ran));
-    let after = world.run(&[Event::Deliver(2, 0)])?;
-    assert_eq!(rt; told_of(after.told.as_slice()), (0, 0, 1));
+    let events = [Event::Ask(1), Event::Send(7, long)];
+    assert!(rt; is_too_long(&mut world, &events));
+    assert_eq!(rt; told_in(&mut world, &[Event::Deliver(2, 0)])?.0, (0, 0, 1));
     Ok(())
 }
 
-fn is_too_long(ran: &Result<Report, RunFault>) -> bool {
-    match ran {
+/// Whether the second of these events is too long.
+fn is_too_long(world: &mut World, events: &[Event]) -> bool {
+    match world.run(events) {
         Err(fault) => fault.event == 2
             && fault.number == FaultNumber::TooLong
             && told_of(fault.told.as_slice()) == (3, 0, 0),
@@ -234,11 +257,13 @@ fn is_too_long(ran: &Result<Report, RunFault>) -> bool {
 fn brought_once(rt: HostRuntime) -> Result<(), Fail> {
     let alloc = rt.alloc();
     let mut world = world(alloc, &[])?;
-    let first = world.run(&[Event::Deliver(0, 1), Event::Pass, Event::Pass])?;
-    assert_eq!(rt; told_of(first.told.as_slice()).2, 0);
+    let events = [Event::Deliver(0, 1), Event::Pass, Event::Pass];
+    assert_eq!(rt; told_in(&mut world, &events)?.0.2, 0);
     let bytes = Seq::from_vec(vec![in alloc; 0, 0]?);
-    let second = world.run(&[Event::Frame(1, bytes)])?;
-    assert_eq!(rt; told_of(second.told.as_slice()), (0, 0, 1));
+    assert_eq!(rt;
+        told_in(&mut world, &[Event::Frame(1, bytes)])?.0,
+        (0, 0, 1)
+    );
     Ok(())
 }
 
