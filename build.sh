@@ -1,6 +1,6 @@
 #!/usr/bin/env bash
 # Proves every crate that the programs stand on, and leaves the programs in bin/: ./build.sh
-# About half an hour the first time on four processors; after a change, what the change touches.
+# About an hour the first time on four processors; after a change, what the change touches.
 set -euo pipefail
 cd "$(dirname "${BASH_SOURCE[0]}")"
 source gate/sources.sh

@@ -10,6 +10,6 @@ source gate/sources.sh
 if is_built; then
     exec bin/tmsim "$schedule"
 fi
-echo "run.sh: this runs unproved, in about a minute; ./build.sh proves and builds it" >&2
+echo "run.sh: this runs unproved, in a minute or two; ./build.sh proves and builds it" >&2
 cd crates/tmsim
 rt try --data "schedule=$schedule" -- schedule 2> >(grep -vE '^(checked: |races: |run=|rt: )' >&2)
