@@ -74,8 +74,10 @@ for id in 0 1 2 3; do start $id v$id.list; done
 half=$((each / 2))
 send_some 1 $half
 wait_for $((2 * half)) v0.list v1.list v2.list v3.list
-kill -9 "${pids[3]}"
-wait "${pids[3]}" 2> ends.log || true
+{
+    kill -9 "${pids[3]}"
+    wait "${pids[3]}" || true
+} 2> ends.log
 mv v3.list v3.first.list
 send_some $((half + 1)) $((each - 2))
 start 3 v3.list
