@@ -22,9 +22,13 @@ CountsSave (Err Failed) before now = Grew before now
 CountsSave (Err OutOfMemory) before now = now ≡ before
 CountsSave (Err BadRecord) before now = ⊥
 
--- whatever a stop leaves is a journal of these records, or of them and this one
+-- the bytes are a journal of these records, or of them and this one
+abbrev pub IsBeforeOrAfter : List ℕ → ℕ → List ℕ → List Record → Record → Type 0
+IsBeforeOrAfter powers me bytes rs r = IsJournal powers me bytes rs ⊎ IsJournal powers me bytes (rs ++ r ∷ [])
+
+-- and so is whatever a stop leaves
 abbrev pub LeavesBeforeOrAfter : List ℕ → ℕ → (List ℕ → Type 0) → List Record → Record → Type 0
-LeavesBeforeOrAfter powers me outcomes rs r = (c : List ℕ) → outcomes c → IsJournal powers me c rs ⊎ IsJournal powers me c (rs ++ r ∷ [])
+LeavesBeforeOrAfter powers me outcomes rs r = (c : List ℕ) → outcomes c → IsBeforeOrAfter powers me c rs r
 
 -- every journal that the one is, the other is too
 abbrev pub KeepsRecords : List ℕ → ℕ → List ℕ → List ℕ → Type 0

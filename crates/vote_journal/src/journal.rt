@@ -1,11 +1,11 @@
 //! A journal on a store: what is saved, and when.
 
-ghost use Rattle.std.specs.Prelude.{◌≡◌, ◌++◌, ◌∷◌, [], ℕ, List, OnOk, true, false};
+ghost use Rattle.std.specs.Prelude.{◌≡◌, ◌++◌, ◌∷◌, [], ℕ, List, OnOk, IsErrOf, true, false};
 ghost use Rattle.protocol.specs.Records.{record_of};
 ghost use Rattle.vote_journal.specs.Grammar.{record_spelling, IsRecord};
 ghost use Rattle.vote_journal.specs.Layout.{IsWhole};
 ghost use Rattle.vote_journal.specs.Store.{Only, NoMore, Adds, Begun, Grew, Counts, FailsBy};
-ghost use Rattle.vote_journal.specs.Saving.{IsSaveFault, CountsSave, LeavesBeforeOrAfter, WhereSaved};
+ghost use Rattle.vote_journal.specs.Saving.{IsSaveFault, CountsSave, IsBeforeOrAfter, LeavesBeforeOrAfter, WhereSaved};
 
 use crate::fault::JournalFault;
 use crate::spelling::spell_record;
@@ -28,6 +28,7 @@ pub struct Journal<S: Store + Drop> {
 /// Appends and syncs.
 fn append_synced<S: Store>(store: &mut S, bytes: &[u8]) -> Result<(), StoreFault>
     ensures done { OnOk result ((S.seen store.new ≡ S.seen store.old ++ bytes.now) × Only (S.seen store.new) (S.may_leave store.new)) }
+    ensures began { IsErrOf result StoreFault.Device → Begun (S.seen store.old) bytes.now (S.seen store.new) }
     ensures stop { Adds (Begun (S.seen store.old) bytes.now) (S.may_leave store.old) (S.may_leave store.new) }
     ensures counted { Counts result (S.failures store.old) (S.failures store.new) }
     ensures fault { FailsBy result (Grew (S.failures store.old) (S.failures store.new)) ((S.seen store.new ≡ S.seen store.old) × NoMore (S.may_leave store.old) (S.may_leave store.new)) }
@@ -52,6 +53,8 @@ impl<S: Store + Drop> Journal<S> {
         ensures stop { IsRecord self.old.me (record_of entry.now) → (c : List ℕ) → S.may_leave self.new.store c → Begun (S.seen self.old.store) (record_spelling self.old.me (record_of entry.now)) c }
         // What a stop leaves has the records before, or this one too, and no others.
         ensures whole { WhereSaved self.old.me (S.seen self.old.store) (record_of entry.now) (λ powers rs. LeavesBeforeOrAfter powers self.old.me (S.may_leave self.new.store) rs (record_of entry.now)) }
+        // So does what stands where the device failed.
+        ensures broken { IsErrOf result JournalFault.Failed → WhereSaved self.old.me (S.seen self.old.store) (record_of entry.now) (λ powers rs. IsBeforeOrAfter powers self.old.me (S.seen self.new.store) rs (record_of entry.now)) }
         ensures grown { OnOk result (WhereSaved self.old.me (S.seen self.old.store) (record_of entry.now) (λ powers rs. IsWhole powers self.old.me (S.seen self.new.store) (rs ++ record_of entry.now ∷ []))) }
         ensures fault { IsSaveFault result (Grew (S.failures self.old.store) (S.failures self.new.store) × (self.new.failed ≡ true))
             ((S.seen self.new.store ≡ S.seen self.old.store) × NoMore (S.may_leave self.old.store) (S.may_leave self.new.store) × (self.new.failed ≡ false)) }

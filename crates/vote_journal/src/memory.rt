@@ -1,6 +1,6 @@
 //! A store in memory whose calls can be made to fail.
 
-ghost use Rattle.std.specs.Prelude.{◌≡◌, ◌++◌, take, IfErr};
+ghost use Rattle.std.specs.Prelude.{◌≡◌, ◌==◌, ◌+◌, ◌-◌, ◌^◌, ◌++◌, min, take, IfErr};
 ghost use Rattle.vote_journal.specs.Store.{Grew};
 
 use crate::store::{DeviceFailed, Store, StoreFault};
@@ -23,7 +23,7 @@ impl MemoryStore {
     /// A store that holds these bytes, and whose call number `failing` fails, counted from 1: none for 0. Of an append the
     /// first `keep` bytes stay then, or all, where there are fewer.
     pub fn new(bytes: Vec<u8>, failing: u64, keep: usize) -> MemoryStore
-        ensures { result.bytes ≡ bytes }
+        ensures { result ≡ record { bytes = bytes; calls = 0; failing = failing; keep = keep; failures = 0 } }
     {
         MemoryStore {
             bytes,
@@ -43,8 +43,8 @@ impl MemoryStore {
 
     /// Counts a call: whether it is the one that fails.
     fn fails(&mut self) -> bool
-        ensures same { self.new.bytes ≡ self.old.bytes }
-        ensures less { self.new.failures ≡ self.old.failures }
+        ensures counted { self.new ≡ record self.old { calls = min (self.old.calls + 1) (2 ^ 64 - 1) } }
+        ensures fails { result ≡ (self.new.calls == self.old.failing) }
     {
         self.calls = self.calls.saturating_add(1);
         self.calls == self.failing

@@ -50,6 +50,8 @@ pub trait Store {
     fn append(&mut self, bytes: &[u8]) -> Result<(), StoreFault>
         ensures added { OnOk result (seen self.new ≡ seen self.old ++ bytes.now) }
         ensures nothing { IsErrOf result StoreFault.OutOfMemory → (seen self.new ≡ seen self.old) × NoMore (may_leave self.old) (may_leave self.new) }
+        // What stands after the device failed has a beginning of them.
+        ensures began { IsErrOf result StoreFault.Device → Begun (seen self.old) bytes.now (seen self.new) }
         ensures stop { Adds (Begun (seen self.old) bytes.now) (may_leave self.old) (may_leave self.new) }
         ensures cause { Counts result (failures self.old) (failures self.new) };
 
@@ -62,7 +64,8 @@ pub trait Store {
 
     /// Makes what stands lasting: after it a stop leaves just that.
     fn sync(&mut self) -> Result<(), DeviceFailed>
-        ensures lasting { OnOk result ((seen self.new ≡ seen self.old) × Only (seen self.old) (may_leave self.new)) }
+        ensures stands { seen self.new ≡ seen self.old }
+        ensures lasting { OnOk result (Only (seen self.old) (may_leave self.new)) }
         ensures stop { NoMore (may_leave self.old) (may_leave self.new) }
         ensures cause { CountsDevice result (failures self.old) (failures self.new) };
 }
