@@ -248,7 +248,7 @@ node_of core records = record { state = core.machine.state; queues = core.queues
 pub kept_stands : (core : Core) (k : IsKept core) → Stands (node_of core k.records) core
 kept_stands core k = record { state = refl; queues = refl; decisions = k.decisions; said = k.said; journal = λ _. k.whole }
 
-fired_journal : (k : Rule) (old : Core) (m : MayFire k old) → IsLawful (setting_of old) old.machine.me (firing (setting_of old) old.machine.me (node_of old (m.sound.kept m.running).records) k).node
+pub fired_journal : (k : Rule) (old : Core) (m : MayFire k old) → IsLawful (setting_of old) old.machine.me (firing (setting_of old) old.machine.me (node_of old (m.sound.kept m.running).records) k).node
 fired_journal k old m = fired_lawful (setting_of old) old.machine.me (node_of old (m.sound.kept m.running).records) k (m.sound.kept m.running).lawful m.holds
 
 pub same_context : (old new : Core) → IsSame old new → context_of new ≡ context_of old

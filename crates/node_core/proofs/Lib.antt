@@ -18,3 +18,4 @@ pub mod Unsaid
 pub mod Telling
 pub mod Called
 pub mod Reopened
+pub mod Broken

@@ -1,14 +1,15 @@
 -- What a call answers, and what it leaves.
-use Rattle.std.specs.Prelude.{◌≡◌, ℕ, ◌<◌, ◌-◌, ◌^◌, ◌⊎◌, ◌++◌, map, min, Bool, true, false, Option, Some, None, is_some, Result, Ok, Err}
+use Rattle.std.specs.Prelude.{◌≡◌, ℕ, ◌<◌, ◌-◌, ◌^◌, ◌⊎◌, ◌++◌, map, min, reverse, List, Bool, true, false, Option, Some, None, is_some, option_map, Result, Ok, Err}
 use Rattle.transactions.specs.declared.fault.Fault.TheVariants as faults
-use Rattle.protocol.specs.Messages.{Message}
+use Rattle.protocol.specs.Messages.{Message, Record}
 use Rattle.protocol.specs.Tags.{Setting}
-use Rattle.protocol.specs.State.{Node, Rule}
+use Rattle.protocol.specs.State.{Node, Rule, TimedOut}
 use Rattle.protocol.specs.Order.{enabled}
 use Rattle.protocol.specs.Refusals.{Refusal}
 use Rattle.protocol.specs.Refusals as causes
 use Rattle.protocol.specs.Arrivals.{firing, received}
-use Rattle.protocol.specs.History.{Input, firsts, taken, after}
+use Rattle.protocol.specs.World.{Cut, InArrival, InFiring, cut_record}
+use Rattle.protocol.specs.History.{Input, Settle, Given, Due, firsts, taken, after}
 use Rattle.protocol.specs.Effects.{bodies_of, timeouts_of, along, bodies_taken, timeouts_taken, bodies_after, timeouts_after}
 use Rattle.mempool.specs.declared.fault.SubmitFault.{SubmitFault}
 use Rattle.mempool.specs.declared.fault.SubmitFault.TheVariants as submits
@@ -17,6 +18,7 @@ use Rattle.height_catchup.specs.declared.judging.JudgeFault.TheVariants as judge
 use Rattle.node_core.specs.declared.refusal.Refusal.{Refusal as Answer}
 use Rattle.node_core.specs.declared.refusal.Refusal.TheVariants as answers
 use Rattle.vote_journal.specs.Store.{Grew}
+use Rattle.vote_journal.specs.Layout.{IsJournal}
 use Rattle.node_core.specs.Core.{Core, JournalSeen, Stands, IsSame, setting_of, frame_by}
 
 -- ---- answers
@@ -78,6 +80,23 @@ pub record HasFailed (old new : JournalSeen) : Type 0 where
   pub before : old.failed ≡ false
   pub now : new.failed ≡ true
   pub grew : Grew old.failures new.failures
+
+-- what a call's input saves as it is taken in, and what the first rule saves that is enabled
+abbrev pub input_cut : Input → Option Cut
+input_cut Settle = None
+input_cut (Given bytes) = Some (InArrival bytes)
+input_cut (Due t) = Some (InFiring (TimedOut t))
+
+abbrev pub next_cut : Setting → Node → Option Cut
+next_cut c n = option_map InFiring (enabled c.powers n.state)
+
+-- The bytes are those of this journal, or of one with more records; the newest first, and cut short or not.
+abbrev pub IsLeft : List ℕ → ℕ → List Record → List Record → List ℕ → Type 0
+IsLeft powers me journal more bytes = (rs : List Record) × IsJournal powers me bytes rs × ((reverse rs ≡ journal) ⊎ (reverse rs ≡ more ++ journal))
+
+-- those of the node's journal, or of one with the record of what was cut
+abbrev pub IsLeftBy : Setting → ℕ → Node → Option Cut → List ℕ → Type 0
+IsLeftBy c p n cut bytes = IsLeft c.powers p n.journal (cut_record c p n cut) bytes
 
 -- whether it has failed is as it was, and no failure of the device was counted
 pub record Serves (old new : JournalSeen) : Type 0 where
@@ -160,6 +179,12 @@ IsNotTaken (Err answers.Halted) old new = (old.journal.failed ≡ true) × IsUnc
 IsNotTaken (Err answers.OutOfMemory) old new = IsUnchanged old new
 IsNotTaken (Err answers.JournalFailed) old new = new ≡ record old { journal = new.journal; fired = 0 }
 IsNotTaken result old new = ⊥
+
+-- The device failed as the input was taken in, which was left undone; or as the next rule was to fire, after so many. What stands in the store has the records so far, and at most the one that was being saved.
+abbrev pub IsBroken : Node → Input → Core → Core → Type 0
+IsBroken n input old new =
+    ((new ≡ record old { journal = new.journal; fired = 0 }) × IsLeftBy (setting_of old) old.machine.me n (input_cut input) new.journal.bytes)
+    ⊎ ((times : ℕ) × IsCalled n input times old new × IsLeftBy (setting_of old) old.machine.me (after (setting_of old) old.machine.me n input times) (next_cut (setting_of old) (after (setting_of old) old.machine.me n input times)) new.journal.bytes)
 
 -- The call did so; or it did not take its input in, and is told so.
 abbrev pub IsDone : Node → Input → Result (Unit {0}) Answer → Core → Core → Type 0

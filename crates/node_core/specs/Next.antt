@@ -9,13 +9,14 @@ use Rattle.protocol.specs.History.{Given}
 use Rattle.node_core.specs.declared.refusal.Refusal.{Refusal as Answer}
 use Rattle.node_core.specs.declared.refusal.Refusal.TheVariants as answers
 use Rattle.node_core.specs.Core.{Core, Stands, setting_of}
-use Rattle.node_core.specs.Calls.{Answers, IsDone, IsUnchanged, TellsJournal}
+use Rattle.node_core.specs.Calls.{Answers, IsDone, IsBroken, IsUnchanged, TellsJournal}
 
 -- a frame was handed in: what is answered, and what is left
 pub record IsHandled (frame : List ℕ) (result : Result (Unit {0}) Answer) (old new : Core) : Type 0 where
   pub answer : (n : Node) → Stands n old → Answers old.journal.failed (answer (setting_of old) old.machine.me n frame) result
   pub done : (n : Node) → Stands n old → IsDone n (Given frame) result old new
   pub refused : IfErr result (λ r. (r ≡ answers.OutOfMemory) ⊎ (r ≡ answers.JournalFailed) ⊎ IsUnchanged old new)
+  pub broken : result ≡ Err answers.JournalFailed → (n : Node) → Stands n old → IsBroken n (Given frame) old new
   pub journal : TellsJournal result old.journal new.journal
   pub quiet : OnOk result (enabled new.machine.powers new.machine.state ≡ None)
 

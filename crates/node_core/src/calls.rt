@@ -1,6 +1,6 @@
 //! The calls that change a node.
 
-ghost use Rattle.std.specs.Prelude.{◌≡◌, ◌⊎◌, ◌++◌, ◌∷◌, [], ℕ, true, false, None, OnOk, OnErr, IfOk, IfErr, map};
+ghost use Rattle.std.specs.Prelude.{◌≡◌, ◌⊎◌, ◌++◌, ◌∷◌, [], ℕ, true, false, None, Err, OnOk, OnErr, IfOk, IfErr, map};
 ghost use Rattle.protocol.specs.Messages.{OfAsk};
 ghost use Rattle.protocol.specs.State.{Node};
 ghost use Rattle.protocol.specs.Order.{enabled};
@@ -10,7 +10,7 @@ ghost use Rattle.protocol.specs.Calls.{timeout_answer};
 ghost use Rattle.protocol.specs.History.{Settle, Given, Due};
 ghost use Rattle.node_core.specs.Core.{Stands, setting_of, frame_by};
 ghost use Rattle.node_core.specs.Next.{HandlesNext};
-ghost use Rattle.node_core.specs.Calls.{Answers, IsDone, IsTaken, IsUnfired, IsUnchanged, TellsJournal};
+ghost use Rattle.node_core.specs.Calls.{Answers, IsDone, IsBroken, IsLeftBy, IsTaken, IsUnfired, IsUnchanged, TellsJournal, input_cut};
 
 use crate::node::NodeCore;
 use crate::refusal::Refusal;
@@ -26,6 +26,7 @@ impl<S: Store + Drop> NodeCore<S> {
     pub fn handle(&mut self, frame: &[u8]) -> Result<(), Refusal>
         ensures answer { (n : Node) → Stands n self.old → Answers self.old.journal.failed (answer (setting_of self.old) self.old.machine.me n frame.now) result }
         ensures done { (n : Node) → Stands n self.old → IsDone n (Given frame.now) result self.old self.new }
+        ensures broken { result ≡ Err Refusal.JournalFailed → (n : Node) → Stands n self.old → IsBroken n (Given frame.now) self.old self.new }
         ensures refused { IfErr result (λ r. (r ≡ Refusal.OutOfMemory) ⊎ (r ≡ Refusal.JournalFailed) ⊎ IsUnchanged self.old self.new) }
         ensures journal { TellsJournal result self.old.journal self.new.journal }
         ensures quiet { OnOk result (enabled self.new.machine.powers self.new.machine.state ≡ None) }
@@ -57,6 +58,7 @@ impl<S: Store + Drop> NodeCore<S> {
     pub fn fire_timeout(&mut self, timeout: Timeout) -> Result<(), Refusal>
         ensures answer { Answers self.old.journal.failed (timeout_answer self.old.machine.state timeout) result }
         ensures done { (n : Node) → Stands n self.old → IsDone n (Due timeout) result self.old self.new }
+        ensures broken { result ≡ Err Refusal.JournalFailed → (n : Node) → Stands n self.old → IsBroken n (Due timeout) self.old self.new }
         ensures refused { IfErr result (λ r. (r ≡ Refusal.OutOfMemory) ⊎ (r ≡ Refusal.JournalFailed) ⊎ IsUnchanged self.old self.new) }
         ensures journal { TellsJournal result self.old.journal self.new.journal }
         ensures quiet { OnOk result (enabled self.new.machine.powers self.new.machine.state ≡ None) }
@@ -73,6 +75,7 @@ impl<S: Store + Drop> NodeCore<S> {
     fn fire_due(&mut self, timeout: Timeout) -> Result<(), Refusal>
         requires running { self.old.journal.failed ≡ false }
         ensures ok { OnOk result ((n : Node) → Stands n self.old → IsTaken n (Due timeout) self.old self.new) }
+        ensures broken { result ≡ Err Refusal.JournalFailed → (n : Node) → Stands n self.old → IsLeftBy (setting_of self.old) self.old.machine.me n (input_cut (Due timeout)) self.new.journal.bytes }
         ensures journal { TellsJournal result self.old.journal self.new.journal }
         ensures err { IfErr result (λ r. IsUnfired r self.old self.new) }
     {
@@ -87,6 +90,7 @@ impl<S: Store + Drop> NodeCore<S> {
     pub fn settle(&mut self) -> Result<(), Refusal>
         ensures answer { Answers self.old.journal.failed None result }
         ensures done { (n : Node) → Stands n self.old → IsDone n Settle result self.old self.new }
+        ensures broken { result ≡ Err Refusal.JournalFailed → (n : Node) → Stands n self.old → IsBroken n Settle self.old self.new }
         ensures refused { IfErr result (λ r. (r ≡ Refusal.OutOfMemory) ⊎ (r ≡ Refusal.JournalFailed) ⊎ IsUnchanged self.old self.new) }
         ensures journal { TellsJournal result self.old.journal self.new.journal }
         ensures quiet { OnOk result (enabled self.new.machine.powers self.new.machine.state ≡ None) }

@@ -1,6 +1,6 @@
 //! Rules fire: each whole, or, refused memory, not at all.
 
-ghost use Rattle.std.specs.Prelude.{◌≡◌, ◌<◌, ◌≤◌, ◌+◌, ◌-◌, ◌^◌, ◌⊎◌, ◌++◌, ℕ, List, true, false, cond, All, OnOk, OnErr, IfOk, IfErr, IfSome, Some, None, option_map, length, map, min, option_to_list, vec_len, vec_capacity};
+ghost use Rattle.std.specs.Prelude.{◌≡◌, ◌<◌, ◌≤◌, ◌+◌, ◌-◌, ◌^◌, ◌⊎◌, ◌++◌, ℕ, List, true, false, cond, All, Err, OnOk, OnErr, IfOk, IfErr, IfSome, Some, None, option_map, length, map, min, option_to_list, vec_len, vec_capacity};
 ghost use Rattle.powers.specs.Power.{proposer};
 ghost use Rattle.protocol.specs.State.{Context, Node, TimedOut};
 ghost use Rattle.messages.specs.Grammar.{IsBody};
@@ -10,9 +10,10 @@ ghost use Rattle.protocol.specs.Queues.{pick, drop_delivered};
 ghost use Rattle.protocol.specs.Values.{Item};
 ghost use Rattle.round_states.specs.Steps.{picked_value};
 ghost use Rattle.round_machine.specs.Naming.{rule_of, IsPlaced, Serves, ServesRound, pick_in};
-ghost use Rattle.node_core.specs.Core.{Stands, context_of};
-ghost use Rattle.node_core.specs.Calls.{HasFiredOnce, IsUnfired, TellsJournal};
-ghost use Rattle.node_core.specs.Running.{HasRun};
+ghost use Rattle.protocol.specs.Arrivals.{firing};
+ghost use Rattle.node_core.specs.Core.{Stands, context_of, setting_of};
+ghost use Rattle.node_core.specs.Calls.{HasFiredOnce, IsLeft, IsUnfired, TellsJournal};
+ghost use Rattle.node_core.specs.Running.{HasRun, IsCutOff};
 ghost use Rattle.node_core.specs.Firing.{IsHanded, IsFit, IsRoundHanded, frames_of, decided_by, said_by, is_empty, IsNarrow};
 
 use crate::node::NodeCore;
@@ -34,6 +35,7 @@ impl<S: Store + Drop> NodeCore<S> {
         ensures answer { IfErr result (λ r. (r ≡ Refusal.OutOfMemory) ⊎ (r ≡ Refusal.JournalFailed)) }
         ensures journal { TellsJournal result self.old.journal self.new.journal }
         ensures ran { HasRun self.old self.new }
+        ensures broken { result ≡ Err Refusal.JournalFailed → IsCutOff self.old self.new }
         ensures quiet { OnOk result (enabled self.new.machine.powers self.new.machine.state ≡ None) }
     {
         self.fired = 0;
@@ -62,6 +64,7 @@ impl<S: Store + Drop> NodeCore<S> {
         requires placed { IsPlaced self.old.machine.state rule }
         requires holds { holds (context_of self.old) self.old.machine.state (rule_of self.old.machine.state rule) ≡ true }
         ensures ok { OnOk result ((n : Node) → Stands n self.old → HasFiredOnce n (rule_of self.old.machine.state rule) self.old self.new) }
+        ensures broken { result ≡ Err Refusal.JournalFailed → (n : Node) → Stands n self.old → IsLeft self.old.machine.powers self.old.machine.me n.journal (option_to_list (firing (setting_of self.old) self.old.machine.me n (rule_of self.old.machine.state rule)).wrote) self.new.journal.bytes }
         ensures state { OnOk result (self.new.machine.state ≡ fired (context_of self.old) (pick self.old.queues) self.old.machine.state (rule_of self.old.machine.state rule)) }
         ensures fired { self.new.fired ≡ self.old.fired }
         ensures journal { TellsJournal result self.old.journal self.new.journal }

@@ -1,6 +1,6 @@
 //! The journal of a node: what its firings say is saved there first.
 
-ghost use Rattle.std.specs.Prelude.{◌≡◌, true, false, Ok, None, IfOk, IfErr, OnOk, OnErr};
+ghost use Rattle.std.specs.Prelude.{◌≡◌, ◌<◌, ◌^◌, length, true, false, All, Ok, None, IfOk, IfErr, OnOk, OnErr};
 ghost use Rattle.transactions.specs.Grammar.{IsValue};
 ghost use Rattle.protocol.specs.Values.{Value};
 ghost use Rattle.protocol.specs.State.{DecideByBundle};
@@ -10,9 +10,12 @@ ghost use Rattle.round_states.specs.Pending.{pending_of};
 ghost use Rattle.round_states.specs.Saving.{Wrote, Unwritten};
 ghost use Rattle.round_machine.specs.Bundling.{Came};
 ghost use Rattle.vote_journal.specs.Store.{Only};
+ghost use Rattle.protocol.specs.Records.{record_of};
 ghost use Rattle.node_core.specs.Saving.{Saves};
+ghost use Rattle.node_core.specs.Firing.{decision_in, IsNarrow};
 
 use messages::Bundle;
+use protocol::Record;
 use round_machine::decide_by_bundle;
 use round_states::{Fired, SaveFault, Saver, State, Unfired, Unsaved};
 use std::marker::Model;
@@ -64,16 +67,33 @@ impl<S: Store + Drop> Saver for NodeJournal<S> {
     ghost saves = { Saves };
 
     fn save(&mut self, unsaved: &Unsaved) -> Result<(), SaveFault> {
+        let entry = unsaved.record();
+        fits(entry);
         if self.journal.has_failed() {
             return Err(SaveFault::Failed);
         }
-        match self.journal.save(unsaved.record()) {
+        match self.journal.save(entry) {
             Ok(()) => Ok(()),
             Err(JournalFault::OutOfMemory) => Err(SaveFault::OutOfMemory),
-            Err(JournalFault::Failed | JournalFault::BadRecord) => Err(SaveFault::Failed),
+            Err(JournalFault::Failed) => Err(SaveFault::Failed),
+            // No save answers this.
+            Err(JournalFault::BadRecord) => Err(SaveFault::Failed),
         }
     }
 }
+
+/// The numbers of a decision fit their types.
+fn fits(entry: &Record)
+    ensures { All IsNarrow (decision_in (record_of entry.now)) }
+{
+    if let Record::Decided(bundle) = entry {
+        are_narrow(bundle.height, bundle.round, bundle.sender, &bundle.id);
+    }
+}
+
+fn are_narrow(height: u64, round: u32, sender: u16, id: &[u8; 32])
+    ensures { (height < 2 ^ 64) × (round < 2 ^ 32) × (sender < 2 ^ 16) × (length id.now ≡ 32) }
+{}
 
 /// Fires line 49 by a bundle that another validator collected, as `decide_by_bundle` does. (A proof file can't answer
 /// what that generic function requires, so its caller calls this one.)

@@ -1,6 +1,6 @@
 //! What comes is taken in, or refused.
 
-ghost use Rattle.std.specs.Prelude.{◌≡◌, ◌++◌, ◌∷◌, ◌||◌, [], true, false, None, IfOk, IfErr, IfSome, OnOk, OnErr, is_some, map, nat_lt};
+ghost use Rattle.std.specs.Prelude.{◌≡◌, ◌++◌, ◌∷◌, ◌||◌, [], true, false, None, Err, IfOk, IfErr, IfSome, OnOk, OnErr, is_some, map, nat_lt, option_to_list};
 ghost use Rattle.transactions.specs.Grammar.{IsTxBody, IsValue, AreTags};
 ghost use Rattle.messages.specs.Grammar.{IsBundle, body_spelling};
 ghost use Rattle.messages.specs.Framing.{IsMessage};
@@ -9,12 +9,12 @@ ghost use Rattle.protocol.specs.Messages.{OfProposal, OfVote, OfAsk};
 ghost use Rattle.protocol.specs.State.{Node, DecideByBundle};
 ghost use Rattle.protocol.specs.Rules.{holds, keeping};
 ghost use Rattle.protocol.specs.Queues.{queued};
-ghost use Rattle.protocol.specs.Arrivals.{kept_message, replies, bundles_of};
+ghost use Rattle.protocol.specs.Arrivals.{kept_message, replies, bundles_of, received, firing};
 ghost use Rattle.protocol.specs.Refusals.{first_cause, answering, NotQueued, tx_causes, proposal_causes, vote_causes, ask_causes, bundle_causes};
 ghost use Rattle.frame_admission.specs.Gate.{gate_causes, state_causes};
 ghost use Rattle.round_machine.specs.Bundling.{Came};
 ghost use Rattle.node_core.specs.Core.{Stands, setting_of, context_of, frame_by};
-ghost use Rattle.node_core.specs.Calls.{IsAnswer, IsReceived, IsRefused, IsUnfired, IsBeside, HasFiredOnce, TellsJournal};
+ghost use Rattle.node_core.specs.Calls.{IsAnswer, IsReceived, IsLeft, IsRefused, IsUnfired, IsBeside, HasFiredOnce, TellsJournal};
 
 use crate::firing::{note, push_one};
 use crate::journal::decide_saving;
@@ -39,6 +39,8 @@ impl<S: Store + Drop> NodeCore<S> {
         requires running { self.old.journal.failed ≡ false }
         ensures answer { (n : Node) → Stands n self.old → IsAnswer (first_cause (state_causes (setting_of self.old) self.old.machine.me n message message.body)) result }
         ensures ok { OnOk result ((n : Node) → Stands n self.old → IsReceived n message self.old self.new) }
+        ensures broken { result ≡ Err Refusal.JournalFailed → (n : Node) → Stands n self.old → (first_cause (state_causes (setting_of self.old) self.old.machine.me n message message.body) ≡ None)
+            × IsLeft self.old.machine.powers self.old.machine.me n.journal (option_to_list (received (setting_of self.old) self.old.machine.me n message message.body).wrote) self.new.journal.bytes }
         ensures fired { self.new.fired ≡ self.old.fired }
         ensures journal { TellsJournal result self.old.journal self.new.journal }
         ensures err { IfErr result (λ r. IsRefused r self.old self.new) }
@@ -144,6 +146,8 @@ impl<S: Store + Drop> NodeCore<S> {
         requires running { self.old.journal.failed ≡ false }
         ensures answer { IsAnswer (first_cause (bundle_causes (setting_of self.old) self.old.machine.me self.old.machine.state bundle)) result }
         ensures ok { OnOk result ((n : Node) → Stands n self.old → HasFiredOnce n (DecideByBundle bundle) self.old self.new) }
+        ensures possible { result ≡ Err Refusal.JournalFailed → first_cause (bundle_causes (setting_of self.old) self.old.machine.me self.old.machine.state bundle) ≡ None }
+        ensures broken { result ≡ Err Refusal.JournalFailed → (n : Node) → Stands n self.old → IsLeft self.old.machine.powers self.old.machine.me n.journal (option_to_list (firing (setting_of self.old) self.old.machine.me n (DecideByBundle bundle)).wrote) self.new.journal.bytes }
         ensures fired { self.new.fired ≡ self.old.fired }
         ensures journal { TellsJournal result self.old.journal self.new.journal }
         ensures err { IfErr result (λ r. IsRefused r self.old self.new) }
@@ -169,6 +173,7 @@ impl<S: Store + Drop> NodeCore<S> {
         requires holds { holds (context_of self.old) self.old.machine.state (DecideByBundle bundle) ≡ true }
         requires spelled { IsBundle bundle }
         ensures ok { OnOk result ((n : Node) → Stands n self.old → HasFiredOnce n (DecideByBundle bundle) self.old self.new) }
+        ensures broken { result ≡ Err Refusal.JournalFailed → (n : Node) → Stands n self.old → IsLeft self.old.machine.powers self.old.machine.me n.journal (option_to_list (firing (setting_of self.old) self.old.machine.me n (DecideByBundle bundle)).wrote) self.new.journal.bytes }
         ensures fired { self.new.fired ≡ self.old.fired }
         ensures journal { TellsJournal result self.old.journal self.new.journal }
         ensures err { IfErr result (λ r. IsUnfired r self.old self.new) }

@@ -18,6 +18,10 @@ use Rattle.node_core.specs.Saving.{Saves}
 use Rattle.round_states.specs.Saving.{Wrote}
 use Rattle.node_core.proofs.Spelled.{bundle_decided}
 use Rattle.node_core.proofs.node.NodeCore.decide.Given as given
+use Rattle.round_states.specs.Saving.{Unwritten}
+use Rattle.node_core.specs.declared.refusal.Refusal.TheVariants as answers
+use Rattle.node_core.specs.Named.{of_unfired}
+use Rattle.node_core.proofs.Broken.{unfired_broken, bundle_broken}
 use Rattle.node_core.proofs.node.NodeCore.decide.Goals as goal
 
 pub decide_saving-requires : goal.decide_saving-requires
@@ -94,3 +98,18 @@ pub invariant_of-self-in_err-saved : goal.invariant_of-self-in_err-saved
 invariant_of-self-in_err-saved g c =
     rw (c.in_err-saved.ensures.err, c.reserve.ensures.items, c.reserve-2.ensures.same, c.reserve-3.ensures.items)
     (unfired_sound (pending_of c.self.inside.state.me (saved g.came.context (pick c.self.inside.mempool) c.self.inside.state.state (DecideByBundle g.came.bundle))) c.in_err-saved.field-0.0 (seen c.self.inside) c.decide_saving.new.journal c.self.invariant (c.in_err-saved.ensures.unwritten (pick c.self.inside.mempool)))
+
+-- the record was not saved for the device
+pub returns-in_err-saved-clause-broken : goal.returns-in_err-saved-clause-broken
+returns-in_err-saved-clause-broken g c =
+    let p = err_from_is_err_and c.from_residual-in_err-saved.result c.from_residual-in_err-saved.ensures.1 in
+    let core : Core = seen c.self.inside in
+    let s = core.machine.state in
+    let v = pick core.queues in
+    let e = c.in_err-saved.field-0.0 in
+    let came = rw (← c.self.view_is) at c.requires.1.1.0 in
+    let unwritten = subst (λ (x : Came). Unwritten Saves (pending_of core.machine.me (saved x.context v s (DecideByBundle x.bundle))) e core.journal c.decide_saving.new.journal) came (c.in_err-saved.ensures.unwritten v) in
+    rw (← c.self.view_is, p.1, p.2) (λ is.
+    let failed : of_unfired e ≡ answers.JournalFailed = cc in
+    let b = unfired_broken core.machine.me (saved (context_of core) v s (DecideByBundle c.args.bundle)) e core.journal c.decide_saving.new.journal unwritten failed in
+    bundle_broken core c.self.invariant (rw (← c.self.view_is) at c.requires.1.0) c.args.bundle c.requires.1.1.1.1 (rw (← c.self.view_is) at c.requires.1.1.1.0) c.decide_saving.new.journal b.0 b.1 b.2)

@@ -20,6 +20,10 @@ use Rattle.node_core.proofs.Recorded.{rule_may_fire, decided_height}
 use Rattle.node_core.proofs.Unsaid.{unfired_tells, unfired_core, unfired_sound}
 use Rattle.node_core.proofs.Firings.{IsFiredTo, MayFire, fired_to, fired_once, fired_sound, written_serves, pending_decided, decided_in}
 use Rattle.node_core.proofs.node.NodeCore.fire.Given as given
+use Rattle.round_states.specs.Saving.{Unwritten}
+use Rattle.node_core.specs.declared.refusal.Refusal.TheVariants as answers
+use Rattle.node_core.specs.Named.{of_unfired}
+use Rattle.node_core.proofs.Broken.{unfired_broken, rule_broken}
 use Rattle.node_core.proofs.node.NodeCore.fire.Goals as goal
 
 made : (g : given.Over) (c : goal.After-note g) → IsFiredTo (rule_of c.self.inside.state.state c.args.rule) (seen {S = g.row.S.Denot} c.self.inside)
@@ -111,3 +115,21 @@ pub invariant_of-self-in_err-saved : goal.invariant_of-self-in_err-saved
 invariant_of-self-in_err-saved g c =
     rw (c.in_err-saved.ensures.err, c.reserve.ensures.items, c.reserve-2.ensures.items, c.reserve-3.ensures.same, c.reserve-4.ensures.items)
     (unfired_sound _ c.in_err-saved.field-0.0 (seen c.self.inside) c.fire.new.journal c.self.invariant c.in_err-saved.ensures.unwritten)
+
+-- the record was not saved for the device
+pub returns-in_err-saved-clause-broken : goal.returns-in_err-saved-clause-broken
+returns-in_err-saved-clause-broken g c =
+    let p = err_from_is_err_and c.from_residual-in_err-saved.result c.from_residual-in_err-saved.ensures.1 in
+    let core : Core = seen c.self.inside in
+    let s = core.machine.state in
+    let k = rule_of s c.args.rule in
+    let v = picked_value (pick_in c.in_ok-input.input) in
+    let e = c.in_err-saved.field-0.0 in
+    let context = rw (← c.self.view_is) at c.requires.1.1.0 in
+    let same = (subst (λ (n : Core). IsHanded n c.args.rule c.in_ok-input.input) (sym c.self.view_is) c.in_ok-input.ensures.handed).same in
+    let unwritten = subst (λ (h : Context). Unwritten Saves (pending_of core.machine.me (saved h v s k)) e core.journal c.fire.new.journal) context c.in_err-saved.ensures.unwritten in
+    let body = subst (λ o. IfSome (released_by core.machine.me o) IsBody) same c.in_ok-frame.ensures.spelled in
+    rw (← c.self.view_is, p.1, p.2) (λ is.
+    let failed : of_unfired e ≡ answers.JournalFailed = cc in
+    let b = unfired_broken core.machine.me (saved (context_of core) v s k) e core.journal c.fire.new.journal unwritten failed in
+    rule_broken core c.self.invariant (rw (← c.self.view_is) at c.requires.1.0) c.args.rule (rw (← c.self.view_is) at c.in_ok-input.ensures.fit) (rw (← c.self.view_is) at c.requires.1.1.1.1) body c.fire.new.journal b.0 (sym same ∙ b.1) b.2)

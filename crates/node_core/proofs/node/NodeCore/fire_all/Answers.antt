@@ -1,5 +1,5 @@
 use Rattle.std.proofs.lemmas.Result.{err_from_is_err_and}
-use Rattle.std.proofs.Common.{◌<◌, Err, refl, sym, ap, subst, ◌∙◌, suc, arith}
+use Rattle.std.proofs.Common.{◌≡◌, ◌<◌, Err, refl, sym, ap, subst, ◌∙◌, suc, arith}
 use Rattle.protocol.specs.Queues.{pick}
 use Rattle.protocol.specs.History.{firsts}
 use Rattle.round_machine.specs.Naming.{rule_of}
@@ -9,6 +9,9 @@ use Rattle.node_core.specs.Seen.{seen}
 use Rattle.node_core.specs.Calls.{HasFiredOnce, Serves}
 use Rattle.node_core.proofs.Stepwise.{none_fired, fired_more, once_counted, run_counted}
 use Rattle.node_core.proofs.Telling.{serves_itself, both_serve, tells_from, run_unfired, unfired_by}
+use Rattle.node_core.specs.declared.refusal.Refusal.TheVariants as answers
+use Rattle.node_core.specs.Calls.{IsUnfired, TellsJournal}
+use Rattle.node_core.proofs.Broken.{cut_off, cut_counted}
 use Rattle.node_core.proofs.node.NodeCore.fire_all.Goals as goal
 
 pub loop-rule-init : goal.loop-rule-init
@@ -61,3 +64,14 @@ returns-in_err-fire-clause-ran g c =
 
 pub returns-clause-ran : goal.returns-clause-ran
 returns-clause-ran g c = rw (← c.self.view_is) (run_counted (seen c.self.inside) _ 0 c.loop-rule.invariant.ran)
+
+pub returns-in_err-fire-clause-broken : goal.returns-in_err-fire-clause-broken
+returns-in_err-fire-clause-broken g c =
+    let p = err_from_is_err_and c.from_residual.result c.from_residual.ensures.1 in
+    let m = c.loop-rule.self in
+    let r = c.in_err-fire.field-0.0 in
+    rw (← c.self.view_is, p.1, p.2) (λ is.
+    let failed : r ≡ answers.JournalFailed = cc in
+    let tells = subst (λ x. TellsJournal (Err x) m.journal c.fire.new.self.journal) failed c.in_err-fire.ensures.journal in
+    let unfired = subst (λ x. IsUnfired x m c.fire.new.self) failed c.in_err-fire.ensures.err in
+    cut_counted (seen c.self.inside) _ 0 (cut_off _ m c.fire.new.self c.in-Some.rule c.loop-rule.invariant.ran (sym c.in-Some.ensures.rule) c.in-Some.ensures.holds unfired tells.now (c.in_err-fire.ensures.broken (ap Err failed))))

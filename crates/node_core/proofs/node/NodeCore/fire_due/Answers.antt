@@ -5,6 +5,11 @@ use Rattle.protocol.specs.Rules.{holds}
 use Rattle.node_core.specs.Core.{Core, context_of}
 use Rattle.node_core.specs.Seen.{seen}
 use Rattle.node_core.proofs.Due.{due_fired, due_passed}
+use Rattle.std.proofs.Common.{List}
+use Rattle.protocol.specs.Messages.{Record}
+use Rattle.node_core.specs.Core.{setting}
+use Rattle.node_core.specs.Calls.{IsLeft}
+use Rattle.node_core.proofs.Broken.{firing_cut}
 use Rattle.node_core.proofs.node.NodeCore.fire_due.Goals as goal
 
 pub fire-requires : goal.fire-requires
@@ -23,3 +28,11 @@ returns-else-holds_timeout-clause-ok g c =
     let h = sym (c.holds_timeout.ensures (context_of (seen c.self.inside))) ∙ c.if-holds_timeout.false in
     let there = subst (λ (x : Core). holds (context_of x) x.machine.state (TimedOut c.args.timeout) ≡ false) c.self.view_is h in
     λ n s. due_passed n c.args.timeout c.args.self.now s there
+
+pub returns-then-holds_timeout-clause-broken : goal.returns-then-holds_timeout-clause-broken
+unfolding setting
+returns-then-holds_timeout-clause-broken g c = λ is n s.
+    let old : Core = c.args.self.now in
+    let h = sym (c.holds_timeout.ensures (context_of (seen c.self.inside))) ∙ c.if-holds_timeout.true in
+    let there = subst (λ (x : Core). holds (context_of x) x.machine.state (TimedOut c.args.timeout) ≡ true) c.self.view_is h in
+    subst (λ (l : List Record). IsLeft old.machine.powers old.machine.me n.journal l c.fire.new.self.journal.bytes) (sym (firing_cut old n (TimedOut c.args.timeout) s refl there)) (c.fire.ensures.broken is n s)

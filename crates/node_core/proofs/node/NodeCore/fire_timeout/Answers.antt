@@ -1,4 +1,4 @@
-use Rattle.std.proofs.Common.{◌≡◌, false, inl, Some, Err, refl, sym, subst, ◌∙◌}
+use Rattle.std.proofs.Common.{◌≡◌, false, inl, Some, Err, refl, sym, ap, subst, ◌∙◌}
 use Rattle.std.proofs.lemmas.Result.{err_from_is_err_and}
 use Rattle.protocol.specs.State.{State, TimedOut}
 use Rattle.protocol.specs.Rules.{holds}
@@ -12,6 +12,9 @@ use Rattle.node_core.specs.Named.{of_unkept}
 use Rattle.node_core.proofs.Stepwise.{none_fired, called, stands_counted, taken_counted}
 use Rattle.node_core.proofs.Telling.{tells_itself, tells_from, unkept_other}
 use Rattle.node_core.proofs.Called.{halted_answers, halted_done, halted_tells, running_answers, run_answer, tells_begun, run_begun, run_left, unfired_refusal, unfired_done, unfired_left}
+use Rattle.node_core.proofs.Broken.{input_broken, run_broken}
+use Rattle.node_core.specs.declared.refusal.Refusal.TheVariants as answers
+use Rattle.node_core.specs.Calls.{IsUnfired}
 use Rattle.node_core.proofs.node.NodeCore.fire_timeout.Goals as goal
 
 pub returns-in_err-begin-clause-answer : goal.returns-in_err-begin-clause-answer
@@ -100,3 +103,30 @@ returns-clause-journal g c =
 
 pub returns-clause-refused : goal.returns-clause-refused
 returns-clause-refused g c = run_left c.fire_all.result _ c.fire_all.ensures.answer
+
+-- ---- the device failed
+
+pub returns-in_err-begin-clause-broken : goal.returns-in_err-begin-clause-broken
+returns-in_err-begin-clause-broken g c =
+    let p = err_from_is_err_and c.from_residual.result c.from_residual.ensures.1 in
+    let halted = c.in_err-begin.ensures.halted.0 in
+    rw (p.1, p.2) (λ is. absurd (let e : answers.Halted ≡ answers.JournalFailed = cc in cc))
+
+pub returns-in-Some-clause-broken : goal.returns-in-Some-clause-broken
+returns-in-Some-clause-broken g c = rw c.into.ensures (λ is. absurd (unkept_other c.in-Some.refusal cc))
+
+pub returns-in_err-fire_due-clause-broken : goal.returns-in_err-fire_due-clause-broken
+returns-in_err-fire_due-clause-broken g c =
+    let p = err_from_is_err_and c.from_residual-in_err-fire_due.result c.from_residual-in_err-fire_due.ensures.1 in
+    let r = c.in_err-fire_due.field-0.0 in
+    let begun : Core = c.begin.new.self in
+    let b = c.in_ok-begin.ensures.new in
+    rw (p.1, p.2) (λ is n s.
+    let failed : r ≡ answers.JournalFailed = cc in
+    input_broken n (Due c.args.timeout) c.args.self.now begun c.fire_due.new.self b (subst (λ x. IsUnfired x begun c.fire_due.new.self) failed c.in_err-fire_due.ensures.err)
+    (c.in_err-fire_due.ensures.broken (ap Err failed) n (subst (Stands n) (sym b) (stands_counted n c.args.self.now 0 s))))
+
+pub returns-clause-broken : goal.returns-clause-broken
+returns-clause-broken g c = λ is n s.
+    let b = c.in_ok-begin.ensures.new in
+    run_broken n (Due c.args.timeout) c.args.self.now c.begin.new.self c.fire_due.new.self c.fire_all.new.self b (c.in_ok-fire_due.ensures.ok n (subst (Stands n) (sym b) (stands_counted n c.args.self.now 0 s))) (c.fire_all.ensures.broken is)

@@ -17,6 +17,9 @@ use Rattle.node_core.proofs.Telling.{tells_itself, tells_from, inadmissible_othe
 use Rattle.node_core.proofs.Stepwise.{stands_counted}
 use Rattle.node_core.proofs.Called.{halted_answers, halted_done, halted_tells, running_answers, run_answer, tells_begun, run_begun, refused_call, refused_left, run_left}
 use Rattle.node_core.proofs.node.NodeCore.handle.Given as given
+use Rattle.node_core.proofs.Broken.{input_broken, run_broken, arrival_left}
+use Rattle.node_core.specs.declared.refusal.Refusal.TheVariants as answers
+use Rattle.node_core.specs.Calls.{IsRefused}
 use Rattle.node_core.proofs.node.NodeCore.handle.Goals as goal
 
 pub returns-in_err-begin-clause-answer : goal.returns-in_err-begin-clause-answer
@@ -132,3 +135,48 @@ returns-clause-journal g c =
 
 pub returns-clause-refused : goal.returns-clause-refused
 returns-clause-refused g c = run_left c.fire_all.result _ c.fire_all.ensures.answer
+
+-- ---- the device failed
+
+pub returns-in_err-begin-clause-broken : goal.returns-in_err-begin-clause-broken
+returns-in_err-begin-clause-broken g c =
+    let p = err_from_is_err_and c.from_residual.result c.from_residual.ensures.1 in
+    let halted = c.in_err-begin.ensures.halted.0 in
+    rw (p.1, p.2) (λ is. absurd (let e : answers.Halted ≡ answers.JournalFailed = cc in cc))
+
+pub returns-in_err-message-clause-broken : goal.returns-in_err-message-clause-broken
+returns-in_err-message-clause-broken g c =
+    let p = err_from_is_err_and c.from_residual-in_err-message.result c.from_residual-in_err-message.ensures.1 in
+    rw (p.1, p.2) (λ is. absurd (inadmissible_other c.in_err-message.field-0.0 cc))
+
+pub returns-in_err-take-clause-broken : goal.returns-in_err-take-clause-broken
+returns-in_err-take-clause-broken g c =
+    let p = err_from_is_err_and c.from_residual-in_err-take.result c.from_residual-in_err-take.ensures.1 in
+    let old : Core = c.args.self.now in
+    let begun : Core = c.begin.new.self in
+    let new : Core = c.take.new.self in
+    let r = c.in_err-take.field-0.0 in
+    let m = c.in_ok-message.message in
+    let frame = c.args.frame.now in
+    let b = c.in_ok-begin.ensures.new in
+    let admission = (admitted c.args.self.now c.begin.new.self (seen c.self.inside) c.args.frame.now c.in_ok-message.message c.self.view_is c.in_ok-begin.ensures.new (c.in_ok-message.ensures.answer (setting_of (seen c.self.inside)) c.self.inside.state.me (known (seen c.self.inside) c.self.invariant))) in
+    let read = (let_in_message (setting_of old) old.machine.me frame m admission).0 in
+    rw (p.1, p.2) (λ is n s.
+    let failed : r ≡ answers.JournalFailed = cc in
+    let left = c.in_err-take.ensures.broken (ap Err failed) n (subst (Stands n) (sym b) (stands_counted n old 0 s)) in
+    let none = judged old begun n frame m (Ok tt) b admission left.0 in
+    let here = subst (λ (x : Core). answer (setting_of x) x.machine.me n frame ≡ None) (sym b) none in
+    input_broken n (Given frame) old begun new b (subst (λ x. IsRefused x begun new) failed c.in_err-take.ensures.err) (arrival_left begun n frame m new.journal.bytes read here left.1))
+
+pub returns-clause-broken : goal.returns-clause-broken
+returns-clause-broken g c = λ is n s.
+    let old : Core = c.args.self.now in
+    let begun : Core = c.begin.new.self in
+    let m = c.in_ok-message.message in
+    let b = c.in_ok-begin.ensures.new in
+    let s0 = subst (Stands n) (sym b) (stands_counted n old 0 s) in
+    let admission = (admitted c.args.self.now c.begin.new.self (seen c.self.inside) c.args.frame.now c.in_ok-message.message c.self.view_is c.in_ok-begin.ensures.new (c.in_ok-message.ensures.answer (setting_of (seen c.self.inside)) c.self.inside.state.me (known (seen c.self.inside) c.self.invariant))) in
+    let none = judged old begun n c.args.frame.now m (Ok tt) b admission (c.in_ok-take.ensures.answer n s0) in
+    let read = (let_in_message (setting_of old) old.machine.me c.args.frame.now m admission).0 in
+    run_broken n (Given c.args.frame.now) old begun c.take.new.self c.fire_all.new.self b
+    (received_taken n c.args.frame.now m begun c.take.new.self read (subst (λ (x : Core). answer (setting_of x) x.machine.me n c.args.frame.now ≡ None) (sym b) none) (c.in_ok-take.ensures.ok n s0)) (c.fire_all.ensures.broken is)

@@ -4,6 +4,9 @@ use Rattle.protocol.specs.History.{Settle}
 use Rattle.node_core.specs.Core.{Core, Stands}
 use Rattle.node_core.proofs.Stepwise.{settled, stands_counted}
 use Rattle.node_core.proofs.Called.{halted_answers, halted_done, halted_tells, running_answers, run_answer, tells_begun, run_begun, run_left}
+use Rattle.node_core.proofs.Broken.{run_broken}
+use Rattle.node_core.specs.declared.refusal.Refusal.TheVariants as answers
+use Rattle.std.proofs.Common.{◌≡◌}
 use Rattle.node_core.proofs.node.NodeCore.settle.Goals as goal
 
 pub returns-in_err-begin-clause-answer : goal.returns-in_err-begin-clause-answer
@@ -34,3 +37,16 @@ returns-clause-done g c = λ n s.
 
 pub returns-clause-refused : goal.returns-clause-refused
 returns-clause-refused g c = run_left c.fire_all.result _ c.fire_all.ensures.answer
+
+-- ---- the device failed
+
+pub returns-in_err-begin-clause-broken : goal.returns-in_err-begin-clause-broken
+returns-in_err-begin-clause-broken g c =
+    let p = err_from_is_err_and c.from_residual.result c.from_residual.ensures.1 in
+    let halted = c.in_err-begin.ensures.halted.0 in
+    rw (p.1, p.2) (λ is. absurd (let e : answers.Halted ≡ answers.JournalFailed = cc in cc))
+
+pub returns-clause-broken : goal.returns-clause-broken
+returns-clause-broken g c = λ is n s.
+    let mid : Core = c.begin.new.self in
+    run_broken n Settle c.args.self.now mid mid c.fire_all.new.self c.in_ok-begin.ensures.new (settled n mid (subst (Stands n) (sym c.in_ok-begin.ensures.new) (stands_counted n c.args.self.now 0 s))) (c.fire_all.ensures.broken is)

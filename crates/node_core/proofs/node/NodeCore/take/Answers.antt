@@ -9,6 +9,8 @@ use Rattle.protocol.specs.Refusals.{first_cause, proposal_causes}
 use Rattle.node_core.specs.Core.{setting, setting_of}
 use Rattle.node_core.specs.Calls.{IsAnswer}
 use Rattle.node_core.proofs.Telling.{result_refused}
+use Rattle.protocol.specs.Refusals.{bundle_causes}
+use Rattle.node_core.proofs.Broken.{never_broken, err_same}
 use Rattle.node_core.proofs.node.NodeCore.take.Goals as goal
 
 pub returns-in-Proposal-clause-answer : goal.returns-in-Proposal-clause-answer
@@ -34,3 +36,23 @@ take_vote-requires-clause-right g c =
     let old = c.args.self.now in
     let none = subst (λ (b : Body). first_cause (gate_causes (setting_of old) old.machine.me b c.args.message.tags) ≡ None) c.in-Vote.is c.requires.admitted in
     not-false _ (none_stand (gate_causes (setting_of old) old.machine.me (OfVote c.in-Vote.vote) c.args.message.tags) (ap is_none none)).1.0
+
+-- ---- what is not a bundle saves nothing
+
+pub returns-in-Tx-clause-broken : goal.returns-in-Tx-clause-broken
+returns-in-Tx-clause-broken g c = λ is. absurd (never_broken c.take_tx.result _ _ (err_same c.take_tx.result _ _ c.take_tx.ensures.err is) c.take_tx.ensures.journal is)
+
+pub returns-in-Proposal-clause-broken : goal.returns-in-Proposal-clause-broken
+returns-in-Proposal-clause-broken g c = λ is. absurd (never_broken c.take_proposal.result _ _ (err_same c.take_proposal.result _ _ c.take_proposal.ensures.err is) c.take_proposal.ensures.journal is)
+
+pub returns-in-Vote-clause-broken : goal.returns-in-Vote-clause-broken
+returns-in-Vote-clause-broken g c = λ is. absurd (never_broken c.take_vote.result _ _ (err_same c.take_vote.result _ _ c.take_vote.ensures.err is) c.take_vote.ensures.journal is)
+
+pub returns-in-Ask-clause-broken : goal.returns-in-Ask-clause-broken
+returns-in-Ask-clause-broken g c = λ is. absurd (never_broken c.take_ask.result _ _ (err_same c.take_ask.result _ _ c.take_ask.ensures.err is) c.take_ask.ensures.journal is)
+
+pub returns-in-Bundle-clause-broken : goal.returns-in-Bundle-clause-broken
+unfolding setting
+returns-in-Bundle-clause-broken g c = λ is n s.
+    let old = c.args.self.now in
+    rw c.in-Bundle.is (subst (λ (x : State). first_cause (bundle_causes (setting_of old) old.machine.me x c.in-Bundle.bundle) ≡ None) s.state (c.take_bundle.ensures.possible is), c.take_bundle.ensures.broken is n s)
