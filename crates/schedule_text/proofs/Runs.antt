@@ -2,7 +2,6 @@
 use Rattle.std.proofs.Common.{ℕ, false, Result, Ok, Err, List}
 use Rattle.std.specs.Prelude.{Bool, IfOk}
 use Rattle.world_schedule.specs.Reports.{Made}
-use Rattle.world_schedule.specs.Serving.{AreServed}
 use Rattle.world_schedule.specs.Worlds.{HasOpened, IsWorld, IsReport}
 use Rattle.world_schedule.specs.declared.report.Report.{Report}
 use Rattle.world_schedule.specs.declared.world.World.{World}
@@ -17,12 +16,12 @@ if_ok P Q (Err e) p f = tt
 
 -- the first report of a world of a schedule's parties is a report of the schedule
 pub first_report : {E : Type 0} (s : Schedule) (old new : World) (result : Result Report E) → HasOpened s.cast.parties.powers s.cast.clients s.cast.liars.items old
-    → ((cast : Cast) (ms : List Made) (brought : ℕ → ℕ → Bool) → IsWorld cast ms brought old → IfOk result (λ report. AreServed report.told → IsReport cast ms brought s.rest.items old new report))
-    → IfOk result (λ report. AreServed report.told → IsRunOf s report)
+    → ((cast : Cast) (ms : List Made) (brought : ℕ → ℕ → Bool) → IsWorld cast ms brought old → IfOk result (λ report. IsReport cast ms brought s.rest.items old new report))
+    → IfOk result (IsRunOf s)
 first_report s old new result opened handed =
     let begun = opened.begun in
     let k : ℕ → ℕ → Bool = λ number p. false in
-    if_ok _ _ result (handed opened.cast begun.made k begun.is_world) (λ report is served. record {
+    if_ok _ _ result (handed opened.cast begun.made k begun.is_world) (λ report is. record {
       cast = opened.cast;
       powers_are = opened.powers_are;
       clients_are = opened.clients_are;
@@ -31,5 +30,6 @@ first_report s old new result opened handed =
       settled = begun.settled;
       old = old;
       new = new;
-      reported = is served;
+      served = begun.served;
+      reported = is;
     })

@@ -1,7 +1,6 @@
 //! The program, after its file was opened.
 
 ghost use Rattle.std.specs.Prelude.{◌≡◌, ◌≢◌, ◌≤◌, ◌⊎◌, [], IfOk, IfErr, OnOk};
-ghost use Rattle.world_schedule.specs.Serving.{AreServed};
 ghost use Rattle.schedule_text.specs.Runs.{IsRunOf};
 ghost use Rattle.std.specs.Io.KnownBytes.{IsAtEnd};
 ghost use Rattle.schedule_text.specs.Failures.{status_of};
@@ -133,7 +132,7 @@ fn reported<'a, W: Write>(
     out: &mut W,
 ) -> Result<Report, Failure<'a>>
     ensures quiet { IfErr result (λ failure. status_of failure ≢ 2) }
-    ensures whole { schedule.now.stretches.items ≡ [] → IfOk result (λ report. AreServed report.told → IsRunOf schedule.now report) }
+    ensures whole { schedule.now.stretches.items ≡ [] → IfOk result (IsRunOf schedule.now) }
 {
     let mut run = Run::new(alloc, schedule)?;
     run.tell_stretches(&schedule.stretches, out)?;

@@ -3,7 +3,6 @@
 ghost use Rattle.std.specs.Prelude.{◌≡◌, ◌≢◌, [], ℕ, Bool, List, IfOk, IfErr};
 ghost use Rattle.world_parties.specs.Cast.{Cast};
 ghost use Rattle.world_schedule.specs.Reports.{Made};
-ghost use Rattle.world_schedule.specs.Serving.{AreServed};
 ghost use Rattle.world_schedule.specs.Worlds.{HasOpened, IsWorld, IsReport};
 ghost use Rattle.schedule_text.specs.Failures.{status_of};
 
@@ -74,7 +73,7 @@ impl<'a> Run<'a> {
         out: &mut W,
     ) -> Result<Report, Failure<'f>>
         ensures quiet { IfErr result (λ failure. status_of failure ≢ 2) }
-        ensures handed { (cast : Cast) (ms : List Made) (brought : ℕ → ℕ → Bool) → IsWorld cast ms brought self.old.world → IfOk result (λ report. AreServed report.told → IsReport cast ms brought events.now self.old.world self.new.world report) }
+        ensures handed { (cast : Cast) (ms : List Made) (brought : ℕ → ℕ → Bool) → IsWorld cast ms brought self.old.world → IfOk result (λ report. IsReport cast ms brought events.now self.old.world self.new.world report) }
     {
         match self.world.run(events) {
             Ok(report) => {

@@ -15,10 +15,11 @@ use Rattle.protocol.specs.History.{Settle, Given}
 use Rattle.world_parties.specs.Cast.{Cast, setting_of, is_correct, is_client, correct}
 use Rattle.world_parties.specs.declared.fault.FaultNumber.{FaultNumber}
 use Rattle.world_parties.specs.declared.fault.FaultNumber.TheVariants.{NoSuchMessage, NoSuchParty, ClientClosed}
+use Rattle.world_schedule.specs.Health.{Health, Serving, Broken, Closed}
 use Rattle.world_schedule.specs.Cores.{frame_in}
 use Rattle.world_schedule.specs.Calls.{Call, Sent, Handed, Asked, Resent, Reopened, adding}
 use Rattle.world_schedule.specs.Reports.{Made, validator_of, said, said_as, newly, released_from, noted, told_of_call}
-use Rattle.world_schedule.specs.Making.{Request, Hands, Scene, IsInsisted, IsTurn, AreTurns, IsReopened, IsRestart, scene_next, scene_after}
+use Rattle.world_schedule.specs.Making.{Request, Hands, Scene, IsInsisted, IsTurn, AreTurns, IsReopened, IsSettled, IsRestart, scene_next, scene_after}
 use Rattle.world_schedule.specs.Standings.{Holds, Says}
 use Rattle.world_schedule.specs.Validators.{HaveTurned}
 use Rattle.world_schedule.specs.Restarting.{HaveRestarted}
@@ -105,10 +106,15 @@ unsent_reopened c s k p (m ∷ []) client i = unsent_once c s m p client i.0.by
 unsent_reopened c s k p (m ∷ again ∷ []) client i = unsent_once c (scene_next c s m) again p client i.2.by ∙ unsent_once c s m p client i.0.by
 unsent_reopened c s k p (m ∷ again ∷ more ∷ rest) client i = absurd i
 
+unsent_settled : (c : Setting) (s : Scene) (k p : ℕ) (h : Health) (ms : List Made) (client : ℕ) → IsSettled c s k p h ms → (scene_after c s ms).standing.sent client ≡ s.standing.sent client
+unsent_settled c s k p Serving ms client t = unsent_turn c s k p (Hands Settle) ms client t
+unsent_settled c s k p (Broken cut) ms client t = unsent_turn c s k p (Hands Settle) ms client t
+unsent_settled c s k p (Closed cut) ms client t = subst (λ l. (scene_after c s l).standing.sent client ≡ s.standing.sent client) (sym t) refl
+
 unsent_restart : (c : Setting) (s : Scene) (k p : ℕ) (ms : List Made) (client : ℕ) → IsRestart c s k p ms → (scene_after c s ms).standing.sent client ≡ s.standing.sent client
 unsent_restart c s k p ms client t =
     subst (λ l. (scene_after c s l).standing.sent client ≡ s.standing.sent client) (sym t.2)
-    (ap (λ (x : Scene). x.standing.sent client) (scene_append c s t.0 t.1) ∙ unsent_turn c (scene_after c s t.0) k p (Hands Settle) t.1 client t.4 ∙ unsent_reopened c s k p t.0 client t.3)
+    (ap (λ (x : Scene). x.standing.sent client) (scene_append c s t.0 t.1) ∙ unsent_settled c (scene_after c s t.0) k p ((scene_after c s t.0).health p) t.1 client t.4 ∙ unsent_reopened c s k p t.0 client t.3)
 
 restarted_leads : (c : Setting) (s : Scene) (p : ℕ) (old new : List Seat) (before after : Chronicle) → (k : HaveRestarted c s p old new before after) → LeadOn c s k.made old new before after
 restarted_leads c s p old new before after k = record { up = k.up; places_are = k.places_are; holds = k.holds; told = k.told; event = k.event }
@@ -261,7 +267,7 @@ pub sends : (cast : Cast) (w : Course) (client : ℕ) (op : Op) (old : Stage) (c
     → Says (setting_of cast) w.scene.standing.numbered None (said_as (next_item client op (w.scene.standing.sent client)) ∷ []) old.chronicle chronicle → last ≡ record { count = suc (length (w.scene.standing.sent client)); closed = is_close op } → clients.each.items ≡ set old.clients.each.items client last
     → HasActed cast w (events.Send client op) old (record old { chronicle = chronicle; clients = clients })
 sends cast w client op old chronicle clients last at known within unclosed says is counted =
-    let m : Made = record { event = old.chronicle.event; call = Sent client op; answer = (0, 0) } in
+    let m : Made = record { event = old.chronicle.event; call = Sent client op; answer = (0, 0); health = Serving } in
     let s : Scene = w.scene in
     let said_here : said (setting_of cast) s.standing (Sent client op) ≡ said_as (next_item client op (s.standing.sent client)) ∷ [] = rw unclosed refl in record {
       made = m ∷ [];

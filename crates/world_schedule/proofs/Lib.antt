@@ -15,6 +15,7 @@ pub mod Causes
 pub mod Meeting
 pub mod Called
 pub mod Turning
+pub mod Staying
 pub mod Others
 pub mod InTurn
 pub mod Places

@@ -112,11 +112,6 @@ pub on_ok_both : {T E : Type 0} {P Q : Type 0} (result : Result T E) → OnOk re
 on_ok_both (Ok x) p f = f p
 on_ok_both (Err e) p f = tt
 
--- what holds where the end is served, by what then holds of the middle
-pub on_ok_served : {T E : Type 0} (A B Q : Type 0) (result : Result T E) → OnOk result (B → A) → (A → OnOk result (B → Q)) → OnOk result (B → Q)
-on_ok_served A B Q (Ok x) before f = λ b. f (before b) b
-on_ok_served A B Q (Err e) before f = tt
-
 pub on_ok_if : {T E : Type 0} {P : T → Type 0} {Q : Type 0} (result : Result T E) → IfOk result P → ((x : T) → P x → Q) → OnOk result Q
 on_ok_if (Ok x) p f = f x p
 on_ok_if (Err e) p f = tt

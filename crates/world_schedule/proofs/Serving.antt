@@ -1,8 +1,5 @@
--- Where no failure of a store is told.
-use Rattle.std.proofs.Common.{◌≡◌, ◌≢◌, ℕ, Bool, true, false, Option, List, [], ◌∷◌, ◌++◌, Result, Ok, Err, sym, ap, ◌∙◌, arith, eq-eqb}
-use Rattle.std.specs.Prelude.{◌||◌, ◌==◌}
-use Rattle.std.specs.List.{list_any}
-use Rattle.std.proofs.lemmas.List.Folds.{list_any-append}
+-- Which answers tell that a node had halted, and that the device failed.
+use Rattle.std.proofs.Common.{◌≡◌, ◌≢◌, ◌⊎◌, inl, inr, Bool, true, false, Option, Result, Ok, Err, refl, ap, arith}
 use Rattle.protocol.specs.Refusals.{Refusal}
 use Rattle.mempool.specs.declared.fault.SubmitFault.TheVariants as submits
 use Rattle.height_catchup.specs.declared.judging.JudgeFault.TheVariants as judges
@@ -11,40 +8,6 @@ use Rattle.node_core.specs.Named.{numbers_of}
 use Rattle.node_core.specs.declared.refusal.Refusal.{Refusal as Node}
 use Rattle.node_core.specs.declared.refusal.Refusal.TheVariants as answers
 use Rattle.world_schedule.specs.Handed.{told_numbers}
-use Rattle.world_schedule.specs.Serving.{is_failure, AreServed, WasServed}
-use Rattle.world_schedule.specs.Standings.{Tells}
-use Rattle.world_schedule.specs.declared.chronicle.Chronicle.{Chronicle}
-use Rattle.world_schedule.specs.declared.report.Answer.{Answer}
-use Rattle.world_schedule.specs.declared.report.Told.{Told}
-use Rattle.world_schedule.specs.declared.report.What.{What}
-use Rattle.world_schedule.specs.declared.report.What.TheVariants.{Answered}
-
-or_left : (a b : Bool) → (a || b) ≡ false → a ≡ false
-or_left true b e = e
-or_left false b e = ap (λ x. false) e
-
-or_right : (a b : Bool) → (a || b) ≡ false → b ≡ false
-or_right true b e = absurd (cc)
-or_right false b e = e
-
--- both parts are served
-pub served_front : (xs ys zs : List Told) → zs ≡ xs ++ ys → WasServed xs zs
-served_front xs ys zs e s = or_left _ _ (sym (list_any-append (λ (t : Told). is_failure t.what) xs ys) ∙ ap (list_any (λ (t : Told). is_failure t.what)) (sym e) ∙ s)
-
-pub served_back : (xs ys zs : List Told) → zs ≡ xs ++ ys → AreServed zs → AreServed ys
-served_back xs ys zs e s = or_right (list_any (λ (t : Told). is_failure t.what) xs) _ (sym (list_any-append (λ (t : Told). is_failure t.what) xs ys) ∙ ap (list_any (λ (t : Told). is_failure t.what)) (sym e) ∙ s)
-
-pub tells_served : (who : Option ℕ) (whats : List What) (old new : Chronicle) → Tells who whats old new → WasServed old.told.items new.told.items
-tells_served who whats old new t = served_front old.told.items _ new.told.items t.told
-
--- an answer that is told is no failure
-pub answer_served : (who : Option ℕ) (a : Answer) (old new : Chronicle) → Tells who (Answered a ∷ []) old new → AreServed new.told.items → a.number ≢ 17
-answer_served who a old new t s e =
-    let none : ((a.number == 17) || false) ≡ false = served_back old.told.items _ new.told.items t.told s in
-    let no : (a.number == 17) ≡ false = or_left (a.number == 17) false none in
-    let yes : (a.number == 17) ≡ true = eq-eqb a.number 17 e in
-    let both : true ≡ false = sym yes ∙ no in
-    cc
 
 -- ---- a node that serves has not halted
 
@@ -82,3 +45,39 @@ pub not_halted : (halted : Bool) (cause : Option Refusal) (result : Result (Unit
 not_halted true cause result e a f = let g : true ≡ false = e in cc
 not_halted false cause (Ok done) e a f = let g : 0 ≡ 15 = f in omega (arith, g)
 not_halted false cause (Err r) e a f = refusal_runs cause r a f
+
+-- ---- whether the device failed
+
+refusal_serves : (r : Node) → (r ≡ answers.JournalFailed) ⊎ ((numbers_of r).0 ≢ 17)
+refusal_serves answers.Truncated = inr (λ e. let f : 1 ≡ 17 = e in omega (arith, f))
+refusal_serves answers.TooLong = inr (λ e. let f : 2 ≡ 17 = e in omega (arith, f))
+refusal_serves answers.BadKind = inr (λ e. let f : 3 ≡ 17 = e in omega (arith, f))
+refusal_serves answers.BadSpelling = inr (λ e. let f : 4 ≡ 17 = e in omega (arith, f))
+refusal_serves answers.UnknownSender = inr (λ e. let f : 5 ≡ 17 = e in omega (arith, f))
+refusal_serves answers.BadTag = inr (λ e. let f : 6 ≡ 17 = e in omega (arith, f))
+refusal_serves answers.OtherHeight = inr (λ e. let f : 7 ≡ 17 = e in omega (arith, f))
+refusal_serves answers.VoterFull = inr (λ e. let f : 8 ≡ 17 = e in omega (arith, f))
+refusal_serves answers.Repeat = inr (λ e. let f : 9 ≡ 17 = e in omega (arith, f))
+refusal_serves answers.RoundLimit = inr (λ e. let f : 10 ≡ 17 = e in omega (arith, f))
+refusal_serves answers.RoundAhead = inr (λ e. let f : 11 ≡ 17 = e in omega (arith, f))
+refusal_serves answers.WrongProposer = inr (λ e. let f : 12 ≡ 17 = e in omega (arith, f))
+refusal_serves (answers.Submit submits.UnknownClient) = inr (λ e. let f : 13 ≡ 17 = e in omega (arith, f))
+refusal_serves (answers.Submit submits.BadTag) = inr (λ e. let f : 13 ≡ 17 = e in omega (arith, f))
+refusal_serves (answers.Submit submits.OldNumber) = inr (λ e. let f : 13 ≡ 17 = e in omega (arith, f))
+refusal_serves (answers.Submit submits.Gap) = inr (λ e. let f : 13 ≡ 17 = e in omega (arith, f))
+refusal_serves (answers.Submit submits.Closed) = inr (λ e. let f : 13 ≡ 17 = e in omega (arith, f))
+refusal_serves (answers.Submit submits.QueueFull) = inr (λ e. let f : 13 ≡ 17 = e in omega (arith, f))
+refusal_serves (answers.Submit submits.TooLong) = inr (λ e. let f : 13 ≡ 17 = e in omega (arith, f))
+refusal_serves (answers.Submit submits.OutOfMemory) = inr (λ e. let f : 13 ≡ 17 = e in omega (arith, f))
+refusal_serves (answers.Bundle judges.NoQuorum) = inr (λ e. let f : 14 ≡ 17 = e in omega (arith, f))
+refusal_serves (answers.Bundle judges.WrongDigest) = inr (λ e. let f : 14 ≡ 17 = e in omega (arith, f))
+refusal_serves (answers.Bundle judges.BadTag) = inr (λ e. let f : 14 ≡ 17 = e in omega (arith, f))
+refusal_serves (answers.Bundle judges.NotValid) = inr (λ e. let f : 14 ≡ 17 = e in omega (arith, f))
+refusal_serves (answers.Bundle judges.OutOfMemory) = inr (λ e. let f : 14 ≡ 17 = e in omega (arith, f))
+refusal_serves answers.Halted = inr (λ e. let f : 15 ≡ 17 = e in omega (arith, f))
+refusal_serves answers.OutOfMemory = inr (λ e. let f : 16 ≡ 17 = e in omega (arith, f))
+refusal_serves answers.JournalFailed = inl refl
+
+pub is_broken : (result : Result (Unit {0}) Node) → (result ≡ Err answers.JournalFailed) ⊎ ((told_numbers result).0 ≢ 17)
+is_broken (Ok done) = inr (λ e. let f : 0 ≡ 17 = e in omega (arith, f))
+is_broken (Err r) = elim (refusal_serves r) [ inl e ↦ inl (ap Err e) | inr other ↦ inr other ]

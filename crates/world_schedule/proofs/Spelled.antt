@@ -13,14 +13,17 @@ use Rattle.protocol.specs.Restart.{own_since}
 use Rattle.protocol.specs.Queues.{pick}
 use Rattle.protocol.specs.Refusals.{context}
 use Rattle.protocol.specs.Arrivals.{firing, replies, bundles_of}
+use Rattle.protocol.specs.World.{Cut, cut_record}
 use Rattle.protocol.specs.History.{Input, Settle, Given, Due, first, firsts, taken, after}
 use Rattle.protocol.specs.Effects.{bodies_of, bodies_taken, along, bodies_after}
 use Rattle.protocol.proofs.Arrivals.{come_cases, try_cases}
 use Rattle.protocol.proofs.Membership.{in_append, in_left, in_right}
 use Rattle.protocol.proofs.Tagging.{tagged_law}
-use Rattle.std.proofs.lemmas.List.{reverse-append}
+use Rattle.std.proofs.lemmas.List.{reverse-append, reverse-reverse}
 use Rattle.vote_journal.specs.Grammar.{IsRecord}
 use Rattle.vote_journal.specs.Order.{AreLawful}
+use Rattle.vote_journal.specs.Layout.{IsJournal}
+use Rattle.node_core.specs.Calls.{IsLeftBy}
 use Rattle.world_schedule.specs.Standings.{AreReadable}
 
 -- the record lets the body be said: an own message, or a decision
@@ -133,9 +136,26 @@ in_reverse x [] i = absurd i
 in_reverse x (y ∷ ys) (inl e) = subst (λ l. x ∈ l) (sym (reverse-append (y ∷ []) ys)) (in_right x (reverse ys) (y ∷ []) (inl e))
 in_reverse x (y ∷ ys) (inr i) = subst (λ l. x ∈ l) (sym (reverse-append (y ∷ []) ys)) (in_left x (reverse ys) (y ∷ []) (in_reverse x ys i))
 
+in_back : {X : Type 0} (x : X) (xs : List X) → x ∈ reverse xs → x ∈ xs
+in_back x xs i = subst (λ l. x ∈ l) (reverse-reverse xs) (in_reverse x (reverse xs) i)
+
+lawful_of : {powers : List ℕ} {p : ℕ} {bytes : List ℕ} {rs : List Record} → IsJournal powers p bytes rs → AreLawful powers p [] rs
+lawful_of {powers} {p} (inl k) = subst (AreLawful powers p []) (sym k.1) tt
+lawful_of (inr k) = k.2.lawful
+
 -- What is said of a journal that stands whole can be spelled.
 pub saved_spelled : (powers : List ℕ) (p : ℕ) (j : List Record) (bodies : List Body) → AreLawful powers p [] (reverse j) → AreSaved p j bodies → (b : Body) → b ∈ bodies → IsBody b
 saved_spelled powers p j bodies lawful saved b i = let k = saved b i in said_spelled p k.0 b (lawful_each powers p [] (reverse j) lawful k.0 (in_reverse k.0 j k.1)) k.2
+
+-- and so where the bytes in the store are a journal of it, or of it and more
+pub left_spelled : (c : Setting) (p : ℕ) (n : Node) (cut : Option Cut) (bytes : List ℕ) (bodies : List Body) → IsLeftBy c p n cut bytes → AreSaved p n.journal bodies → (b : Body) → b ∈ bodies → IsBody b
+left_spelled c p n cut bytes bodies left saved b i =
+    let k = saved b i in
+    let within : k.0 ∈ left.0 = elim left.2 [
+      | inl e ↦ in_back k.0 left.0 (subst (λ j. k.0 ∈ j) (sym e) k.1)
+      | inr e ↦ in_back k.0 left.0 (subst (λ j. k.0 ∈ j) (sym e) (in_right k.0 (cut_record c p n cut) n.journal k.1))
+    ] in
+    said_spelled p k.0 b (lawful_each c.powers p [] left.0 (lawful_of left.1) k.0 within) k.2
 
 -- and its frame is read again
 pub spelled_readable : (c : Setting) (bodies : List Body) → 1 ≤ length c.powers → length c.powers ≤ 64 → ((b : Body) → b ∈ bodies → IsBody b) → AreReadable c bodies

@@ -11,6 +11,7 @@ use Rattle.world_parties.specs.Sending.{proposed, voted, bundled, submitted}
 use Rattle.world_parties.specs.declared.fault.FaultNumber.{FaultNumber}
 use Rattle.world_parties.specs.declared.fault.FaultNumber.TheVariants.{NoSuchMessage, NoSuchParty, ClientClosed, TooLong, OutOfMemory}
 use Rattle.world_schedule.specs.Calls.{Sent}
+use Rattle.world_schedule.specs.Health.{Serving}
 use Rattle.world_schedule.specs.Cores.{frame_in}
 use Rattle.world_schedule.specs.Reports.{Made, Standing, is_by}
 use Rattle.world_schedule.specs.Making.{Request, Hands, Asks, Resends, Scene, scene_after, AreTurns, IsRestart}
@@ -60,7 +61,7 @@ turns cast w (events.Frame p bytes) = comes p bytes
 
 -- The calls that an event is, made at event k: a client sends, a validator is restarted, or each validator has its turn.
 abbrev pub Happens : Cast → Course → ℕ → Event → List Made → Type 0
-Happens cast w k (events.Send client op) made = made ≡ record { event = k; call = Sent client op; answer = (0, 0) } ∷ []
+Happens cast w k (events.Send client op) made = made ≡ record { event = k; call = Sent client op; answer = (0, 0); health = Serving } ∷ []
 Happens cast w k (events.Restart p) made = IsRestart (setting_of cast) w.scene k p made
 Happens cast w k event made = AreTurns (setting_of cast) w.scene k (turns cast w event) made
 

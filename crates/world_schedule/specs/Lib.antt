@@ -1,5 +1,6 @@
 pub mod Seeing
 pub mod Calls
+pub mod Health
 pub mod Rings
 pub mod Reports
 pub mod Runs

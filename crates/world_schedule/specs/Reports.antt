@@ -11,6 +11,7 @@ use Rattle.protocol.specs.Queues.{is_closed}
 use Rattle.protocol.specs.World.{next_item}
 use Rattle.protocol.specs.Effects.{bundles_in}
 use Rattle.world_schedule.specs.Calls.{Call, Sent, Handed, Asked, Resent, Reopened, moved, all_moved, adding, bodies_by, bodies, unopened, node_after, sent}
+use Rattle.world_schedule.specs.Health.{Health}
 use Rattle.world_schedule.specs.declared.report.What.{What}
 use Rattle.world_schedule.specs.declared.report.What.TheVariants.{Answered, Decided, Released}
 use Rattle.world_schedule.specs.declared.report.Told.{Told}
@@ -24,6 +25,7 @@ pub record Made : Type 0 where
   pub event : ℕ  -- at which it was made
   pub call : Call
   pub answer : ℕ × ℕ  -- of a validator's call: the numbers of its answer
+  pub health : Health  -- of the validator, after it
 
 abbrev pub calls_of : List Made → List Call
 calls_of ms = map (λ (m : Made). m.call) ms

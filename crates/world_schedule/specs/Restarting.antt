@@ -1,22 +1,24 @@
 -- A validator that is opened again over its journal.
-use Rattle.std.specs.Prelude.{◌≡◌, ℕ, false, List, [], ◌++◌}
+use Rattle.std.specs.Prelude.{◌≡◌, ◌⊎◌, ℕ, false, Option, None, List, [], ◌++◌, length}
 use Rattle.vote_journal.specs.Saving.{KeepsRecords}
 use Rattle.protocol.specs.Tags.{Setting}
 use Rattle.round_states.specs.Seen.{delivered_by}
-use Rattle.protocol.specs.State.{Node}
 use Rattle.protocol.specs.Restart.{opened}
+use Rattle.protocol.specs.World.{Cut, cut_record}
+use Rattle.protocol.specs.Effects.{bundles_in}
+use Rattle.world_schedule.specs.Health.{doubt}
 use Rattle.world_schedule.specs.Cores.{StandsIn}
 use Rattle.world_schedule.specs.Reports.{Made, told}
-use Rattle.world_schedule.specs.Making.{Scene, Reopens, IsReopened, IsRestart, scene_after}
+use Rattle.world_schedule.specs.Making.{Scene, IsReopened, IsRestart, scene_after}
 use Rattle.world_schedule.specs.Standings.{Holds}
-use Rattle.world_schedule.specs.Validators.{HasMet, LeadsTo, AreUp, places}
+use Rattle.world_schedule.specs.Validators.{IsNumber, LeadsTo, AreUp, places}
 use Rattle.world_schedule.specs.declared.validator.Validator.{Validator}
 use Rattle.world_schedule.specs.declared.seat.Seat.{Seat}
 use Rattle.world_schedule.specs.declared.seat.Seat.TheVariants as seats
 use Rattle.world_schedule.specs.declared.restarting.Stopped.{Stopped}
 use Rattle.world_schedule.specs.declared.chronicle.Chronicle.{Chronicle}
 
--- The validator has ended: it is known where it stood, and its store has the records that its journal had.
+-- The validator has ended: it is known where it stood, and its store has the records that it had.
 pub record HasStopped (powers : List ℕ) (old : Validator) (stopped : Stopped) : Type 0 where
   pub number : stopped.number ≡ old.number
   pub told : stopped.decisions_told ≡ old.decisions_told
@@ -31,37 +33,24 @@ HasLeft powers seats.Liar stopped = ⊥
 HasLeft powers (seats.Up old) stopped = HasStopped powers old stopped
 HasLeft powers (seats.Closed old) stopped = stopped ≡ old
 
--- It stands again where its journal tells, has released nothing since, and its journal serves.
-pub record IsBack (c : Setting) (n : Node) (old new : Validator) : Type 0 where
-  pub number : new.number ≡ old.number
-  pub told : new.decisions_told ≡ old.decisions_told
+-- It stands again where its journal tells, which may have got what was being saved as the device failed; it has released nothing since, and its journal serves.
+pub record IsBack (c : Setting) (s : Scene) (p : ℕ) (new : Validator) : Type 0 where
+  pub known : IsNumber c p
+  pub number : new.number ≡ p
+  pub told : new.decisions_told ≡ length (bundles_in (s.standing.nodes p).journal)
   pub owes : new.owes ≡ false
-  pub stands : StandsIn c old.number (opened old.number n.journal) new.core
+  pub cut : Option Cut
+  pub found : (cut ≡ None) ⊎ (cut ≡ doubt (s.health p))
+  pub stands : StandsIn c p (opened p (cut_record c p (s.standing.nodes p) cut ++ (s.standing.nodes p).journal)) new.core
   pub serves : new.core.journal.failed ≡ false
   pub released : new.core.outgoing ≡ []
 
 -- The calls by which a validator was opened again, and those of a whole restart.
-abbrev pub HasReopened : Setting → Scene → Validator → Validator → Chronicle → Chronicle → Type 0
-HasReopened c s old new before after = (made : List Made) × IsReopened c s before.event old.number made × LeadsTo c s made old new before after
+abbrev pub HasReopened : Setting → Scene → ℕ → Seat → Chronicle → Chronicle → Type 0
+HasReopened c s p new before after = (made : List Made) × IsReopened c s before.event p made × LeadsTo c s made p new before after
 
-abbrev pub HasRestarted : Setting → Scene → Validator → Validator → Chronicle → Chronicle → Type 0
-HasRestarted c s old new before after = (made : List Made) × IsRestart c s before.event old.number made × LeadsTo c s made old new before after
-
--- and it stands there again
-abbrev pub HasSat : Setting → Scene → Validator → Seat → Chronicle → Chronicle → Type 0
-HasSat c s old (seats.Up new) before after = HasMet c s Reopens false old new before after
-HasSat c s old seats.Liar before after = ⊥
-HasSat c s old (seats.Closed stopped) before after = ⊥
-
-abbrev pub HasReturned : Setting → Scene → Validator → Seat → Chronicle → Chronicle → Type 0
-HasReturned c s old (seats.Up new) before after = HasReopened c s old new before after
-HasReturned c s old seats.Liar before after = ⊥
-HasReturned c s old (seats.Closed stopped) before after = ⊥
-
-abbrev pub HasComeBack : Setting → Scene → Validator → Seat → Chronicle → Chronicle → Type 0
-HasComeBack c s old (seats.Up new) before after = HasRestarted c s old new before after
-HasComeBack c s old seats.Liar before after = ⊥
-HasComeBack c s old (seats.Closed stopped) before after = ⊥
+abbrev pub HasRestarted : Setting → Scene → ℕ → Seat → Chronicle → Chronicle → Type 0
+HasRestarted c s p new before after = (made : List Made) × IsRestart c s before.event p made × LeadsTo c s made p new before after
 
 -- A validator was restarted: all stand for their nodes after its calls, and these are told as the report has them.
 pub record HaveRestarted (c : Setting) (s : Scene) (p : ℕ) (old new : List Seat) (before after : Chronicle) : Type 0 where

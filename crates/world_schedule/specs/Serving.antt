@@ -14,7 +14,3 @@ is_failure (Released r) = false
 -- no answer that is told says so
 abbrev pub AreServed : List Told → Type 0
 AreServed told = list_any (λ (t : Told). is_failure t.what) told ≡ false
-
--- nor of what was told before
-abbrev pub WasServed : List Told → List Told → Type 0
-WasServed before after = AreServed after → AreServed before

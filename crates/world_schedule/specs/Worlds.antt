@@ -12,6 +12,7 @@ use Rattle.world_parties.specs.declared.fault.FaultNumber.{FaultNumber}
 use Rattle.world_parties.specs.declared.fault.FaultNumber.TheVariants.{OutOfMemory}
 use Rattle.world_schedule.specs.Reports.{Made, calls_of, told, end_of}
 use Rattle.world_schedule.specs.Making.{Request, Hands, Scene, beginning, scene_after, IsTurn, AreTurns}
+use Rattle.world_schedule.specs.Serving.{AreServed}
 use Rattle.world_schedule.specs.Standings.{Holds}
 use Rattle.world_schedule.specs.Validators.{AreUp, places}
 use Rattle.world_schedule.specs.Events.{Course, asked_of, Happens, HaveHappened, course_after, cause_of, CannotHappen}
@@ -80,7 +81,7 @@ scene_of cast ms = scene_after (setting_of cast) beginning ms
 abbrev pub IsWorld : Cast → List Made → (ℕ → ℕ → Bool) → World → Type 0
 IsWorld cast ms brought world = Rests cast (record { scene = scene_of cast ms; brought = brought }) world.stage × (world.spent ≡ false)
 
--- the variables of a validator that is up, and what it keeps of its height
+-- the variables of a validator that has a node, and what it keeps of its height
 abbrev pub machine_of : Seat → Option Machine
 machine_of (seats.Up v) = Some v.core.machine
 machine_of seats.Liar = None
@@ -108,12 +109,13 @@ ends_in (seats.Closed v) = end_of_stopped v ∷ []
 
 -- ---- the opening
 
--- Each correct validator was settled, and nothing was brought: this is told.
+-- Each correct validator was settled, and serves, and nothing was brought: this is told.
 pub record HaveSettled (cast : Cast) (stage : Stage) : Type 0 where
   pub made : List Made
   pub settled : AreTurns (setting_of cast) beginning 0 (map (asked_of (Hands Settle)) (correct cast)) made
   pub at : IsAt cast (record { scene = scene_of cast made; brought = λ number p. false }) stage
   pub told_is : stage.chronicle.told.items ≡ told (setting_of cast) beginning.standing made
+  pub served : AreServed stage.chronicle.told.items
 
 -- the first run is to tell of it
 pub record HasBegun (cast : Cast) (world : World) : Type 0 where
@@ -121,6 +123,7 @@ pub record HasBegun (cast : Cast) (world : World) : Type 0 where
   pub settled : AreTurns (setting_of cast) beginning 0 (map (asked_of (Hands Settle)) (correct cast)) made
   pub is_world : IsWorld cast made (λ number p. false) world
   pub told_is : world.told.items ≡ told (setting_of cast) beginning.standing made
+  pub served : AreServed world.told.items
 
 -- with these powers, so many clients, and these liars
 pub record HasOpened (powers : List ℕ) (clients : ℕ) (liars : List ℕ) (world : World) : Type 0 where

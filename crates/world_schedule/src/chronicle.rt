@@ -4,7 +4,6 @@ ghost use Rattle.std.specs.Prelude.{◌≡◌, ◌∷◌, [], List, ℕ, Some, O
 ghost use Rattle.protocol.specs.Tags.{Setting};
 ghost use Rattle.protocol.specs.Messages.{Body as AnyBody};
 ghost use Rattle.world_schedule.specs.Standings.{Holds, Tells, Says, IsReadable, AreReadable};
-ghost use Rattle.world_schedule.specs.Serving.{WasServed};
 ghost use Rattle.world_schedule.specs.Cores.{frame_in};
 ghost use Rattle.world_schedule.specs.Reports.{decision_of};
 ghost use Rattle.world_schedule.specs.declared.report.What.TheVariants.{Decided};
@@ -78,9 +77,8 @@ impl Chronicle {
         validator: Option<u16>,
         frame: &[u8],
     ) -> Result<(), FaultNumber>
-        ensures says { (c : Setting) (numbered : List AnyBody) (b : AnyBody) → Holds c numbered self.old.messages → frame.now ≡ frame_in c b → IsReadable c b
+        ensures { (c : Setting) (numbered : List AnyBody) (b : AnyBody) → Holds c numbered self.old.messages → frame.now ≡ frame_in c b → IsReadable c b
             → OnOk result (Says c numbered validator (b ∷ []) self.old self.new) }
-        ensures serves { OnOk result (WasServed self.old.told.items self.new.told.items) }
     {
         let message = read(self.alloc, frame)?;
         match self.messages.number(self.alloc, frame, &message)? {
@@ -109,9 +107,8 @@ impl Chronicle {
         validator: Option<u16>,
         frames: &[Vec<u8>],
     ) -> Result<(), FaultNumber>
-        ensures says { (c : Setting) (numbered : List AnyBody) (bodies : List AnyBody) → Holds c numbered self.old.messages → map (λ frame. frame.items) frames.now ≡ map (frame_in c) bodies → AreReadable c bodies
+        ensures { (c : Setting) (numbered : List AnyBody) (bodies : List AnyBody) → Holds c numbered self.old.messages → map (λ frame. frame.items) frames.now ≡ map (frame_in c) bodies → AreReadable c bodies
             → OnOk result (Says c numbered validator bodies self.old self.new) }
-        ensures serves { OnOk result (WasServed self.old.told.items self.new.told.items) }
     {
         for frame in frames {
             self.tell_message(validator, frame)?;

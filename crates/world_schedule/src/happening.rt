@@ -8,7 +8,6 @@ ghost use Rattle.world_parties.specs.Faults.{IsUnspelled};
 ghost use Rattle.world_parties.specs.Cast.{Cast, setting_of, is_correct};
 ghost use Rattle.world_schedule.specs.Reports.{said_as};
 ghost use Rattle.world_schedule.specs.Making.{Scene, Request as Wanted};
-ghost use Rattle.world_schedule.specs.Serving.{AreServed, WasServed};
 ghost use Rattle.world_schedule.specs.Standings.{Holds};
 ghost use Rattle.world_schedule.specs.Validators.{request_of, AreUp, HaveTurned};
 ghost use Rattle.world_schedule.specs.Events.{Course, turns, CannotHappen, IsUnknown};
@@ -26,8 +25,7 @@ use world_parties::{Bundling, FaultNumber, Proposing, Tagged, Voting};
 impl Stage {
     /// An event. Its fault is found before anything is done, but for want of memory.
     pub(crate) fn happen(&mut self, event: &Event) -> Result<(), FaultNumber>
-        ensures ok { (cast : Cast) (w : Course) → IsAt cast w self.old → OnOk result (AreServed self.new.chronicle.told.items → HasActed cast w event.now self.old self.new) }
-        ensures serves { OnOk result (WasServed self.old.chronicle.told.items self.new.chronicle.told.items) }
+        ensures ok { (cast : Cast) (w : Course) → IsAt cast w self.old → OnOk result (HasActed cast w event.now self.old self.new) }
         ensures err { IfErr result (λ fault. fault ≢ FaultNumber.OutOfMemory → self.new ≡ self.old) }
         ensures cause { (cast : Cast) (w : Course) → IsAt cast w self.old → IfErr result (λ fault. CannotHappen fault cast w.scene.standing event.now) }
     {
@@ -51,8 +49,7 @@ impl Stage {
     }
 
     fn submit(&mut self, validator: u64, line: &Tagged) -> Result<(), FaultNumber>
-        ensures ok { (cast : Cast) (w : Course) → IsAt cast w self.old → OnOk result (AreServed self.new.chronicle.told.items → HasActed cast w (events.Submit validator line.now) self.old self.new) }
-        ensures serves { OnOk result (WasServed self.old.chronicle.told.items self.new.chronicle.told.items) }
+        ensures ok { (cast : Cast) (w : Course) → IsAt cast w self.old → OnOk result (HasActed cast w (events.Submit validator line.now) self.old self.new) }
         ensures err { IfErr result (λ fault. fault ≢ FaultNumber.OutOfMemory → self.new ≡ self.old) }
         ensures cause { (cast : Cast) (w : Course) → IsAt cast w self.old → IfErr result (λ fault. CannotHappen fault cast w.scene.standing (events.Submit validator line.now)) }
     {
@@ -62,8 +59,7 @@ impl Stage {
     }
 
     fn propose(&mut self, validator: u64, line: &Proposing) -> Result<(), FaultNumber>
-        ensures ok { (cast : Cast) (w : Course) → IsAt cast w self.old → OnOk result (AreServed self.new.chronicle.told.items → HasActed cast w (events.Propose validator line.now) self.old self.new) }
-        ensures serves { OnOk result (WasServed self.old.chronicle.told.items self.new.chronicle.told.items) }
+        ensures ok { (cast : Cast) (w : Course) → IsAt cast w self.old → OnOk result (HasActed cast w (events.Propose validator line.now) self.old self.new) }
         ensures err { IfErr result (λ fault. fault ≢ FaultNumber.OutOfMemory → self.new ≡ self.old) }
         ensures cause { (cast : Cast) (w : Course) → IsAt cast w self.old → IfErr result (λ fault. CannotHappen fault cast w.scene.standing (events.Propose validator line.now)) }
     {
@@ -73,8 +69,7 @@ impl Stage {
     }
 
     fn vote(&mut self, validator: u64, line: &Voting) -> Result<(), FaultNumber>
-        ensures ok { (cast : Cast) (w : Course) → IsAt cast w self.old → OnOk result (AreServed self.new.chronicle.told.items → HasActed cast w (events.Vote validator line.now) self.old self.new) }
-        ensures serves { OnOk result (WasServed self.old.chronicle.told.items self.new.chronicle.told.items) }
+        ensures ok { (cast : Cast) (w : Course) → IsAt cast w self.old → OnOk result (HasActed cast w (events.Vote validator line.now) self.old self.new) }
         ensures err { IfErr result (λ fault. fault ≢ FaultNumber.OutOfMemory → self.new ≡ self.old) }
         ensures cause { (cast : Cast) (w : Course) → IsAt cast w self.old → IfErr result (λ fault. CannotHappen fault cast w.scene.standing (events.Vote validator line.now)) }
     {
@@ -84,8 +79,7 @@ impl Stage {
     }
 
     fn bundle(&mut self, validator: u64, line: &Bundling) -> Result<(), FaultNumber>
-        ensures ok { (cast : Cast) (w : Course) → IsAt cast w self.old → OnOk result (AreServed self.new.chronicle.told.items → HasActed cast w (events.Bundle validator line.now) self.old self.new) }
-        ensures serves { OnOk result (WasServed self.old.chronicle.told.items self.new.chronicle.told.items) }
+        ensures ok { (cast : Cast) (w : Course) → IsAt cast w self.old → OnOk result (HasActed cast w (events.Bundle validator line.now) self.old self.new) }
         ensures err { IfErr result (λ fault. fault ≢ FaultNumber.OutOfMemory → self.new ≡ self.old) }
         ensures cause { (cast : Cast) (w : Course) → IsAt cast w self.old → IfErr result (λ fault. CannotHappen fault cast w.scene.standing (events.Bundle validator line.now)) }
     {
@@ -96,9 +90,8 @@ impl Stage {
 
     /// A correct validator meets a request.
     fn turn(&mut self, validator: u64, request: Request<'_>) -> Result<(), FaultNumber>
-        ensures met { (cast : Cast) (w : Course) → IsAt cast w self.old → OnOk result (AreServed self.new.chronicle.told.items → IsMet cast w validator (request_of request.entry) self.old self.new) }
+        ensures met { (cast : Cast) (w : Course) → IsAt cast w self.old → OnOk result (IsMet cast w validator (request_of request.entry) self.old self.new) }
         ensures known { (cast : Cast) → self.old.parties ≡ cast → OnOk result (is_correct cast validator ≡ true) }
-        ensures serves { OnOk result (WasServed self.old.chronicle.told.items self.new.chronicle.told.items) }
         ensures err { IfErr result (λ fault. fault ≢ FaultNumber.OutOfMemory → self.new ≡ self.old) }
         ensures unknown { (cast : Cast) → self.old.parties ≡ cast → IfErr result (IsUnknown cast validator) }
     {
@@ -108,8 +101,7 @@ impl Stage {
 
     /// The same, of a validator that is correct. Nothing but memory can be wanting.
     fn meet(&mut self, validator: u16, request: Request<'_>) -> Result<(), FaultNumber>
-        ensures met { (cast : Cast) (w : Course) → IsAt cast w self.old → OnOk result (AreServed self.new.chronicle.told.items → IsMet cast w validator (request_of request.entry) self.old self.new) }
-        ensures serves { OnOk result (WasServed self.old.chronicle.told.items self.new.chronicle.told.items) }
+        ensures met { (cast : Cast) (w : Course) → IsAt cast w self.old → OnOk result (IsMet cast w validator (request_of request.entry) self.old self.new) }
         ensures err { IfErr result (λ fault. fault ≡ FaultNumber.OutOfMemory) }
     {
         match self
@@ -123,8 +115,7 @@ impl Stage {
 
     /// A correct validator is opened again over its journal. After a fault there may be no validator at its place.
     fn restart(&mut self, validator: u64) -> Result<(), FaultNumber>
-        ensures ok { (cast : Cast) (w : Course) → IsAt cast w self.old → OnOk result (AreServed self.new.chronicle.told.items → HasActed cast w (events.Restart validator) self.old self.new) }
-        ensures serves { OnOk result (WasServed self.old.chronicle.told.items self.new.chronicle.told.items) }
+        ensures ok { (cast : Cast) (w : Course) → IsAt cast w self.old → OnOk result (HasActed cast w (events.Restart validator) self.old self.new) }
         ensures err { IfErr result (λ fault. fault ≢ FaultNumber.OutOfMemory → self.new ≡ self.old) }
         ensures cause { (cast : Cast) (w : Course) → IsAt cast w self.old → IfErr result (λ fault. CannotHappen fault cast w.scene.standing (events.Restart validator)) }
     {
@@ -140,8 +131,7 @@ impl Stage {
 
     /// A call of a correct validator's store is to fail.
     fn fail(&mut self, validator: u64, failing: Failing) -> Result<(), FaultNumber>
-        ensures ok { (cast : Cast) (w : Course) → IsAt cast w self.old → OnOk result (AreServed self.new.chronicle.told.items → HasActed cast w (events.Fail validator failing) self.old self.new) }
-        ensures serves { OnOk result (WasServed self.old.chronicle.told.items self.new.chronicle.told.items) }
+        ensures ok { (cast : Cast) (w : Course) → IsAt cast w self.old → OnOk result (HasActed cast w (events.Fail validator failing) self.old self.new) }
         ensures err { IfErr result (λ fault. fault ≢ FaultNumber.OutOfMemory → self.new ≡ self.old) }
         ensures cause { (cast : Cast) (w : Course) → IsAt cast w self.old → IfErr result (λ fault. CannotHappen fault cast w.scene.standing (events.Fail validator failing)) }
     {
@@ -151,8 +141,7 @@ impl Stage {
 
     /// A client sends its next transaction.
     fn send(&mut self, client: u64, op: &Op) -> Result<(), FaultNumber>
-        ensures ok { (cast : Cast) (w : Course) → IsAt cast w self.old → OnOk result (AreServed self.new.chronicle.told.items → HasActed cast w (events.Send client op.now) self.old self.new) }
-        ensures serves { OnOk result (WasServed self.old.chronicle.told.items self.new.chronicle.told.items) }
+        ensures ok { (cast : Cast) (w : Course) → IsAt cast w self.old → OnOk result (HasActed cast w (events.Send client op.now) self.old self.new) }
         ensures err { IfErr result (λ fault. fault ≢ FaultNumber.OutOfMemory → self.new ≡ self.old) }
         ensures cause { (cast : Cast) (w : Course) → IsAt cast w self.old → IfErr result (λ fault. CannotHappen fault cast w.scene.standing (events.Send client op.now)) }
     {
@@ -185,8 +174,7 @@ impl Stage {
 
     /// A message comes to a validator.
     fn deliver(&mut self, number: u64, validator: u64) -> Result<(), FaultNumber>
-        ensures ok { (cast : Cast) (w : Course) → IsAt cast w self.old → OnOk result (AreServed self.new.chronicle.told.items → HasActed cast w (events.Deliver number validator) self.old self.new) }
-        ensures serves { OnOk result (WasServed self.old.chronicle.told.items self.new.chronicle.told.items) }
+        ensures ok { (cast : Cast) (w : Course) → IsAt cast w self.old → OnOk result (HasActed cast w (events.Deliver number validator) self.old self.new) }
         ensures err { IfErr result (λ fault. fault ≢ FaultNumber.OutOfMemory → self.new ≡ self.old) }
         ensures cause { (cast : Cast) (w : Course) → IsAt cast w self.old → IfErr result (λ fault. CannotHappen fault cast w.scene.standing (events.Deliver number validator)) }
     {
@@ -201,8 +189,7 @@ impl Stage {
 
     /// Each message comes to each correct validator but its sender to which it wasn't brought.
     fn pass(&mut self) -> Result<(), FaultNumber>
-        ensures ok { (cast : Cast) (w : Course) → IsAt cast w self.old → OnOk result (AreServed self.new.chronicle.told.items → HasActed cast w events.Pass self.old self.new) }
-        ensures serves { OnOk result (WasServed self.old.chronicle.told.items self.new.chronicle.told.items) }
+        ensures ok { (cast : Cast) (w : Course) → IsAt cast w self.old → OnOk result (HasActed cast w events.Pass self.old self.new) }
         ensures err { IfErr result (λ fault. fault ≢ FaultNumber.OutOfMemory → self.new ≡ self.old) }
         ensures cause { (cast : Cast) (w : Course) → IsAt cast w self.old → IfErr result (λ fault. CannotHappen fault cast w.scene.standing events.Pass) }
     {

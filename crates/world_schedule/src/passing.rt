@@ -6,7 +6,6 @@ ghost use Rattle.protocol.specs.Messages.{Body};
 ghost use Rattle.protocol.specs.History.{Given};
 ghost use Rattle.world_schedule.specs.Cores.{frame_in};
 ghost use Rattle.world_schedule.specs.Making.{Scene, Hands};
-ghost use Rattle.world_schedule.specs.Serving.{AreServed, WasServed};
 ghost use Rattle.world_schedule.specs.Standings.{Holds, sayer};
 ghost use Rattle.world_schedule.specs.Validators.{request_of, AreUp};
 ghost use Rattle.world_schedule.specs.Events.{asked_of, is_wanting, passes};
@@ -27,9 +26,8 @@ impl Validators {
         request: Request<'_>,
         chronicle: &mut Chronicle,
     ) -> Result<(), FaultNumber>
-        ensures met { (c : Setting) (s : Scene) → AreUp c s self.old.each.items → Holds c s.standing.numbered chronicle.old.messages
-            → OnOk result (AreServed chronicle.new.told.items → HaveMet c s (map (asked_of (request_of request.entry)) validators.now) self.old.each.items self.new.each.items chronicle.old chronicle.new) }
-        ensures serves { OnOk result (WasServed chronicle.old.told.items chronicle.new.told.items) }
+        ensures { (c : Setting) (s : Scene) → AreUp c s self.old.each.items → Holds c s.standing.numbered chronicle.old.messages
+            → OnOk result (HaveMet c s (map (asked_of (request_of request.entry)) validators.now) self.old.each.items self.new.each.items chronicle.old chronicle.new) }
     {
         for validator in validators {
             self.turn(*validator, request, chronicle)?;
@@ -46,9 +44,8 @@ impl Validators {
         brought: &Brought,
         chronicle: &mut Chronicle,
     ) -> Result<(), FaultNumber>
-        ensures met { (c : Setting) (s : Scene) → AreUp c s self.old.each.items → Holds c s.standing.numbered chronicle.old.messages
-            → OnOk result (AreServed chronicle.new.told.items → HaveMet c s (passes c (has_come brought.now) validators.now 0 s.standing.numbered) self.old.each.items self.new.each.items chronicle.old chronicle.new) }
-        ensures serves { OnOk result (WasServed chronicle.old.told.items chronicle.new.told.items) }
+        ensures { (c : Setting) (s : Scene) → AreUp c s self.old.each.items → Holds c s.standing.numbered chronicle.old.messages
+            → OnOk result (HaveMet c s (passes c (has_come brought.now) validators.now 0 s.standing.numbered) self.old.each.items self.new.each.items chronicle.old chronicle.new) }
     {
         for number in brought.passed..chronicle.messages.count() {
             self.bring(alloc, number, validators, brought, chronicle)?;
@@ -65,9 +62,8 @@ impl Validators {
         brought: &Brought,
         chronicle: &mut Chronicle,
     ) -> Result<(), FaultNumber>
-        ensures met { (c : Setting) (s : Scene) (b : Body) → AreUp c s self.old.each.items → Holds c s.standing.numbered chronicle.old.messages → slice_get s.standing.numbered number ≡ Some b
-            → OnOk result (AreServed chronicle.new.told.items → HaveMet c s (map (asked_of (Hands (Given (frame_in c b)))) (filter (is_wanting (has_come brought.now) number (sayer b)) validators.now)) self.old.each.items self.new.each.items chronicle.old chronicle.new) }
-        ensures serves { OnOk result (WasServed chronicle.old.told.items chronicle.new.told.items) }
+        ensures { (c : Setting) (s : Scene) (b : Body) → AreUp c s self.old.each.items → Holds c s.standing.numbered chronicle.old.messages → slice_get s.standing.numbered number ≡ Some b
+            → OnOk result (HaveMet c s (map (asked_of (Hands (Given (frame_in c b)))) (filter (is_wanting (has_come brought.now) number (sayer b)) validators.now)) self.old.each.items self.new.each.items chronicle.old chronicle.new) }
     {
         let Some(posted) = chronicle.messages.get(number) else {
             return Err(FaultNumber::NoSuchMessage);

@@ -4,16 +4,15 @@ ghost use Rattle.std.specs.Prelude.{◌≡◌, ◌∷◌, [], List, ℕ, Some, t
 ghost use Rattle.vote_journal.specs.Layout.{IsJournal};
 ghost use Rattle.vote_journal.specs.Saving.{KeepsRecords};
 ghost use Rattle.protocol.specs.Tags.{Setting};
-ghost use Rattle.protocol.specs.State.{Node};
+ghost use Rattle.protocol.specs.Messages.{Record};
 ghost use Rattle.protocol.specs.Restart.{opened as opened_over};
 ghost use Rattle.world_parties.specs.Cast.{setting_of, is_validator};
 ghost use Rattle.world_schedule.specs.Cores.{AreOwn, StandsIn};
 ghost use Rattle.world_schedule.specs.Making.{Scene, Reopens};
-ghost use Rattle.world_schedule.specs.Serving.{AreServed, WasServed};
 ghost use Rattle.world_schedule.specs.Standings.{Holds, Tells};
 ghost use Rattle.world_schedule.specs.declared.report.What.TheVariants.{Answered};
-ghost use Rattle.world_schedule.specs.Validators.{IsUp, HasMet};
-ghost use Rattle.world_schedule.specs.Restarting.{HasStopped, IsBack, HasSat, HasReturned, HasComeBack};
+ghost use Rattle.world_schedule.specs.Validators.{IsStopped, HasMet};
+ghost use Rattle.world_schedule.specs.Restarting.{HasStopped, IsBack, HasReopened, HasRestarted};
 
 use crate::chronicle::Chronicle;
 use crate::event::Failing;
@@ -92,9 +91,8 @@ impl Validator {
 
     /// Tells of an opening that went well.
     fn take_seat(mut self, chronicle: &mut Chronicle) -> Result<Seat, FaultNumber>
-        ensures met { (c : Setting) (s : Scene) (old : Validator) → IsUp c s old → IsBack c (s.standing.nodes old.number) old self → Holds c s.standing.numbered chronicle.old.messages
-            → IfOk result (λ seat. HasSat c s old seat chronicle.old chronicle.new) }
-        ensures serves { OnOk result (WasServed chronicle.old.told.items chronicle.new.told.items) }
+        ensures { (c : Setting) (s : Scene) (p : ℕ) → IsBack c s p self → Holds c s.standing.numbered chronicle.old.messages
+            → IfOk result (λ seat. HasMet c s Reopens false p seat chronicle.old chronicle.new) }
     {
         self.tell_opening(chronicle)?;
         Ok(Seat::Up(self))
@@ -102,9 +100,8 @@ impl Validator {
 
     /// Tells that the validator was opened, and what its journal holds that was never told.
     fn tell_opening(&mut self, chronicle: &mut Chronicle) -> Result<(), FaultNumber>
-        ensures met { (c : Setting) (s : Scene) (old : Validator) → IsUp c s old → IsBack c (s.standing.nodes old.number) old self.old → Holds c s.standing.numbered chronicle.old.messages
-            → OnOk result (HasMet c s Reopens false old self.new chronicle.old chronicle.new) }
-        ensures serves { OnOk result (WasServed chronicle.old.told.items chronicle.new.told.items) }
+        ensures { (c : Setting) (s : Scene) (p : ℕ) → IsBack c s p self.old → Holds c s.standing.numbered chronicle.old.messages
+            → OnOk result (HasMet c s Reopens false p (Seat.Up self.new) chronicle.old chronicle.new) }
     {
         chronicle.tell(Some(self.number), What::Answered(OPENED))?;
         self.tell_decisions(chronicle)?;
@@ -125,9 +122,8 @@ impl Stopped {
         parties: &Parties,
         chronicle: &mut Chronicle,
     ) -> Result<Seat, FaultNumber>
-        ensures restarted { (s : Scene) (old : Validator) → IsUp (setting_of parties.now) s old → HasStopped parties.now.powers old self → Holds (setting_of parties.now) s.standing.numbered chronicle.old.messages
-            → IfOk result (λ seat. AreServed chronicle.new.told.items → HasComeBack (setting_of parties.now) s old seat chronicle.old chronicle.new) }
-        ensures serves { OnOk result (WasServed chronicle.old.told.items chronicle.new.told.items) }
+        ensures { (s : Scene) → IsStopped (setting_of parties.now) s self → Holds (setting_of parties.now) s.standing.numbered chronicle.old.messages
+            → IfOk result (λ seat. HasRestarted (setting_of parties.now) s self.number seat chronicle.old chronicle.new) }
     {
         let _known = parties.correct_at(u64::from(self.number))?;
         match self.reopen(parties, chronicle)? {
@@ -142,9 +138,8 @@ impl Stopped {
     /// Opens the validator over its store as it stands. Where memory is refused to the opening, it is made once more.
     fn reopen(self, parties: &Parties, chronicle: &mut Chronicle) -> Result<Seat, FaultNumber>
         requires known { is_validator parties.now self.number ≡ true }
-        ensures reopened { (s : Scene) (old : Validator) → IsUp (setting_of parties.now) s old → HasStopped parties.now.powers old self → Holds (setting_of parties.now) s.standing.numbered chronicle.old.messages
-            → IfOk result (λ seat. AreServed chronicle.new.told.items → HasReturned (setting_of parties.now) s old seat chronicle.old chronicle.new) }
-        ensures serves { OnOk result (WasServed chronicle.old.told.items chronicle.new.told.items) }
+        ensures { (s : Scene) → IsStopped (setting_of parties.now) s self → Holds (setting_of parties.now) s.standing.numbered chronicle.old.messages
+            → IfOk result (λ seat. HasReopened (setting_of parties.now) s self.number seat chronicle.old chronicle.new) }
     {
         match self.open(chronicle.alloc, parties) {
             Ok(validator) => validator.take_seat(chronicle),
@@ -161,9 +156,8 @@ impl Stopped {
     /// Tells that memory was refused to an opening, and makes it once more.
     fn insist(self, parties: &Parties, chronicle: &mut Chronicle) -> Result<Seat, FaultNumber>
         requires known { is_validator parties.now self.number ≡ true }
-        ensures reopened { (s : Scene) (old : Validator) → IsUp (setting_of parties.now) s old → HasStopped parties.now.powers old self → Holds (setting_of parties.now) s.standing.numbered chronicle.old.messages
-            → IfOk result (λ seat. AreServed chronicle.new.told.items → HasReturned (setting_of parties.now) s old seat chronicle.old chronicle.new) }
-        ensures serves { OnOk result (WasServed chronicle.old.told.items chronicle.new.told.items) }
+        ensures { (s : Scene) → IsStopped (setting_of parties.now) s self → Holds (setting_of parties.now) s.standing.numbered chronicle.old.messages
+            → IfOk result (λ seat. HasReopened (setting_of parties.now) s self.number seat chronicle.old chronicle.new) }
     {
         chronicle.tell(Some(self.number), What::Answered(REFUSED))?;
         match self.open(chronicle.alloc, parties) {
@@ -180,7 +174,8 @@ impl Stopped {
 
     /// Tells that the device failed at an opening.
     fn close(self, chronicle: &mut Chronicle) -> Result<Seat, FaultNumber>
-        ensures { IfOk result (λ seat. (seat ≡ Seat.Closed self) × Tells (Some self.number) (Answered (record { number = 17; inner = 0 }) ∷ []) chronicle.old chronicle.new) }
+        ensures closed { IfOk result (λ seat. (seat ≡ Seat.Closed self) × Tells (Some self.number) (Answered (record { number = 17; inner = 0 }) ∷ []) chronicle.old chronicle.new) }
+        ensures messages { chronicle.new.messages ≡ chronicle.old.messages }
     {
         chronicle.tell(Some(self.number), What::Answered(FAILED))?;
         Ok(Seat::Closed(self))
@@ -189,9 +184,8 @@ impl Stopped {
     /// The validator over its store, with its powers and keys: it stands where it stood as its last record was saved.
     fn open(self, alloc: Global, parties: &Parties) -> Result<Validator, Unopened>
         requires known { is_validator parties.now self.number ≡ true }
-        ensures back { (old : Validator) (n : Node) → HasStopped parties.now.powers old self → StandsIn (setting_of parties.now) old.number n old.core → old.core.journal.failed ≡ false
-            → IfOk result (IsBack (setting_of parties.now) n old) }
-        ensures stopped { (old : Validator) → HasStopped parties.now.powers old self → IfErr result (λ e. HasStopped parties.now.powers old e.stopped) }
+        ensures back { (s : Scene) → IsStopped (setting_of parties.now) s self → IfOk result (IsBack (setting_of parties.now) s self.number) }
+        ensures stopped { (s : Scene) → IsStopped (setting_of parties.now) s self → IfErr result (λ e. IsStopped (setting_of parties.now) s e.stopped) }
         ensures number { IfErr result (λ e. e.stopped.number ≡ self.number) }
     {
         match core_over(alloc, parties, self.number, self.store) {
@@ -221,8 +215,8 @@ fn core_over(
     store: StrikingStore,
 ) -> Result<NodeCore<StrikingStore>, NotOpened<StrikingStore>>
     requires known { is_validator parties.now number ≡ true }
-    ensures stands { (n : Node) → IsJournal parties.now.powers number store.store.bytes.items (reverse n.journal) → AreOwn number n.journal
-        → IfOk result (StandsIn (setting_of parties.now) number (opened_over number n.journal)) }
+    ensures stands { (journal : List Record) → IsJournal parties.now.powers number store.store.bytes.items (reverse journal) → AreOwn number journal
+        → IfOk result (StandsIn (setting_of parties.now) number (opened_over number journal)) }
     ensures serves { IfOk result (λ core. core.journal.failed ≡ false) }
     ensures released { IfOk result (λ core. core.outgoing ≡ []) }
     ensures kept { IfErr result (λ left. KeepsRecords parties.now.powers number store.store.bytes.items left.store.store.bytes.items) }

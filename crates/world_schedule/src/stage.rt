@@ -7,7 +7,7 @@ ghost use Rattle.protocol.specs.Messages.{below};
 ghost use Rattle.protocol.specs.History.{Settle as Settling};
 ghost use Rattle.world_parties.specs.Cast.{setting_of, is_correct, correct};
 ghost use Rattle.world_schedule.specs.Making.{Hands, beginning};
-ghost use Rattle.world_schedule.specs.Serving.{is_failure};
+ghost use Rattle.world_schedule.specs.Serving.{is_failure, AreServed};
 ghost use Rattle.world_schedule.specs.Standings.{Holds};
 ghost use Rattle.world_schedule.specs.Validators.{places};
 ghost use Rattle.world_schedule.specs.declared.seat.Seat.{Seat as Seated};
@@ -89,6 +89,7 @@ fn settled(
     requires { (c : Setting) → Holds c [] chronicle.old.messages }
     ensures places { IfOk result (λ opened. places opened.each.items ≡ map (is_correct parties.now) (below (length parties.now.powers))) }
     ensures met { IfOk result (λ opened. (first : List Seated) × HaveMet (setting_of parties.now) beginning (map (asked_of (Hands Settling)) correct.now) first opened.each.items chronicle.old chronicle.new) }
+    ensures served { OnOk result (AreServed chronicle.new.told.items) }
 {
     let Ok(mut validators) = Validators::open(alloc, parties) else {
         return Err(AllocError);

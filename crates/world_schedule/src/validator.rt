@@ -1,18 +1,18 @@
 //! One correct validator of a world.
 
-ghost use Rattle.std.specs.Prelude.{◌≡◌, ◌≢◌, ◌<◌, ◌^◌, ◌∷◌, [], ℕ, false, List, Some, drop, length, map, IfOk, OnOk};
+ghost use Rattle.std.specs.Prelude.{◌≡◌, ◌<◌, ◌^◌, ◌∷◌, [], ℕ, List, Some, drop, length, map, IfOk, OnOk};
 ghost use Rattle.protocol.specs.Tags.{Setting};
 ghost use Rattle.protocol.specs.State.{Node};
 ghost use Rattle.protocol.specs.Messages.{Body as AnyBody};
-ghost use Rattle.node_core.specs.Calls.{TellsJournal};
+ghost use Rattle.world_schedule.specs.Health.{Health, HasHealth};
 ghost use Rattle.world_schedule.specs.Handed.{told_numbers};
 ghost use Rattle.world_schedule.specs.Cores.{StandsIn, frame_in};
 ghost use Rattle.world_schedule.specs.Reports.{decision_of};
 ghost use Rattle.world_schedule.specs.Making.{IsMetBy, Scene, Asks, Resends};
-ghost use Rattle.world_schedule.specs.Serving.{AreServed, WasServed};
 ghost use Rattle.world_schedule.specs.Standings.{Holds, Tells, Says, AreReadable};
 ghost use Rattle.world_schedule.specs.Validators.{request_of, IsUp, HasMet, HasInsisted, HasTurned};
 ghost use Rattle.world_schedule.specs.declared.report.What.TheVariants.{Decided};
+ghost use Rattle.world_schedule.specs.declared.seat.Seat.TheVariants as seats;
 
 use crate::chronicle::Chronicle;
 use crate::handing::{hand_frame, hand_timeout, settle};
@@ -60,9 +60,8 @@ impl Validator {
         request: Request<'_>,
         chronicle: &mut Chronicle,
     ) -> Result<(), FaultNumber>
-        ensures turned { (c : Setting) (s : Scene) → IsUp c s self.old → Holds c s.standing.numbered chronicle.old.messages
-            → OnOk result (AreServed chronicle.new.told.items → HasTurned c s (request_of request.entry) self.old self.new chronicle.old chronicle.new) }
-        ensures serves { OnOk result (WasServed chronicle.old.told.items chronicle.new.told.items) }
+        ensures { (c : Setting) (s : Scene) → IsUp c s self.old → Holds c s.standing.numbered chronicle.old.messages
+            → OnOk result (HasTurned c s (request_of request.entry) self.old.number (seats.Up self.new) chronicle.old chronicle.new) }
     {
         if !self.owes {
             return self.insist(request, chronicle);
@@ -73,9 +72,8 @@ impl Validator {
 
     /// Makes a call; where memory is refused to it, the validator is settled and the call made once more.
     fn insist(&mut self, request: Request<'_>, chronicle: &mut Chronicle) -> Result<(), FaultNumber>
-        ensures insisted { (c : Setting) (s : Scene) → IsUp c s self.old → Holds c s.standing.numbered chronicle.old.messages
-            → OnOk result (AreServed chronicle.new.told.items → HasInsisted c s (request_of request.entry) self.old self.new chronicle.old chronicle.new) }
-        ensures serves { OnOk result (WasServed chronicle.old.told.items chronicle.new.told.items) }
+        ensures { (c : Setting) (s : Scene) → IsUp c s self.old → Holds c s.standing.numbered chronicle.old.messages
+            → OnOk result (HasInsisted c s (request_of request.entry) self.old.number (seats.Up self.new) chronicle.old chronicle.new) }
     {
         let refused = self.call(request, chronicle)?;
         if !refused {
@@ -93,9 +91,8 @@ impl Validator {
         request: Request<'_>,
         chronicle: &mut Chronicle,
     ) -> Result<bool, FaultNumber>
-        ensures met { (c : Setting) (s : Scene) → IsUp c s self.old → Holds c s.standing.numbered chronicle.old.messages
-            → IfOk result (λ starved. AreServed chronicle.new.told.items → HasMet c s (request_of request.entry) starved self.old self.new chronicle.old chronicle.new) }
-        ensures serves { OnOk result (WasServed chronicle.old.told.items chronicle.new.told.items) }
+        ensures { (c : Setting) (s : Scene) → IsUp c s self.old → Holds c s.standing.numbered chronicle.old.messages
+            → IfOk result (λ starved. HasMet c s (request_of request.entry) starved self.old.number (seats.Up self.new) chronicle.old chronicle.new) }
     {
         let answer = answer_of(&self.make(request));
         self.owes = answer.number == NO_MEMORY;
@@ -107,9 +104,8 @@ impl Validator {
 
     /// Makes a call of the node.
     fn make(&mut self, request: Request<'_>) -> Result<(), Refusal>
-        ensures met { (c : Setting) (n : Node) → StandsIn c self.old.number n self.old.core → self.old.number < 2 ^ 16 → self.old.core.journal.failed ≡ false → (told_numbers result).0 ≢ 17
-            → IsMetBy c self.old.number n (request_of request.entry) (told_numbers result) self.old.core self.new.core }
-        ensures journal { TellsJournal result self.old.core.journal self.new.core.journal }
+        ensures met { (c : Setting) (n : Node) (h : Health) → StandsIn c self.old.number n self.old.core → self.old.number < 2 ^ 16 → HasHealth c self.old.number n h self.old.core.journal
+            → IsMetBy c self.old.number n h (request_of request.entry) (told_numbers result) self.old.core.outgoing self.new.core }
         ensures number { self.new.number ≡ self.old.number }
         ensures told { self.new.decisions_told ≡ self.old.decisions_told }
     {
@@ -124,9 +120,8 @@ impl Validator {
 
     /// Lets an ask go.
     fn ask(&mut self) -> Result<(), Refusal>
-        ensures met { (c : Setting) (n : Node) → StandsIn c self.old.number n self.old.core → self.old.number < 2 ^ 16 → self.old.core.journal.failed ≡ false → (told_numbers result).0 ≢ 17
-            → IsMetBy c self.old.number n Asks (told_numbers result) self.old.core self.new.core }
-        ensures journal { TellsJournal result self.old.core.journal self.new.core.journal }
+        ensures met { (c : Setting) (n : Node) (h : Health) → StandsIn c self.old.number n self.old.core → self.old.number < 2 ^ 16 → HasHealth c self.old.number n h self.old.core.journal
+            → IsMetBy c self.old.number n h Asks (told_numbers result) self.old.core.outgoing self.new.core }
         ensures number { self.new.number ≡ self.old.number }
         ensures told { self.new.decisions_told ≡ self.old.decisions_told }
     {
@@ -137,14 +132,11 @@ impl Validator {
 
     /// Lets the own messages of the height go again.
     fn resend(&mut self) -> Result<(), Refusal>
-        ensures met { (c : Setting) (n : Node) → StandsIn c self.old.number n self.old.core → self.old.core.journal.failed ≡ false → (told_numbers result).0 ≢ 17
-            → IsMetBy c self.old.number n Resends (told_numbers result) self.old.core self.new.core }
-        ensures journal { TellsJournal result self.old.core.journal self.new.core.journal }
+        ensures met { (c : Setting) (n : Node) (h : Health) → StandsIn c self.old.number n self.old.core → HasHealth c self.old.number n h self.old.core.journal
+            → IsMetBy c self.old.number n h Resends (told_numbers result) self.old.core.outgoing self.new.core }
         ensures number { self.new.number ≡ self.old.number }
         ensures told { self.new.decisions_told ≡ self.old.decisions_told }
     {
-        // Where it has not, it is a node of the definitions.
-        let _halted = self.core.has_halted();
         self.core.resend()
     }
 
@@ -165,7 +157,6 @@ impl Validator {
     pub(crate) fn tell_messages(&mut self, chronicle: &mut Chronicle) -> Result<(), FaultNumber>
         ensures told { (c : Setting) (numbered : List AnyBody) (bodies : List AnyBody) → Holds c numbered chronicle.old.messages → self.old.core.outgoing ≡ map (frame_in c) bodies → AreReadable c bodies
             → OnOk result (Says c numbered (Some self.old.number) bodies chronicle.old chronicle.new) }
-        ensures serves { OnOk result (WasServed chronicle.old.told.items chronicle.new.told.items) }
         ensures new { self.new ≡ record self.old { core = record self.old.core { outgoing = []; scheduled = [] } } }
     {
         let frames = self.core.outgoing();

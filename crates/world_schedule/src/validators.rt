@@ -1,16 +1,13 @@
 //! The correct validators of a world.
 
-ghost use Rattle.std.specs.Prelude.{◌≡◌, ◌∷◌, [], true, length, map, option_map, slice_get, Some, IfOk, OnOk};
+ghost use Rattle.std.specs.Prelude.{◌≡◌, [], true, length, map, option_map, IfOk, OnOk};
 ghost use Rattle.protocol.specs.Tags.{Setting};
 ghost use Rattle.protocol.specs.Messages.{below};
 ghost use Rattle.world_parties.specs.Cast.{setting_of, is_validator, is_correct};
 ghost use Rattle.world_schedule.specs.Making.{Scene, beginning};
-ghost use Rattle.world_schedule.specs.Serving.{AreServed, WasServed};
-ghost use Rattle.world_schedule.specs.Standings.{Holds, Tells};
-ghost use Rattle.world_schedule.specs.declared.report.What.TheVariants.{Answered};
-ghost use Rattle.world_schedule.specs.declared.restarting.Stopped.{Stopped as Ended};
+ghost use Rattle.world_schedule.specs.Standings.{Holds};
 ghost use Rattle.world_schedule.specs.Worlds.{machine_at};
-ghost use Rattle.world_schedule.specs.Validators.{request_of, IsUp, IsSeated, AreUp, HaveTurned, is_up, places};
+ghost use Rattle.world_schedule.specs.Validators.{request_of, IsUp, IsSeated, AreUp, HaveTurned, is_correct_seat, places};
 ghost use Rattle.world_schedule.specs.Restarting.{HaveRestarted};
 
 use crate::chronicle::Chronicle;
@@ -53,10 +50,8 @@ impl Validators {
         request: Request<'_>,
         chronicle: &mut Chronicle,
     ) -> Result<(), FaultNumber>
-        ensures turned { (c : Setting) (s : Scene) → AreUp c s self.old.each.items → Holds c s.standing.numbered chronicle.old.messages
-            → OnOk result (AreServed chronicle.new.told.items → HaveTurned c s number (request_of request.entry) self.old.each.items self.new.each.items chronicle.old chronicle.new) }
-        ensures closed { (stopped : Ended) → slice_get self.old.each.items number ≡ Some (Seat.Closed stopped) → OnOk result (Tells (Some number) (Answered (record { number = 15; inner = 0 }) ∷ []) chronicle.old chronicle.new) }
-        ensures serves { OnOk result (WasServed chronicle.old.told.items chronicle.new.told.items) }
+        ensures { (c : Setting) (s : Scene) → AreUp c s self.old.each.items → Holds c s.standing.numbered chronicle.old.messages
+            → OnOk result (HaveTurned c s number (request_of request.entry) self.old.each.items self.new.each.items chronicle.old chronicle.new) }
     {
         let place = usize::from(number);
         if place >= self.each.len() {
@@ -77,9 +72,8 @@ impl Validators {
         number: u16,
         chronicle: &mut Chronicle,
     ) -> Result<(), FaultNumber>
-        ensures restarted { (s : Scene) → AreUp (setting_of parties.now) s self.old.each.items → Holds (setting_of parties.now) s.standing.numbered chronicle.old.messages
-            → OnOk result (AreServed chronicle.new.told.items → HaveRestarted (setting_of parties.now) s number self.old.each.items self.new.each.items chronicle.old chronicle.new) }
-        ensures serves { OnOk result (WasServed chronicle.old.told.items chronicle.new.told.items) }
+        ensures { (s : Scene) → AreUp (setting_of parties.now) s self.old.each.items → Holds (setting_of parties.now) s.standing.numbered chronicle.old.messages
+            → OnOk result (HaveRestarted (setting_of parties.now) s number self.old.each.items self.new.each.items chronicle.old chronicle.new) }
     {
         let place = usize::from(number);
         if place >= self.each.len() {
@@ -125,7 +119,7 @@ fn open_all(alloc: Global, each: &mut Vec<Seat>, parties: &Parties) -> Result<()
 /// The validator of this number, where it is correct.
 fn open_one(alloc: Global, parties: &Parties, number: u16) -> Result<Seat, FaultNumber>
     ensures up { IfOk result (λ place. IsSeated (setting_of parties.now) beginning number place) }
-    ensures place { IfOk result (λ place. is_up place ≡ is_correct parties.now number) }
+    ensures place { IfOk result (λ place. is_correct_seat place ≡ is_correct parties.now number) }
 {
     match parties.correct_at(u64::from(number)) {
         Ok(correct) => Ok(Seat::Up(open_again(alloc, parties, correct)?)),

@@ -1,12 +1,12 @@
 //! A world: validators, what clients send and liars say, and what comes to whom.
 
-ghost use Rattle.std.specs.Prelude.{◌≡◌, ◌≢◌, ◌⊎◌, ◌<◌, ◌+◌, ◌-◌, ◌^◌, ◌∷◌, [], ℕ, Bool, List, true, false, length, flat_map, option_map, is_some, Err, IfOk, OnOk, IfErr, IfSome};
+ghost use Rattle.std.specs.Prelude.{◌≡◌, ◌≢◌, ◌⊎◌, ◌<◌, ◌+◌, ◌-◌, ◌^◌, ◌∷◌, [], ◌&&◌, ℕ, Bool, List, true, false, length, flat_map, option_map, is_some, Err, IfOk, OnOk, IfErr, IfSome};
 ghost use Rattle.world_parties.specs.Cast.{Cast, setting_of, is_correct};
 ghost use Rattle.world_schedule.specs.Calls.{node_after};
+ghost use Rattle.world_schedule.specs.Health.{has_node};
 ghost use Rattle.world_schedule.specs.Reports.{Made, calls_of};
 ghost use Rattle.world_schedule.specs.Events.{Course, CannotHappen};
-ghost use Rattle.world_schedule.specs.Serving.{AreServed, WasServed};
-ghost use Rattle.world_schedule.specs.Worlds.{HasOpened, HasBegun, HasHappened, HaveAll, HaveSome, Rests, IsWorld, IsReport, IsStop, ends_in, machine_at};
+ghost use Rattle.world_schedule.specs.Worlds.{HasOpened, HasBegun, HasHappened, HaveAll, HaveSome, Rests, scene_of, IsWorld, IsReport, IsStop, ends_in, machine_at};
 
 use crate::event::Event;
 use crate::fault::RunFault;
@@ -89,8 +89,8 @@ impl World {
     /// An event that can't happen ends the run with its fault; the events before it stand. After fault 5 in the midst of
     /// an event the world is spent: each later run answers 5 at its first event.
     pub fn run(&mut self, events: &[Event]) -> Result<Report, RunFault>
-        ensures ok { (cast : Cast) (ms : List Made) (brought : ℕ → ℕ → Bool) → IsWorld cast ms brought self.old → IfOk result (λ report. AreServed report.told → IsReport cast ms brought events.now self.old self.new report) }
-        ensures err { (cast : Cast) (ms : List Made) (brought : ℕ → ℕ → Bool) → IsWorld cast ms brought self.old → IfErr result (λ fault. AreServed fault.told → IsStop cast ms brought events.now self.old self.new fault) }
+        ensures ok { (cast : Cast) (ms : List Made) (brought : ℕ → ℕ → Bool) → IsWorld cast ms brought self.old → IfOk result (λ report. IsReport cast ms brought events.now self.old self.new report) }
+        ensures err { (cast : Cast) (ms : List Made) (brought : ℕ → ℕ → Bool) → IsWorld cast ms brought self.old → IfErr result (λ fault. IsStop cast ms brought events.now self.old self.new fault) }
         ensures spent { self.old.spent ≡ true → result ≡ Err (record { event = 1; number = FaultNumber.OutOfMemory; told = [] }) }
     {
         if self.spent {
@@ -111,8 +111,8 @@ impl World {
     /// last opening failed.
     pub fn state(&self, validator: u64) -> Option<&State>
         ensures seat { option_map (λ state. state.now) result ≡ machine_at validator self.now.stage.validators.each.items }
-        ensures known { (cast : Cast) (ms : List Made) (brought : ℕ → ℕ → Bool) → IsWorld cast ms brought self.now → is_some result ≡ is_correct cast validator }
-        // While no failure was told it is that of the validator's node in the run of the calls.
+        ensures known { (cast : Cast) (ms : List Made) (brought : ℕ → ℕ → Bool) → IsWorld cast ms brought self.now → is_some result ≡ (is_correct cast validator && has_node ((scene_of cast ms).health validator)) }
+        // It is that of the validator's node in the run of the calls.
         ensures node { (cast : Cast) (ms : List Made) (brought : ℕ → ℕ → Bool) → IsWorld cast ms brought self.now → IfSome result (λ state. state.now.state ≡ (node_after (setting_of cast) validator (calls_of ms)).state) }
     {
         self.stage.validators.state(validator)
@@ -122,10 +122,9 @@ impl World {
     fn happen_all(&mut self, events: &[Event]) -> Result<(), FaultNumber>
         requires { self.old.event ≡ 0 }
         ensures fits { OnOk result (self.new.event < 2 ^ 63) }
-        ensures ok { (cast : Cast) (w : Course) → Rests cast w self.old.stage → OnOk result (AreServed self.new.told.items → HaveAll cast w 0 events.now self.old self.new) }
-        ensures err { (cast : Cast) (w : Course) → Rests cast w self.old.stage → IfErr result (λ fault. AreServed self.new.told.items → HaveSome cast w events.now fault self.old self.new) }
+        ensures ok { (cast : Cast) (w : Course) → Rests cast w self.old.stage → OnOk result (HaveAll cast w 0 events.now self.old self.new) }
+        ensures err { (cast : Cast) (w : Course) → Rests cast w self.old.stage → IfErr result (λ fault. HaveSome cast w events.now fault self.old self.new) }
         ensures count { OnOk result (self.new.event ≡ length events.now) }
-        ensures prior { OnOk result (WasServed self.old.told.items self.new.told.items) }
         ensures serves { OnOk result (self.new.spent ≡ self.old.spent) }
     {
         // A slice has fewer than 2^63 elements.
@@ -139,14 +138,13 @@ impl World {
 
     /// An event. Where it can't happen, nothing is told of it.
     fn step(&mut self, event: &Event) -> Result<(), FaultNumber>
-        ensures ok { (cast : Cast) (w : Course) → Rests cast w self.old.stage → OnOk result (AreServed self.new.told.items → HasHappened cast w self.old.event event.now self.old self.new) }
+        ensures ok { (cast : Cast) (w : Course) → Rests cast w self.old.stage → OnOk result (HasHappened cast w self.old.event event.now self.old self.new) }
         ensures serves { OnOk result (self.new.spent ≡ self.old.spent) }
         ensures err { (cast : Cast) (w : Course) → Rests cast w self.old.stage → IfErr result (λ fault. fault ≢ FaultNumber.OutOfMemory → Rests cast w self.new.stage) }
         ensures spends { IfErr result (λ fault. fault ≢ FaultNumber.OutOfMemory → self.new.spent ≡ false) }
         ensures stays { IfErr result (λ fault. self.new.told.items ≡ self.old.told.items) }
         ensures cause { (cast : Cast) (w : Course) → Rests cast w self.old.stage → IfErr result (λ fault. CannotHappen fault cast w.scene.standing event.now) }
         ensures event { self.new.event ≡ self.old.event }
-        ensures prior { OnOk result (WasServed self.old.told.items self.new.told.items) }
     {
         self.stage.chronicle.event = self.event;
         match self.tell(event) {
@@ -161,11 +159,10 @@ impl World {
 
     /// An event, told after those before.
     fn tell(&mut self, event: &Event) -> Result<(), FaultNumber>
-        ensures ok { (cast : Cast) (w : Course) → Rests cast w self.old.stage → OnOk result (AreServed self.new.told.items → HasHappened cast w self.old.stage.chronicle.event event.now self.old self.new) }
+        ensures ok { (cast : Cast) (w : Course) → Rests cast w self.old.stage → OnOk result (HasHappened cast w self.old.stage.chronicle.event event.now self.old self.new) }
         ensures err { IfErr result (λ fault. fault ≢ FaultNumber.OutOfMemory → self.new.stage ≡ self.old.stage) }
         ensures stays { IfErr result (λ fault. self.new.told.items ≡ self.old.told.items) }
         ensures cause { (cast : Cast) (w : Course) → Rests cast w self.old.stage → IfErr result (λ fault. CannotHappen fault cast w.scene.standing event.now) }
-        ensures prior { OnOk result (WasServed self.old.told.items self.new.told.items) }
         ensures beside { (self.new.event ≡ self.old.event) × (self.new.spent ≡ self.old.spent) }
     {
         self.stage.happen(event)?;

@@ -1,6 +1,5 @@
 use Rattle.std.proofs.Common.{◌≡◌, ◌∙◌, subst}
 use Rattle.std.specs.Prelude.{IfOk}
-use Rattle.world_schedule.specs.Serving.{AreServed}
 use Rattle.world_schedule.specs.Worlds.{IsReport}
 use Rattle.world_schedule.specs.declared.world.World.{World}
 use Rattle.schedule_text.proofs.Runs.{first_report}
@@ -13,5 +12,5 @@ returns-clause-whole g c = λ none.
     let new : World = c.tell_events.new.self.world in
     let same : c.tell_stretches.new.self ≡ c.in_ok-run.run' = c.tell_stretches.ensures.none (c.deref.ensures.value ∙ none) in
     first_report s old new c.tell_events.result (rw same c.in_ok-run.ensures.0) (λ cast ms brought at. subst
-    (λ events. IfOk c.tell_events.result (λ report. AreServed report.told → IsReport cast ms brought events old new report))
+    (λ events. IfOk c.tell_events.result (λ report. IsReport cast ms brought events old new report))
     c.deref-2.ensures.value (c.tell_events.ensures.handed cast ms brought at))

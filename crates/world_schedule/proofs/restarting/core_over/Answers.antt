@@ -8,13 +8,13 @@ use Rattle.world_schedule.proofs.Reopening.{found_again, kept_by_opening, kept_b
 use Rattle.world_schedule.proofs.restarting.core_over.Goals as goal
 
 pub returns-in-Ok-open-clause-stands : goal.returns-in-Ok-open-clause-stands
-returns-in-Ok-open-clause-stands c = λ n j own.
+returns-in-Ok-open-clause-stands c = λ journal j own.
     let p : ℕ = c.args.number in
     let same : c.in-Ok-copy.powers ≡ c.args.parties.now.powers = c.in-Ok-copy.ensures ∙ c.powers.ensures in
-    let before = subst (λ powers. IsJournal powers p c.args.store.store.bytes.items (reverse n.journal)) (sym same) j in
-    let whole = found_again c.in-Ok-copy.powers p c.args.store.store.bytes.items _ _ _ (reverse n.journal) c.in_ok-opened.ensures.opened before in
+    let before = subst (λ powers. IsJournal powers p c.args.store.store.bytes.items (reverse journal)) (sym same) j in
+    let whole = found_again c.in-Ok-copy.powers p c.args.store.store.bytes.items _ _ _ (reverse journal) c.in_ok-opened.ensures.opened before in
     let k = c.in-Ok-open.ensures in
-    stands_again (setting_of c.args.parties.now) p n c.in-Ok.ring c.in-Ok-open.core c.in-Ok.ensures (k.powers ∙ same) k.me k.ring (k.stands (reverse n.journal) whole) own
+    stands_again (setting_of c.args.parties.now) p journal c.in-Ok.ring c.in-Ok-open.core c.in-Ok.ensures (k.powers ∙ same) k.me k.ring (k.stands (reverse journal) whole) own
 
 pub returns-in-Err-clause-kept : goal.returns-in-Err-clause-kept
 returns-in-Err-clause-kept c =

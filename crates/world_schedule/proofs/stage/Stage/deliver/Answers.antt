@@ -12,7 +12,7 @@ use Rattle.world_schedule.specs.declared.event.Event.TheVariants as events
 use Rattle.world_schedule.proofs.stage.Stage.deliver.Goals as goal
 
 pub returns-clause-ok : goal.returns-clause-ok
-returns-clause-ok c = λ cast w at served.
+returns-clause-ok c = λ cast w at.
     let numbered : List Body = w.scene.standing.numbered in
     let i = c.args.number in
     let known : nat_lt i (length numbered) ≡ true = sym (c.get.ensures.known (setting_of cast) numbered at.holds) ∙ ap (λ o. is_some o) c.in-Some.is in
@@ -21,7 +21,7 @@ returns-clause-ok c = λ cast w at served.
     let k = at_some _ c.get.result c.in-Some.posted (c.get.ensures.some (setting_of cast) numbered b at.holds here) c.in-Some.is in
     let framed = c.deref-2.ensures.value ∙ c.in_ok-frame.ensures.items_if_clones_equal (λ x y z. z) ∙ c.deref.ensures.value ∙ k.0 in
     let correct : is_correct cast c.args.validator ≡ true = subst (λ (x : Cast). is_correct x c.args.validator ≡ true) at.parties c.in_ok-to.ensures.ok.1 in
-    delivered cast w i c.args.validator c.in_ok-to.to b c.deref-2.result.now c.args.self.now c.meet.new.self c.note.new.self (c.in_ok-meet.ensures.met cast w at served) c.in_ok-to.ensures.ok.0 framed here known correct c.in_ok-note.ensures
+    delivered cast w i c.args.validator c.in_ok-to.to b c.deref-2.result.now c.args.self.now c.meet.new.self c.note.new.self (c.in_ok-meet.ensures.met cast w at) c.in_ok-to.ensures.ok.0 framed here known correct c.in_ok-note.ensures
 
 pub returns-in_default-clause-cause : goal.returns-in_default-clause-cause
 returns-in_default-clause-cause c = λ cast w at.

@@ -7,7 +7,7 @@ use Rattle.world_schedule.specs.declared.event.Event.TheVariants as events
 use Rattle.world_schedule.proofs.stage.Stage.fail.Goals as goal
 
 pub returns-clause-ok : goal.returns-clause-ok
-returns-clause-ok c = λ cast w at served.
+returns-clause-ok c = λ cast w at.
     struck cast w c.args.validator c.args.failing c.args.self.now (subst (λ (x : Cast). is_correct x c.args.validator ≡ true) at.parties c.in_ok-to.ensures.ok.1) at
 
 pub returns-in_err-to-clause-cause : goal.returns-in_err-to-clause-cause

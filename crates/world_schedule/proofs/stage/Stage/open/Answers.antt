@@ -30,4 +30,5 @@ returns c =
         brought = c.new-2.ensures;
       };
       told_is = k.leads.told ∙ ap (λ l. l ++ told s beginning.standing k.made) c.new-chronicle.ensures.told;
+      served = c.in_ok-validators.ensures.served;
     }

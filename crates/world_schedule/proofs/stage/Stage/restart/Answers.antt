@@ -11,13 +11,13 @@ use Rattle.world_schedule.specs.declared.event.Event.TheVariants as events
 use Rattle.world_schedule.proofs.stage.Stage.restart.Goals as goal
 
 pub returns-in-Ok-clause-ok : goal.returns-in-Ok-clause-ok
-returns-in-Ok-clause-ok c = λ cast w at served.
+returns-in-Ok-clause-ok c = λ cast w at.
     let old : Stage = c.args.self.now in
     let known : is_correct cast c.args.validator ≡ true = subst (λ (x : Cast). is_correct x c.args.validator ≡ true) at.parties c.in_ok-to.ensures.ok.1 in
     let each = old.validators.each.items in
     let up = subst (λ (x : Cast). AreUp (setting_of x) w.scene each) (sym at.parties) at.up in
     let holds = subst (λ (x : Cast). Holds (setting_of x) w.scene.standing.numbered old.chronicle.messages) (sym at.parties) at.holds in
-    let k = at_ok _ c.restart.result (c.restart.ensures.restarted w.scene up holds) c.in-Ok.is served in
+    let k = at_ok _ c.restart.result (c.restart.ensures w.scene up holds) c.in-Ok.is in
     let there = subst (λ (x : Cast). HaveRestarted (setting_of x) w.scene c.in_ok-to.to each c.restart.new.self.each.items old.chronicle c.restart.new.chronicle) at.parties k in
     restarts cast w c.args.validator c.in_ok-to.to old c.restart.new.self c.restart.new.chronicle c.in_ok-to.ensures.ok.0 known at there
 

@@ -20,7 +20,7 @@ use Rattle.world_schedule.specs.declared.event.Event.TheVariants as events
 use Rattle.world_schedule.proofs.stage.Stage.send.Goals as goal
 
 pub returns-in-Ok-clause-ok : goal.returns-in-Ok-clause-ok
-returns-in-Ok-clause-ok c = λ cast w at served.
+returns-in-Ok-clause-ok c = λ cast w at.
     let client = c.args.client in
     let op = c.args.op.now in
     let number = c.in_ok-number.number in
@@ -35,7 +35,7 @@ returns-in-Ok-clause-ok c = λ cast w at served.
     let is_next : said_as (record { client = c.in_ok-sender.sender; number = number; op = op }) ≡ body = ap₂ (λ i n. said_as (record { client = i; number = n; op = op })) same size in
     let spelled : SpellsFrame c.in_ok-frame.frame.items (tagged (setting_of cast) body) = subst (λ b. SpellsFrame c.in_ok-frame.frame.items (tagged (setting_of cast) b)) is_next
     (subst (λ (x : Cast). SpellsFrame c.in_ok-frame.frame.items (tagged (setting_of x) (said_as (record { client = c.in_ok-sender.sender; number = number; op = op })))) at.parties c.in_ok-frame.ensures.frame) in
-    let says = at_ok _ c.tell_message.result (c.tell_message.ensures.says (setting_of cast) w.scene.standing.numbered body at.holds (c.deref.ensures.value ∙ spelled.same) (frame_again (tagged (setting_of cast) body) spelled.lawful)) c.in-Ok.is in
+    let says = at_ok _ c.tell_message.result (c.tell_message.ensures (setting_of cast) w.scene.standing.numbered body at.holds (c.deref.ensures.value ∙ spelled.same) (frame_again (tagged (setting_of cast) body) spelled.lawful)) c.in-Ok.is in
     let last : Sending = record { count = number; closed = is_close op } in
     sends cast w client op c.args.self.now c.tell_message.new.self c.note.new.self last at known within next.1 says
     (ap (λ n. let x : Sending = record { count = n; closed = is_close op } in x) size) (c.note.ensures ∙ ap (λ i. set each i last) same)

@@ -14,11 +14,11 @@ use Rattle.world_schedule.proofs.stage.Stage.vote.Goals as goal
 pub returns-clause-ok : goal.returns-clause-ok
 returns-clause-ok c = λ cast w at.
     let known : is_correct cast c.args.validator ≡ true = subst (λ (x : Cast). is_correct x c.args.validator ≡ true) at.parties c.in_ok-to.ensures.ok.1 in
-    on_ok_both c.meet.result (c.meet.ensures.met cast w at) (λ k served. heard cast w (events.Vote c.args.validator c.args.line.now) c.args.validator c.in_ok-to.to (frame_in (setting_of cast) (OfVote (voted c.args.line.now))) c.deref.result.now c.args.self.now c.meet.new.self
+    on_ok_both c.meet.result (c.meet.ensures.met cast w at) (λ k. heard cast w (events.Vote c.args.validator c.args.line.now) c.args.validator c.in_ok-to.to (frame_in (setting_of cast) (OfVote (voted c.args.line.now))) c.deref.result.now c.args.self.now c.meet.new.self
     c.in_ok-to.ensures.ok.0
     (c.deref.ensures.value ∙ c.in_ok-frame.ensures.frame.same ∙ ap (λ (x : Cast). frame_in (setting_of x) (OfVote (voted c.args.line.now))) at.parties)
     (passed_by (is_correct cast c.args.validator) NoSuchParty _ known ∙ passed_by (is_liar cast c.args.line.now.sender) NoSuchParty _ (subst (λ (x : Cast). is_liar x c.args.line.now.sender ≡ true) at.parties c.in_ok-frame.ensures.known))
-    (λ j made t. t) (λ i r. refl) (k served))
+    (λ j made t. t) (λ i r. refl) k)
 
 pub returns-in_err-to-clause-cause : goal.returns-in_err-to-clause-cause
 returns-in_err-to-clause-cause c = λ cast w at.

@@ -1,20 +1,19 @@
-use Rattle.std.proofs.Common.{◌≡◌, ◌≢◌, ◌∙◌, ℕ, [], ◌∷◌, Some, map, drop, sym, ap, subst, arith}
+use Rattle.std.proofs.Common.{◌≡◌, ◌∙◌, ℕ, List, [], ◌∷◌, Some, map, drop, length, sym, ap, subst, arith}
 use Rattle.std.specs.Prelude.{◌==◌}
 use Rattle.protocol.specs.Messages.{Bundle}
 use Rattle.world_schedule.specs.Handed.{told_numbers}
 use Rattle.world_schedule.specs.Reports.{decision_of}
+use Rattle.world_schedule.specs.Making.{IsMetBy}
 use Rattle.world_schedule.specs.Standings.{Holds, Tells, Says}
 use Rattle.world_schedule.specs.Validators.{request_of}
 use Rattle.world_schedule.specs.declared.report.Answer.{Answer}
 use Rattle.world_schedule.specs.declared.report.What.TheVariants.{Answered, Decided}
 use Rattle.world_schedule.specs.declared.validator.Validator.{Validator}
 use Rattle.world_schedule.proofs.Called.{has_met}
-use Rattle.world_schedule.proofs.Meeting.{still_serves}
-use Rattle.world_schedule.proofs.Serving.{tells_served, answer_served}
 use Rattle.world_schedule.proofs.validator.Validator.call.Goals as goal
 
-pub returns-clause-met : goal.returns-clause-met
-returns-clause-met c = λ s scene up holds serves.
+pub returns : goal.returns
+returns c = λ s scene up holds.
     let old : Validator = c.args.self.now in
     let made : Validator = c.make.new.self in
     let told : Validator = c.tell_decisions.new.self in
@@ -22,17 +21,16 @@ returns-clause-met c = λ s scene up holds serves.
     let numbers : ℕ × ℕ = told_numbers c.make.result in
     let named = c.answer_of-answer.ensures in
     let own : made.number ≡ old.number = c.make.ensures.number in
-    let before = tells_served _ _ _ _ c.in_ok-tell_decisions.ensures.told (c.in_ok-tell_messages.ensures.serves serves) in
-    let failed : numbers.0 ≢ 17 = λ e. answer_served (Some made.number) c.answer_of-answer.result c.args.chronicle.now c.tell.new.self c.in_ok-tell.ensures.told before (ap (λ (a : Answer). a.number) named ∙ e) in
     let counted = c.in_ok-tell_decisions.ensures.new in
     let after = c.tell_messages.ensures.new in
     let held : c.tell_decisions.new.chronicle.messages ≡ c.args.chronicle.now.messages = c.tell_decisions.ensures.messages ∙ c.tell.ensures.messages in
     let begun = subst (λ a. Tells (Some made.number) (Answered a ∷ []) c.args.chronicle.now c.tell.new.self) named c.in_ok-tell.ensures.told in
     let decided = subst (λ i. Tells (Some made.number) (map (λ (b : Bundle). Decided (decision_of b)) (drop i made.core.decisions)) c.tell.new.self c.tell_decisions.new.chronicle) c.make.ensures.told c.in_ok-tell_decisions.ensures.told in
-    has_met s scene (request_of c.args.request) numbers old last made.core c.args.chronicle.now c.tell.new.self c.tell_decisions.new.chronicle c.tell_messages.new.chronicle (record {
-      up = up;
-      met = c.make.ensures.met s (scene.standing.nodes old.number) up.stands (omega (arith, up.known, up.few)) up.serves failed;
-      serves = still_serves c.make.result old.core.journal made.core.journal failed c.make.ensures.journal ∙ up.serves;
+    let met = c.make.ensures.met s (scene.standing.nodes old.number) (scene.health old.number) up.stands (omega (arith, up.number.known, up.number.few)) up.health in
+    has_met s scene (request_of c.args.request) numbers old.number old.decisions_told last made.core c.args.chronicle.now c.tell.new.self c.tell_decisions.new.chronicle c.tell_messages.new.chronicle (record {
+      known = up.number;
+      counted = up.told ∙ ap (λ (l : List Bundle). length l) up.stands.stands.decisions;
+      met = subst (λ l. IsMetBy s old.number (scene.standing.nodes old.number) (scene.health old.number) (request_of c.args.request) numbers l made.core) up.released met;
       answer = subst (λ i. Tells (Some i) (Answered (record { number = numbers.0; inner = numbers.1 }) ∷ []) c.args.chronicle.now c.tell.new.self) own begun;
       decisions = subst (λ i. Tells (Some i) (map (λ (b : Bundle). Decided (decision_of b)) (drop old.decisions_told made.core.decisions)) c.tell.new.self c.tell_decisions.new.chronicle) own decided;
       messages = λ bodies e r. subst (λ i. Says s scene.standing.numbered (Some i) bodies c.tell_decisions.new.chronicle c.tell_messages.new.chronicle) (ap (λ (v : Validator). v.number) counted ∙ own)
@@ -42,6 +40,3 @@ returns-clause-met c = λ s scene up holds serves.
       told = ap (λ (v : Validator). v.decisions_told) after ∙ ap (λ (v : Validator). v.decisions_told) counted;
       owes = ap (λ (v : Validator). v.owes) after ∙ ap (λ (v : Validator). v.owes) counted ∙ ap (λ (a : Answer). a.number == 16) named;
     })
-
-pub returns-clause-serves : goal.returns-clause-serves
-returns-clause-serves c = λ serves. tells_served _ _ _ _ c.in_ok-tell.ensures.told (tells_served _ _ _ _ c.in_ok-tell_decisions.ensures.told (c.in_ok-tell_messages.ensures.serves serves))

@@ -3,14 +3,13 @@ use Rattle.world_parties.specs.Cast.{setting_of}
 use Rattle.world_schedule.specs.Reports.{told}
 use Rattle.world_parties.specs.declared.fault.FaultNumber.TheVariants.{OutOfMemory}
 use Rattle.world_schedule.proofs.Causes.{cause_from}
-use Rattle.world_schedule.proofs.Serving.{served_back}
 use Rattle.world_schedule.proofs.world.World.tell.Goals as goal
 
 pub returns-clause-ok : goal.returns-clause-ok
-returns-clause-ok c = λ cast w rests served.
+returns-clause-ok c = λ cast w rests.
     let before = c.args.self.now.told.items in
     let parts : c.append.new.self.items ≡ before ++ c.happen.new.self.chronicle.told.items = c.in_ok-append.ensures.items in
-    let k = c.in_ok-happen.ensures.ok cast w rests.0 (served_back before _ c.append.new.self.items parts served) in record {
+    let k = c.in_ok-happen.ensures.ok cast w rests.0 in record {
       made = k.made;
       happens = k.happens;
       possible = k.possible;
