@@ -3,6 +3,7 @@ pub mod Parts
 pub mod Order
 pub mod Layout
 pub mod Store
+pub mod Memory
 pub mod Saving
 pub mod Kept
 pub mod Planning

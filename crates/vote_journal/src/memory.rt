@@ -1,7 +1,8 @@
 //! A store in memory whose calls can be made to fail.
 
-ghost use Rattle.std.specs.Prelude.{◌≡◌, ◌==◌, ◌+◌, ◌-◌, ◌^◌, ◌++◌, min, take, IfErr};
-ghost use Rattle.vote_journal.specs.Store.{Grew};
+ghost use Rattle.std.specs.Prelude.{◌≡◌, ◌==◌, ◌≤◌, ◌+◌, ◌-◌, ◌^◌, ◌++◌, length, min, take, IfErr, IsErrOf, OnErr, OnOk};
+ghost use Rattle.vote_journal.specs.Store.{Adds, Begun, Counts, CountsDevice, Grew, NoMore, Only, Shortened};
+ghost use Rattle.vote_journal.specs.Memory.{HasFailed, HasServed, IsJust};
 
 use crate::store::{DeviceFailed, Store, StoreFault};
 use std::alloc::Global;
@@ -52,7 +53,7 @@ impl MemoryStore {
 
     /// A call that fails and does nothing.
     pub(crate) fn fail(&mut self) -> DeviceFailed
-        ensures same { self.new.bytes ≡ self.old.bytes }
+        ensures same { self.new ≡ record self.old { failures = self.new.failures } }
         ensures more { Grew self.old.failures self.new.failures }
     {
         self.failures = self.failures.saturating_add(1);
@@ -61,7 +62,7 @@ impl MemoryStore {
 
     /// Makes room for this many bytes more.
     pub(crate) fn reserve(&mut self, additional: usize) -> Result<(), StoreFault>
-        ensures same { (self.new.bytes.items ≡ self.old.bytes.items) × (self.new.failures ≡ self.old.failures) }
+        ensures same { (self.new.bytes.items ≡ self.old.bytes.items) × (self.new ≡ record self.old { bytes = self.new.bytes }) }
         ensures memory { IfErr result (λ e. e ≡ StoreFault.OutOfMemory) }
     {
         self.bytes
@@ -73,6 +74,7 @@ impl MemoryStore {
     pub(crate) fn append_beginning(&mut self, bytes: &[u8], keep: usize) -> StoreFault
         ensures kept { result ≡ StoreFault.Device → self.new.bytes.items ≡ self.old.bytes.items ++ take keep bytes.now }
         ensures counted { result ≡ StoreFault.Device → Grew self.old.failures self.new.failures }
+        ensures rest { self.new ≡ record self.old { bytes = self.new.bytes; failures = self.new.failures } }
         ensures nothing { result ≡ StoreFault.OutOfMemory → (self.new.bytes.items ≡ self.old.bytes.items) × (self.new.failures ≡ self.old.failures) }
     {
         let beginning = if keep < bytes.len() {
@@ -91,7 +93,7 @@ impl MemoryStore {
 impl Store for MemoryStore {
     ghost seen = { λ m. m.bytes.items };
 
-    ghost may_leave = { λ m c. c ≡ m.bytes.items };
+    ghost may_leave = { IsJust };
 
     ghost failures = { λ m. m.failures };
 
@@ -105,7 +107,15 @@ impl Store for MemoryStore {
             .map_err(|_| StoreFault::OutOfMemory)
     }
 
-    fn append(&mut self, bytes: &[u8]) -> Result<(), StoreFault> {
+    fn append(&mut self, bytes: &[u8]) -> Result<(), StoreFault>
+        ensures added { OnOk result (self.new.bytes.items ≡ self.old.bytes.items ++ bytes.now) }
+        ensures nothing { IsErrOf result StoreFault.OutOfMemory → (self.new.bytes.items ≡ self.old.bytes.items) × NoMore (IsJust self.old) (IsJust self.new) }
+        ensures began { IsErrOf result StoreFault.Device → Begun self.old.bytes.items bytes.now self.new.bytes.items }
+        ensures stop { Adds (Begun self.old.bytes.items bytes.now) (IsJust self.old) (IsJust self.new) }
+        ensures cause { Counts result self.old.failures self.new.failures }
+        ensures done { OnOk result (HasServed self.old self.new) }
+        ensures failed { IsErrOf result StoreFault.Device → HasFailed self.old self.new × (self.new.bytes.items ≡ self.old.bytes.items ++ take self.old.keep bytes.now) }
+    {
         self.reserve(bytes.len())?;
         if self.fails() {
             return Err(self.append_beginning(bytes, self.keep));
@@ -116,7 +126,14 @@ impl Store for MemoryStore {
         }
     }
 
-    fn cut(&mut self, len: usize) -> Result<(), DeviceFailed> {
+    fn cut(&mut self, len: usize) -> Result<(), DeviceFailed>
+        requires { len ≤ length self.old.bytes.items }
+        ensures kept { OnOk result (self.new.bytes.items ≡ take len self.old.bytes.items) }
+        ensures stop { Adds (Shortened len self.old.bytes.items) (IsJust self.old) (IsJust self.new) }
+        ensures cause { CountsDevice result self.old.failures self.new.failures }
+        ensures done { OnOk result (HasServed self.old self.new) }
+        ensures failed { OnErr result (HasFailed self.old self.new × (self.new.bytes ≡ self.old.bytes)) }
+    {
         if self.fails() {
             return Err(self.fail());
         }
@@ -124,7 +141,14 @@ impl Store for MemoryStore {
         Ok(())
     }
 
-    fn sync(&mut self) -> Result<(), DeviceFailed> {
+    fn sync(&mut self) -> Result<(), DeviceFailed>
+        ensures stands { self.new.bytes.items ≡ self.old.bytes.items }
+        ensures lasting { OnOk result (Only self.old.bytes.items (IsJust self.new)) }
+        ensures stop { NoMore (IsJust self.old) (IsJust self.new) }
+        ensures cause { CountsDevice result self.old.failures self.new.failures }
+        ensures done { OnOk result (HasServed self.old self.new) }
+        ensures failed { OnErr result (HasFailed self.old self.new) }
+    {
         if self.fails() {
             return Err(self.fail());
         }

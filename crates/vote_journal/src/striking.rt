@@ -1,6 +1,8 @@
 //! A store in memory whose calls are made to fail from outside, while something else owns it.
 
-ghost use Rattle.std.specs.Prelude.{◌≡◌, ◌+◌, ◌<◌, ℕ, Some, None, OnOk, OnErr};
+ghost use Rattle.std.specs.Prelude.{◌≡◌, ◌+◌, ◌<◌, ◌≤◌, ◌++◌, ℕ, length, take, Some, None, IsErrOf, OnOk, OnErr};
+ghost use Rattle.vote_journal.specs.Memory.{HasServed, IsJust};
+ghost use Rattle.vote_journal.specs.Store.{Adds, Begun, Counts, CountsDevice, NoMore, Only, Shortened};
 ghost use Rattle.vote_journal.specs.Striking.{struck_at, IsCountable, SameBut};
 
 use crate::memory::MemoryStore;
@@ -127,7 +129,15 @@ impl Store for StrikingStore {
         self.store.read(alloc)
     }
 
-    fn append(&mut self, bytes: &[u8]) -> Result<(), StoreFault> {
+    // What is not struck the store inside does.
+    fn append(&mut self, bytes: &[u8]) -> Result<(), StoreFault>
+        ensures added { OnOk result (self.new.store.bytes.items ≡ self.old.store.bytes.items ++ bytes.now) }
+        ensures nothing { IsErrOf result StoreFault.OutOfMemory → (self.new.store.bytes.items ≡ self.old.store.bytes.items) × NoMore (IsJust self.old.store) (IsJust self.new.store) }
+        ensures began { IsErrOf result StoreFault.Device → Begun self.old.store.bytes.items bytes.now self.new.store.bytes.items }
+        ensures stop { Adds (Begun self.old.store.bytes.items bytes.now) (IsJust self.old.store) (IsJust self.new.store) }
+        ensures cause { Counts result self.old.store.failures self.new.store.failures }
+        ensures done { OnOk result (HasServed self.old.store self.new.store) }
+    {
         self.store.reserve(bytes.len())?;
         match self.strikes.next() {
             Some(keep) => Err(self.store.append_beginning(bytes, keep)),
@@ -135,14 +145,26 @@ impl Store for StrikingStore {
         }
     }
 
-    fn cut(&mut self, len: usize) -> Result<(), DeviceFailed> {
+    fn cut(&mut self, len: usize) -> Result<(), DeviceFailed>
+        requires { len ≤ length self.old.store.bytes.items }
+        ensures kept { OnOk result (self.new.store.bytes.items ≡ take len self.old.store.bytes.items) }
+        ensures stop { Adds (Shortened len self.old.store.bytes.items) (IsJust self.old.store) (IsJust self.new.store) }
+        ensures cause { CountsDevice result self.old.store.failures self.new.store.failures }
+        ensures done { OnOk result (HasServed self.old.store self.new.store) }
+    {
         match self.strikes.next() {
             Some(_) => Err(self.store.fail()),
             None => self.store.cut(len),
         }
     }
 
-    fn sync(&mut self) -> Result<(), DeviceFailed> {
+    fn sync(&mut self) -> Result<(), DeviceFailed>
+        ensures stands { self.new.store.bytes.items ≡ self.old.store.bytes.items }
+        ensures lasting { OnOk result (Only self.old.store.bytes.items (IsJust self.new.store)) }
+        ensures stop { NoMore (IsJust self.old.store) (IsJust self.new.store) }
+        ensures cause { CountsDevice result self.old.store.failures self.new.store.failures }
+        ensures done { OnOk result (HasServed self.old.store self.new.store) }
+    {
         match self.strikes.next() {
             Some(_) => Err(self.store.fail()),
             None => self.store.sync(),
