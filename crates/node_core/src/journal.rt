@@ -68,6 +68,7 @@ impl<S: Store + Drop> Saver for NodeJournal<S> {
 
     fn save(&mut self, unsaved: &Unsaved) -> Result<(), SaveFault> {
         let entry = unsaved.record();
+        // So what was being saved has a spelling, also where it is not saved.
         fits(entry);
         if self.journal.has_failed() {
             return Err(SaveFault::Failed);
@@ -91,6 +92,7 @@ fn fits(entry: &Record)
     }
 }
 
+/// What the types of these say.
 fn are_narrow(height: u64, round: u32, sender: u16, id: &[u8; 32])
     ensures { (height < 2 ^ 64) × (round < 2 ^ 32) × (sender < 2 ^ 16) × (length id.now ≡ 32) }
 {}

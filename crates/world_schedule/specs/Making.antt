@@ -43,6 +43,7 @@ pub record IsIdle (p : ℕ) (old : Health) (numbers : ℕ × ℕ) (call : Call) 
   pub call_is : call ≡ Handed p Settle 0
   pub stays : new ≡ old
 
+-- so where it serves; else it is idle
 abbrev pub WhereServing : ℕ → Health → ℕ × ℕ → Call → Health → Type 0 → Type 0
 WhereServing p Serving numbers call new what = what
 WhereServing p (Broken cut) numbers call new what = IsIdle p (Broken cut) numbers call new

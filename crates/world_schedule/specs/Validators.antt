@@ -106,6 +106,7 @@ HasTurned c s request p new before after = (made : List Made) × IsTurn c s befo
 abbrev pub AreUp : Setting → Scene → List Seat → Type 0
 AreUp c s validators = (i : ℕ) (seat : Seat) → slice_get validators i ≡ Some seat → IsSeated c s i seat
 
+-- a correct validator's, whether it has a node or not
 abbrev pub is_correct_seat : Seat → Bool
 is_correct_seat (seats.Up v) = true
 is_correct_seat seats.Liar = false
