@@ -5,7 +5,7 @@ ghost use Rattle.std.specs.List.{range_with_len, slice_split};
 ghost use Rattle.authenticators.specs.Keys.{Gives, is_skipped, is_line_feed, key_between, with_line, with_lines, every_key, keys_from};
 ghost use Rattle.authenticators.specs.declared.party.Party.TheVariants.{Validator, Client};
 
-use crate::key_line::{CLIENTS, KeyLine};
+use crate::key_line::{KeyLine, MOST_CLIENTS};
 use crate::{Key, KeysFault, Party};
 use std::alloc::{AllocError, Global};
 
@@ -142,8 +142,8 @@ fn validators_to(
 fn clients_to(alloc: Global, lines: &[KeyLine], to: u16) -> Result<Vec<Option<Key>>, AllocError>
     ensures { IfOk result (λ keys. keys.items ≡ map (λ from. key_between lines.now (Client from) to) (range_with_len 0 1024)) }
 {
-    let mut keys = Vec::with_capacity(alloc, CLIENTS as usize)?;
-    for from in 0..CLIENTS {
+    let mut keys = Vec::with_capacity(alloc, MOST_CLIENTS as usize)?;
+    for from in 0..MOST_CLIENTS {
         keys.push(key_between(lines, Party::Client(from), to))?;
     }
     Ok(keys)

@@ -9,7 +9,7 @@ use crate::Party;
 use hex::FromHex;
 
 /// How many clients there may be: their numbers are below it.
-pub const CLIENTS: u16 = 1024;
+pub const MOST_CLIENTS: u16 = 1024;
 
 /// The key of what one party sends to a validator.
 #[derive(Clone, Copy, Debug)]
@@ -41,7 +41,7 @@ impl KeyLine {
     {
         let is_known = match self.from {
             Party::Validator(number) => number < validators,
-            Party::Client(number) => number < CLIENTS,
+            Party::Client(number) => number < MOST_CLIENTS,
         };
         is_known && self.to < validators && (self.from == me || Party::Validator(self.to) == me)
     }

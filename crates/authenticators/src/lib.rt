@@ -13,6 +13,7 @@ mod tagging;
 
 pub use fault::KeysFault;
 pub use key::Key;
+pub use key_line::MOST_CLIENTS;
 pub use key_ring::{KeyRing, tag_all};
 pub use party::Party;
 pub use tagging::{check, hmac, is_right};

@@ -1,7 +1,8 @@
-//! Powers, keys, plans and values that come next.
+//! Powers, keys, plans, refusals and values that come next.
 
 mod key_files;
 mod next_values;
 mod plans;
 mod quorums;
+mod refusals;
 mod tags;

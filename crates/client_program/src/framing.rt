@@ -11,11 +11,9 @@ ghost use Rattle.node_settings.specs.declared.invocation.SettingsFault.TheVarian
 use authenticators::{KeyRing, tag_all};
 use messages::{Body, Message, spell, spell_body};
 use node_settings::{Failure, SettingsFault, line_op};
+use protocol::LAST_NUMBER;
 use std::alloc::Global;
 use transactions::{Fault, Op, Seq, Tx};
-
-/// The greatest number of a transaction, 2^48.
-const LAST_NUMBER: u64 = 1 << 48;
 
 /// Why a transaction has no spelling.
 fn failure_of(fault: Fault) -> Failure

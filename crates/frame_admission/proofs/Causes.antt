@@ -13,10 +13,10 @@ use Rattle.protocol.specs.Messages.{Body, sender_of, OfTx, OfProposal, OfVote, O
 use Rattle.protocol.specs.State.{Node}
 use Rattle.protocol.specs.Refusals.{Cause, ◌↪◌, first_cause, Refusal, causes, refusal_of, is_known, sender_causes}
 use Rattle.protocol.specs.Refusals as names
-use Rattle.frame_admission.specs.declared.inadmissible.Inadmissible.{Inadmissible}
-use Rattle.frame_admission.specs.declared.inadmissible.Inadmissible.TheVariants.{Truncated, TooLong, BadKind, BadSpelling, UnknownSender, BadTag, OutOfMemory}
-use Rattle.frame_admission.specs.Answers.{unread, cause_of}
-use Rattle.frame_admission.specs.Gate.{tag_causes, validator_of, let_in, judged, gate_causes, admission, state_causes, answer_behind, GateLaw, IsAnswer, IsVerdict}
+use Rattle.protocol.specs.Answers.{IsCause, IsVerdict, cause_of, of_fault}
+use Rattle.protocol.specs.declared.refusal.Refusal.{Refusal as Answer}
+use Rattle.protocol.specs.declared.refusal.Refusal.TheVariants as answers
+use Rattle.frame_admission.specs.Gate.{tag_causes, validator_of, let_in, judged, gate_causes, admission, state_causes, answer_behind, GateLaw, IsAnswer, IsRefused}
 
 -- a cause, and where there is none another
 abbrev or_else : {R : Type 0} → Option R → Option R → Option R
@@ -90,7 +90,7 @@ known_validator c p (OfBundle b) tags sender is none = sender_number c p (OfBund
 -- ---- what the code answers
 
 -- a fault of reading
-pub unread_answer : (c : Setting) (p : ℕ) (frame : List ℕ) (fault : Fault) → Fails fault (message_of frame) → IsAnswer (admission c p frame) (Err (unread fault))
+pub unread_answer : (c : Setting) (p : ℕ) (frame : List ℕ) (fault : Fault) → Fails fault (message_of frame) → IsAnswer (admission c p frame) (Err (of_fault fault))
 unfolding admission
 unread_answer c p frame faults.Truncated e = rw e refl
 unread_answer c p frame faults.TooLong e = rw e refl
@@ -98,36 +98,55 @@ unread_answer c p frame faults.BadSpelling e = rw e refl
 unread_answer c p frame faults.BadKind e = rw e refl
 unread_answer c p frame faults.OutOfMemory e = tt
 
-named_answer : (wanted : Result Message Refusal) (e : Inadmissible) → wanted ≡ Err (cause_of e) → IsAnswer wanted (Err e)
-named_answer wanted Truncated h = h
-named_answer wanted TooLong h = h
-named_answer wanted BadKind h = h
-named_answer wanted BadSpelling h = h
-named_answer wanted UnknownSender h = h
-named_answer wanted BadTag h = h
-named_answer wanted OutOfMemory h = tt
+named_answer : (wanted : Result Message Refusal) (e : Answer) → IsRefused wanted (cause_of e) → IsAnswer wanted (Err e)
+named_answer wanted answers.Truncated h = h
+named_answer wanted answers.TooLong h = h
+named_answer wanted answers.BadKind h = h
+named_answer wanted answers.BadSpelling h = h
+named_answer wanted answers.UnknownSender h = h
+named_answer wanted answers.BadTag h = h
+named_answer wanted answers.OtherHeight h = h
+named_answer wanted answers.VoterFull h = h
+named_answer wanted answers.Repeat h = h
+named_answer wanted answers.RoundLimit h = h
+named_answer wanted answers.RoundAhead h = h
+named_answer wanted answers.WrongProposer h = h
+named_answer wanted (answers.Submit fault) h = h
+named_answer wanted (answers.Bundle fault) h = h
+named_answer wanted answers.Halted h = h
+named_answer wanted answers.OutOfMemory h = tt
+named_answer wanted answers.JournalFailed h = h
+
+-- the cause that is told is the gate's
+refused_by : (c : Setting) (p : ℕ) (read : Result Message Fault) (m : Message) (told : Option Refusal) → read ≡ Ok m → IsCause (first_cause (gate_causes c p m.body m.tags)) told → IsRefused (judged c p read) told
+refused_by c p read m None is cause = cause
+refused_by c p read m (Some told) is cause = rw (is, cause) refl
 
 module _ (c : Setting) (p : ℕ) (frame : List ℕ) (m : Message) (read : message_of frame ≡ Ok m) where
   -- a message that is refused
-  pub refused_answer : (e : Inadmissible) → first_cause (gate_causes c p m.body m.tags) ≡ Some (cause_of e) → IsAnswer (admission c p frame) (Err e)
+  pub refused_answer : (e : Answer) → IsVerdict (first_cause (gate_causes c p m.body m.tags)) (Err e) → IsAnswer (admission c p frame) (Err e)
   unfolding admission
-  refused_answer e cause = named_answer (judged c p (message_of frame)) e (rw (read, cause) refl)
+  refused_answer e cause = named_answer (judged c p (message_of frame)) e (refused_by c p (message_of frame) m (cause_of e) read cause)
 
   -- a message that is let in
   pub let_in_answer : first_cause (gate_causes c p m.body m.tags) ≡ None → admission c p frame ≡ Ok m
   unfolding admission
   let_in_answer cause = rw (read, cause) refl
 
-both : {R : Type 0} (a b : Bool) (x y : R) (r : Result (Unit {0}) Inadmissible) (name : Inadmissible → R) → MatchResult r (λ done. first_cause ((not a ↪ x) ∷ (not b ↪ y) ∷ []) ≡ None) (λ e. first_cause ((not a ↪ x) ∷ (not b ↪ y) ∷ []) ≡ Some (name e)) → is_ok r ≡ (a && b)
-both true true x y (Ok done) name h = refl
-both true false x y (Ok done) name h = absurd cc
-both false b x y (Ok done) name h = absurd cc
-both true true x y (Err e) name h = absurd cc
-both true false x y (Err e) name h = refl
-both false b x y (Err e) name h = refl
+-- nothing is told where no cause stands
+none_told : (told : Option Refusal) → IsCause None told → ⊥
+none_told None h = h
+none_told (Some cause) h = cc
+
+both : (a b : Bool) (x y : Refusal) (r : Result (Unit {0}) Answer) → IsVerdict (first_cause ((not a ↪ x) ∷ (not b ↪ y) ∷ [])) r → is_ok r ≡ (a && b)
+both true true x y (Ok done) h = refl
+both true false x y (Ok done) h = absurd cc
+both false b x y (Ok done) h = absurd cc
+both true true x y (Err e) h = absurd (none_told (cause_of e) h)
+both true false x y (Err e) h = refl
+both false b x y (Err e) h = refl
 
 -- a transaction is right where neither cause stands
-pub tx_verdict : (c : Setting) (p : ℕ) (t : Tx) (r : Result (Unit {0}) Inadmissible) → IsVerdict (first_cause (tag_causes c p (Client t.client) (tx_body_spelling t) t.tags)) r → is_ok r ≡ tx_is_right c p t
+pub tx_verdict : (c : Setting) (p : ℕ) (t : Tx) (r : Result (Unit {0}) Answer) → IsVerdict (first_cause (tag_causes c p (Client t.client) (tx_body_spelling t) t.tags)) r → is_ok r ≡ tx_is_right c p t
 unfolding tx_is_right
-tx_verdict c p t (Ok done) h = both (c.clients t.client) (right c p (Client t.client) (tx_body_spelling t) t.tags) names.UnknownSender names.BadTag (Ok done) cause_of h
-tx_verdict c p t (Err e) h = both (c.clients t.client) (right c p (Client t.client) (tx_body_spelling t) t.tags) names.UnknownSender names.BadTag (Err e) cause_of h
+tx_verdict c p t r h = both (c.clients t.client) (right c p (Client t.client) (tx_body_spelling t) t.tags) names.UnknownSender names.BadTag r h

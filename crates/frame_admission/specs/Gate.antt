@@ -6,9 +6,9 @@ use Rattle.protocol.specs.Tags.{Setting, Party, right}
 use Rattle.protocol.specs.Messages.{Body, OfTx, OfProposal, OfVote, OfAsk, OfBundle, Message}
 use Rattle.protocol.specs.State.{Node}
 use Rattle.protocol.specs.Refusals.{Cause, ◌↪◌, first_cause, answering, Refusal, Unread, UnknownSender, BadTag, NotQueued, is_known, sender_causes, proposal_causes, vote_causes, ask_causes, tx_causes, tagged_tx, bundle_causes, answer}
-use Rattle.frame_admission.specs.declared.inadmissible.Inadmissible.{Inadmissible}
-use Rattle.frame_admission.specs.declared.inadmissible.Inadmissible.TheVariants.{OutOfMemory}
-use Rattle.frame_admission.specs.Answers.{cause_of}
+use Rattle.protocol.specs.Answers.{cause_of}
+use Rattle.protocol.specs.declared.refusal.Refusal.{Refusal as Answer}
+use Rattle.protocol.specs.declared.refusal.Refusal.TheVariants.{OutOfMemory}
 
 -- What stands against bytes with these tags that this party is said to have sent.
 abbrev pub tag_causes : Setting → ℕ → Party → List ℕ → List (List ℕ) → List (Cause Refusal)
@@ -43,16 +43,16 @@ judged c p (Err fault) = Err (Unread fault)
 unfoldable pub admission : Setting → ℕ → List ℕ → Result Message Refusal
 admission c p frame = judged c p (message_of frame)
 
+-- The refusal is the one that is told.
+abbrev pub IsRefused : Result Message Refusal → Option Refusal → Type 0
+IsRefused wanted (Some told) = wanted ≡ Err told
+IsRefused wanted None = ⊥
+
 -- What came back is that answer, unless memory ran out.
-abbrev pub IsAnswer : Result Message Refusal → Result Message Inadmissible → Type 0
+abbrev pub IsAnswer : Result Message Refusal → Result Message Answer → Type 0
 IsAnswer wanted (Ok m) = wanted ≡ Ok m
 IsAnswer wanted (Err OutOfMemory) = Unit {0}
-IsAnswer wanted (Err e) = wanted ≡ Err (cause_of e)
-
--- What came back is that cause, or nothing stands.
-abbrev pub IsVerdict : Option Refusal → Result (Unit {0}) Inadmissible → Type 0
-IsVerdict cause (Ok done) = cause ≡ None
-IsVerdict cause (Err e) = cause ≡ Some (cause_of e)
+IsAnswer wanted (Err e) = IsRefused wanted (cause_of e)
 
 -- ---- what the state adds
 

@@ -6,12 +6,13 @@ ghost use Rattle.messages.specs.Framing.{IsMessage};
 ghost use Rattle.protocol.specs.Tags.{Setting};
 ghost use Rattle.protocol.specs.Rings.{IsRingOf};
 ghost use Rattle.protocol.specs.Refusals.{first_cause};
-ghost use Rattle.frame_admission.specs.Gate.{admission, gate_causes, validator_of, IsAnswer, IsVerdict};
+ghost use Rattle.protocol.specs.Answers.{IsVerdict};
+ghost use Rattle.frame_admission.specs.Gate.{admission, gate_causes, validator_of, IsAnswer};
 
-use crate::Inadmissible;
 use crate::tags::check_tags;
 use authenticators::{KeyRing, Party};
 use messages::{Body, Message, body_in, read};
+use protocol::Refusal;
 use std::alloc::Global;
 
 /// The message that a frame spells, if a known party sent it to the ring's validator.
@@ -19,7 +20,7 @@ use std::alloc::Global;
 /// The tag is checked over the bytes in the frame, so memory is taken for the message alone. Refused are, in this order:
 /// a frame that spells no message, by its first fault; an unknown sender; a wrong tag, or another number of tags than
 /// there are validators. A transaction is let in whoever sent it.
-pub fn admit(alloc: Global, ring: &KeyRing, frame: &[u8]) -> Result<Message, Inadmissible>
+pub fn admit(alloc: Global, ring: &KeyRing, frame: &[u8]) -> Result<Message, Refusal>
     ensures answer { (c : Setting) (p : ℕ) → IsRingOf c p ring.now → IsAnswer (admission c p frame.now) result }
     ensures lawful { IfOk result IsMessage }
 {
@@ -29,7 +30,7 @@ pub fn admit(alloc: Global, ring: &KeyRing, frame: &[u8]) -> Result<Message, Ina
 }
 
 /// Refuses a message, of which these are the body's bytes, for its sender or its tags.
-fn check_sender(ring: &KeyRing, message: &Message, body: &[u8]) -> Result<(), Inadmissible>
+fn check_sender(ring: &KeyRing, message: &Message, body: &[u8]) -> Result<(), Refusal>
     requires { body.now ≡ body_spelling message.now.body }
     ensures { (c : Setting) (p : ℕ) → IsRingOf c p ring.now → IsVerdict (first_cause (gate_causes c p message.now.body message.now.tags)) result }
 {

@@ -8,12 +8,10 @@
 ghost use Rattle.frame_admission.specs.Gate.{GateLaw};
 
 mod admission;
-mod inadmissible;
 mod own_frames;
 mod tags;
 
 pub use admission::admit;
-pub use inadmissible::Inadmissible;
 pub use own_frames::{frame_for, own_tags};
 pub use tags::is_genuine;
 

@@ -5,15 +5,13 @@ ghost use Rattle.transactions.specs.Grammar.{tx_body_spelling, IsValue};
 ghost use Rattle.protocol.specs.Tags.{Setting, genuine, tx_is_right};
 ghost use Rattle.protocol.specs.Rings.{IsRingOf};
 ghost use Rattle.protocol.specs.Refusals.{first_cause};
-ghost use Rattle.frame_admission.specs.Gate.{tag_causes, IsVerdict};
+ghost use Rattle.protocol.specs.Answers.{IsVerdict};
+ghost use Rattle.frame_admission.specs.Gate.{tag_causes};
 
-use crate::Inadmissible;
 use authenticators::{KeyRing, Party, is_right};
+use protocol::{LONGEST_TX_BODY, Refusal};
 use std::alloc::{AllocError, Global};
 use transactions::{Tx, Value, put_tx_body};
-
-/// The most bytes of a transaction without its tags.
-const LONGEST_TX_BODY: usize = 1038;
 
 /// Whether the tags of all the value's transactions are right for the ring's validator: whether each is of a known client,
 /// and has a tag for each validator and the right one for this.
@@ -49,18 +47,18 @@ pub fn check_tags(
     sender: Party,
     bytes: &[u8],
     tags: &[[u8; 32]],
-) -> Result<(), Inadmissible>
+) -> Result<(), Refusal>
     ensures { (c : Setting) (p : ℕ) → IsRingOf c p ring.now → IsVerdict (first_cause (tag_causes c p sender bytes.now tags.now)) result }
 {
     // A client receives nothing, so it knows nobody.
     let Party::Validator(me) = ring.me() else {
-        return Err(Inadmissible::UnknownSender);
+        return Err(Refusal::UnknownSender);
     };
     let Some(key) = ring.incoming(sender) else {
-        return Err(Inadmissible::UnknownSender);
+        return Err(Refusal::UnknownSender);
     };
     if !is_right(ring.count(), key, me, bytes, tags) {
-        return Err(Inadmissible::BadTag);
+        return Err(Refusal::BadTag);
     }
     Ok(())
 }

@@ -1,6 +1,6 @@
 //! Why nothing was measured.
 
-use node_core::Refusal;
+use protocol::Refusal;
 use std::alloc::{AllocError, AllocFailed};
 use std::io;
 use thiserror::Error;

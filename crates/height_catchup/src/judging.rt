@@ -16,38 +16,9 @@ use authenticators::KeyRing;
 use messages::Bundle;
 use powers::{MOST_VALIDATORS, Powers};
 use proposal_validity::Frontier;
+use protocol::JudgeFault;
 use std::alloc::{AllocError, Global};
 use transactions::value_id;
-
-/// Why a bundle decides nothing: the first cause in the order 2, 1, 3, 4.
-#[derive(Clone, Copy, Debug, PartialEq, Eq, thiserror::Error)]
-pub enum JudgeFault {
-    /// 1: those who are named as senders of its precommits have no quorum.
-    #[error("the precommits are not from a quorum")]
-    NoQuorum = 1,
-    /// 2: its id is not its value's.
-    #[error("the id is not the value's")]
-    WrongDigest = 2,
-    /// 3: those of whom a precommit has the right own tag have no quorum.
-    #[error("the precommits with a right tag are not from a quorum")]
-    BadTag = 3,
-    /// 4: its value may not be delivered next.
-    #[error("the value may not be delivered next")]
-    NotValid = 4,
-    /// 5: a growth was refused memory. The same bundle may come again.
-    #[error("out of memory")]
-    OutOfMemory = 5,
-}
-
-impl From<AllocError> for JudgeFault {
-    ghost use Rattle.height_catchup.specs.declared.judging.JudgeFault.TheVariants.{OutOfMemory};
-
-    ghost from_gives = { λ _ e. e ≡ OutOfMemory };
-
-    fn from(_e: AllocError) -> JudgeFault {
-        JudgeFault::OutOfMemory
-    }
-}
 
 /// Judges a bundle by the own keys: whether its id is its value's, a quorum precommitted the id at the
 /// bundle's height and round, and the value may be delivered next.

@@ -9,5 +9,5 @@ mod judging;
 mod vouching;
 
 pub use decisions::Decisions;
-pub use judging::{JudgeFault, judge};
+pub use judging::judge;
 pub use vouching::certified;

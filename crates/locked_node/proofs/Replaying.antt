@@ -3,8 +3,8 @@ use Rattle.std.proofs.Common.{◌≡◌, ℕ, inl, inr, true, List, ◌∷◌, �
 use Rattle.std.proofs.lemmas.Bool.{false≢true}
 use Rattle.protocol.specs.State.{Node}
 use Rattle.protocol.specs.History.{Input, replay, after}
-use Rattle.node_core.specs.declared.refusal.Refusal.{Refusal}
-use Rattle.node_core.specs.declared.refusal.Refusal.TheVariants as answers
+use Rattle.protocol.specs.declared.refusal.Refusal.{Refusal}
+use Rattle.protocol.specs.declared.refusal.Refusal.TheVariants as answers
 use Rattle.node_core.specs.Core.{Core, Stands, IsSame, setting, setting_of}
 use Rattle.node_core.specs.Calls.{IsDone, IsNotTaken, TellsJournal}
 use Rattle.locked_node.specs.History.{Heard, Took, Asked, Resent, Call, MayLeaveOut, Replayed, IsReplay, calls_after}

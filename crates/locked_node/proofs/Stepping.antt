@@ -2,7 +2,7 @@
 use Rattle.std.proofs.Common.{◌≡◌, ℕ, ◌+◌, ◌≤◌, ◌-◌, ◌^◌, min, List, [], ◌∷◌, ◌++◌, drop, length, Result, sym, ap, ◌∙◌, subst, subst₂, arith, length-append}
 use Rattle.std.proofs.Math.Seq.{drop-append_seam}
 use Rattle.protocol.specs.Messages.{Bundle}
-use Rattle.node_core.specs.declared.refusal.Refusal.{Refusal}
+use Rattle.protocol.specs.declared.refusal.Refusal.{Refusal}
 use Rattle.node_core.specs.Core.{Core, delivered_in}
 use Rattle.locked_node.specs.History.{Heard, Call, calls_after, IsReplay}
 use Rattle.locked_node.specs.Feeding.{AreFed}

@@ -7,10 +7,11 @@ use Rattle.protocol.specs.Restart.{own_since}
 use Rattle.protocol.specs.Refusals.{Refusal as Cause, answer}
 use Rattle.protocol.specs.Calls.{timeout_answer}
 use Rattle.protocol.specs.History.{Input, Settle, Given, Due}
-use Rattle.node_core.specs.declared.refusal.Refusal.{Refusal}
-use Rattle.node_core.specs.declared.refusal.Refusal.TheVariants.{Halted, OutOfMemory, JournalFailed}
+use Rattle.protocol.specs.declared.refusal.Refusal.{Refusal}
+use Rattle.protocol.specs.declared.refusal.Refusal.TheVariants.{Halted, OutOfMemory, JournalFailed}
 use Rattle.node_core.specs.Core.{Core, Stands, setting_of, frame_by}
-use Rattle.node_core.specs.Calls.{Answers, IsDone, IsUnchanged, TellsJournal}
+use Rattle.protocol.specs.Answers.{Answers}
+use Rattle.node_core.specs.Calls.{IsDone, IsUnchanged, TellsJournal}
 use Rattle.locked_node.specs.History.{Heard, Took, Asked, Resent}
 
 -- why what is handed in is refused

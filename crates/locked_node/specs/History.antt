@@ -2,8 +2,8 @@
 use Rattle.std.specs.Prelude.{◌≡◌, ◌⊎◌, ℕ, ◌-◌, ◌^◌, min, List, [], ◌∷◌, Result, Err}
 use Rattle.protocol.specs.State.{Node}
 use Rattle.protocol.specs.History.{Input, Settle, Given, Due, replay}
-use Rattle.node_core.specs.declared.refusal.Refusal.{Refusal}
-use Rattle.node_core.specs.declared.refusal.Refusal.TheVariants.{Halted, OutOfMemory, JournalFailed}
+use Rattle.protocol.specs.declared.refusal.Refusal.{Refusal}
+use Rattle.protocol.specs.declared.refusal.Refusal.TheVariants.{Halted, OutOfMemory, JournalFailed}
 use Rattle.node_core.specs.Core.{Core, Stands, IsSame, setting_of}
 use Rattle.locked_node.specs.declared.event.Event.{Event}
 use Rattle.locked_node.specs.declared.event.Event.TheVariants as events

@@ -1,7 +1,7 @@
 -- What stands under a node's lock.
 use Rattle.std.specs.Prelude.{ℕ, ◌≤◌, ◌-◌, ◌^◌, min, List, length, Result}
 use Rattle.status_words.specs.declared.rule.Seen.{Seen}
-use Rattle.node_core.specs.declared.refusal.Refusal.{Refusal}
+use Rattle.protocol.specs.declared.refusal.Refusal.{Refusal}
 use Rattle.node_core.specs.Core.{Core, delivered_in}
 use Rattle.locked_node.specs.History.{Heard, Call, IsReplay}
 use Rattle.locked_node.specs.Feeding.{AreFed}

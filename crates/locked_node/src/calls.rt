@@ -4,7 +4,8 @@ ghost use Rattle.locked_node.specs.History.{heard};
 ghost use Rattle.locked_node.specs.Calls.{Does};
 
 use crate::event::Event;
-use node_core::{NodeCore, Refusal};
+use node_core::NodeCore;
+use protocol::Refusal;
 use vote_journal::Store;
 
 /// Asks a core what the event says.

@@ -1,7 +1,6 @@
 //! What a node is asked to do.
 
-use node_core::Refusal;
-use protocol::Timeout;
+use protocol::{Refusal, Timeout};
 
 /// What a node is asked to do.
 #[derive(Clone, Copy, Debug)]

@@ -1,8 +1,9 @@
 -- The first cause in a list of causes that goes on.
-use Rattle.std.proofs.Common.{◌≡◌, Bool, true, false, cond, List, [], ◌∷◌, ◌++◌, Option, Some, None, Ok, Err, refl, sym, ap, ◌∙◌}
+use Rattle.std.proofs.Common.{◌≡◌, Bool, true, false, cond, List, [], ◌∷◌, ◌++◌, Option, Some, None, Result, Err, refl, sym, ap, ◌∙◌, subst}
 use Rattle.protocol.specs.Refusals.{TxRefusal, Cause, first_cause}
-use Rattle.mempool.specs.declared.fault.SubmitFault.{SubmitFault}
-use Rattle.mempool.specs.Answers.{answer_of}
+use Rattle.protocol.specs.declared.refusal.SubmitFault.{SubmitFault}
+use Rattle.protocol.specs.Answers.{IsCause, submit_cause}
+use Rattle.mempool.specs.Answers.{IsVerdict}
 
 abbrev either : Option TxRefusal → Option TxRefusal → Option TxRefusal
 either None later = later
@@ -16,16 +17,13 @@ joined : (xs ys : List (Cause TxRefusal)) → first_cause (xs ++ ys) ≡ either 
 joined [] ys = refl
 joined (x ∷ xs) ys = ap (λ (o : Option TxRefusal). cond x.stands (Some x.answer) o) (joined xs ys) ∙ step x.stands x.answer (first_cause xs) (first_cause ys)
 
-told : (first later : Option TxRefusal) (e : SubmitFault) → Err e ≡ answer_of first → answer_of (either first later) ≡ Err e
-told None later e h = absurd (cc)
-told (Some cause) later e h = sym h
+told : (first later told : Option TxRefusal) → IsCause first told → IsCause (either first later) told
+told first later None h = absurd h
+told None later (Some cause) h = absurd (cc)
+told (Some other) later (Some cause) h = h
 
-pub told_first : (xs ys : List (Cause TxRefusal)) (e : SubmitFault) → Err e ≡ answer_of (first_cause xs) → answer_of (first_cause (xs ++ ys)) ≡ Err e
-told_first xs ys e h = ap answer_of (joined xs ys) ∙ told (first_cause xs) (first_cause ys) e h
+pub told_first : (xs ys : List (Cause TxRefusal)) (e : SubmitFault) → IsVerdict (first_cause xs) (Err e) → IsVerdict (first_cause (xs ++ ys)) (Err e)
+told_first xs ys e h = subst (λ (o : Option TxRefusal). IsCause o (submit_cause e)) (sym (joined xs ys)) (told (first_cause xs) (first_cause ys) (submit_cause e) h)
 
-passed : (first later : Option TxRefusal) (u : Unit {0}) → Ok u ≡ answer_of first → answer_of (either first later) ≡ answer_of later
-passed None later u h = refl
-passed (Some cause) later u h = absurd (cc)
-
-pub told_later : (xs ys : List (Cause TxRefusal)) (u : Unit {0}) → Ok u ≡ answer_of (first_cause xs) → answer_of (first_cause (xs ++ ys)) ≡ answer_of (first_cause ys)
-told_later xs ys u h = ap answer_of (joined xs ys) ∙ passed (first_cause xs) (first_cause ys) u h
+pub told_later : (xs ys : List (Cause TxRefusal)) (r : Result (Unit {0}) SubmitFault) → first_cause xs ≡ None → IsVerdict (first_cause ys) r → IsVerdict (first_cause (xs ++ ys)) r
+told_later xs ys r none h = subst (λ (o : Option TxRefusal). IsVerdict o r) (sym (joined xs ys ∙ ap (λ (o : Option TxRefusal). either o (first_cause ys)) none)) h

@@ -16,21 +16,20 @@ ghost use Rattle.protocol.specs.Values.{Item, item};
 ghost use Rattle.protocol.specs.Queues.{all_waiting, drop_delivered, is_closed, pick, queued, waiting_of};
 ghost use Rattle.protocol.specs.Refusals.{first_cause, tx_causes, wanted};
 ghost use Rattle.proposal_validity.specs.Standing.{IsFrontierOf};
-ghost use Rattle.mempool.specs.Answers.{answer_of, IsAnswer};
+ghost use Rattle.mempool.specs.Answers.{IsAnswer, IsVerdict};
 ghost use Rattle.mempool.specs.Turns.{in_turn};
 ghost use Rattle.mempool.specs.Waiting.{HaveRightTags, is_close_of, is_left};
 
-mod fault;
 mod picking;
 mod seeking;
 mod tag;
 mod turns;
 
 use authenticators::KeyRing;
-pub use fault::SubmitFault;
 use indexmap::IndexMap;
 use picking::{copy_each, picked};
 use proposal_validity::Frontier;
+use protocol::{MOST_WAITING, SubmitFault};
 use seeking::{is_same, numbered};
 use std::alloc::{AllocError, Global};
 use std::collections::VecDeque;
@@ -38,9 +37,6 @@ use std::marker::Model;
 use tag::{check_tag, has_right_tag};
 use transactions::{Op, Shared, Tx, Value, copy_all};
 use turns::Turns;
-
-/// How many transactions of one client may wait.
-pub const MOST_WAITING: usize = 64;
 
 /// The clients' queues at a validator, in order of the clients' first queued transaction. A client
 /// keeps its place while its queue is empty.
@@ -92,7 +88,7 @@ impl Mempool {
     /// What `submit` would answer, but for want of memory. It takes none.
     pub fn check(&self, tx: &Tx, ring: &KeyRing, frontier: &Frontier) -> Result<(), SubmitFault>
         ensures { (c : Setting) (p : ℕ) (d : List Item) → IsRingOf c p ring.now → IsFrontierOf d frontier.now
-            → result ≡ answer_of (first_cause (tx_causes c p d self.now tx.now)) }
+            → IsVerdict (first_cause (tx_causes c p d self.now tx.now)) result }
     {
         check_tag(tx, ring)?;
         self.check_turn(tx, frontier)
@@ -189,7 +185,7 @@ impl Mempool {
     /// The causes against a transaction that depend on what else its client sent.
     fn check_turn(&self, tx: &Tx, frontier: &Frontier) -> Result<(), SubmitFault>
         ensures { (d : List Item) → IsFrontierOf d frontier.now → (c : Setting) (p : ℕ)
-            → result ≡ answer_of (first_cause (drop 3 (tx_causes c p d self.now tx.now))) }
+            → IsVerdict (first_cause (drop 3 (tx_causes c p d self.now tx.now))) result }
     {
         let wanted = self.wanted(tx.client, frontier);
         if tx.number < wanted {

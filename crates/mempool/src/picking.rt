@@ -5,14 +5,9 @@ ghost use Rattle.transactions.specs.Grammar.{tags_spelling, tx_spelling};
 ghost use Rattle.mempool.specs.Turns.{fitting};
 
 use crate::turns::Turns;
+use protocol::{MOST_TXS, MOST_VALUE_BYTES};
 use std::alloc::{AllocError, Global};
 use transactions::{Duplicate, Op, Tx};
-
-/// How many transactions a value may have.
-const MOST_TXS: usize = 256;
-
-/// How many bytes a value's spelling may have.
-const MOST_BYTES: usize = 500_000;
 
 /// The length of what stands in front of a value's transactions: their count.
 const COUNT_LEN: usize = 2;
@@ -26,7 +21,7 @@ pub fn picked<'a>(alloc: Global, turns: Turns<'a>) -> Result<Vec<&'a Tx>, AllocE
     let mut len = COUNT_LEN;
     for tx in turns {
         len = len.saturating_add(len_of(tx));
-        if txs.len() == MOST_TXS || len > MOST_BYTES {
+        if txs.len() == MOST_TXS || len > MOST_VALUE_BYTES {
             break;
         }
         txs.push(tx)?;

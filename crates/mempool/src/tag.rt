@@ -10,25 +10,19 @@ ghost use Rattle.protocol.specs.Rings.{IsRingOf};
 ghost use Rattle.protocol.specs.Queues.{Queue};
 ghost use Rattle.protocol.specs.Values.{Item};
 ghost use Rattle.protocol.specs.Refusals.{first_cause, is_long, tx_causes};
-ghost use Rattle.mempool.specs.Answers.{answer_of};
+ghost use Rattle.mempool.specs.Answers.{IsVerdict};
 
-use crate::SubmitFault;
 use arrayvec::ArrayVec;
 use authenticators::{Key, KeyRing, Party, is_right};
 use byteorder::{BigEndian, ByteOrder};
+use protocol::{LONGEST_TX_BODY, MOST_DATA, SubmitFault};
 use transactions::{Op, Tx};
-
-/// How many bytes a transaction may ask to have delivered.
-const MOST_DATA: usize = 1024;
-
-/// The length of the longest body: kind, client, number, kind of operation, length, and the bytes.
-const MOST_BODY: usize = 1 + 2 + 8 + 1 + 2 + MOST_DATA;
 
 /// The causes against a transaction that stand whatever else its client sent: its length, its
 /// client, its tags. They take no memory.
 pub fn check_tag(tx: &Tx, ring: &KeyRing) -> Result<(), SubmitFault>
     ensures { (c : Setting) (p : ℕ) → IsRingOf c p ring.now → (d : List Item) (queues : List Queue)
-        → result ≡ answer_of (first_cause (take 3 (tx_causes c p d queues tx.now))) }
+        → IsVerdict (first_cause (take 3 (tx_causes c p d queues tx.now))) result }
 {
     if is_long(&tx.op) {
         return Err(SubmitFault::TooLong);
@@ -86,7 +80,7 @@ fn is_long(op: &Op) -> bool
 /// The bytes that a transaction's tags are made over, also where a field is out of range, so that no
 /// such transaction could be spelled.
 #[tactic(auto, unfolding(transactions::specs::Grammar::tx_fields_spelling))]
-fn body_of(tx: &Tx) -> ArrayVec<u8, MOST_BODY>
+fn body_of(tx: &Tx) -> ArrayVec<u8, LONGEST_TX_BODY>
     requires { is_long tx.now.op ≡ false }
     ensures { result.items ≡ tx_body_spelling tx.now }
 {
@@ -98,7 +92,7 @@ fn body_of(tx: &Tx) -> ArrayVec<u8, MOST_BODY>
     body
 }
 
-fn put_op(body: &mut ArrayVec<u8, MOST_BODY>, op: &Op)
+fn put_op(body: &mut ArrayVec<u8, LONGEST_TX_BODY>, op: &Op)
     requires short { is_long op.now ≡ false }
     requires room { array_vec_len body.old ≡ 11 }
     ensures { body.new.items ≡ body.old.items ++ op_spelling op.now }
@@ -114,8 +108,8 @@ fn put_op(body: &mut ArrayVec<u8, MOST_BODY>, op: &Op)
 }
 
 #[tactic(auto, unfolding(transactions::specs::Fields::number_bytes))]
-fn put_u16(body: &mut ArrayVec<u8, MOST_BODY>, number: u16)
-    requires { array_vec_len body.old + 2 ≤ MOST_BODY }
+fn put_u16(body: &mut ArrayVec<u8, LONGEST_TX_BODY>, number: u16)
+    requires { array_vec_len body.old + 2 ≤ LONGEST_TX_BODY }
     ensures items { body.new.items ≡ body.old.items ++ number_bytes 2 number }
     ensures len { array_vec_len body.new ≡ array_vec_len body.old + 2 }
 {
@@ -125,8 +119,8 @@ fn put_u16(body: &mut ArrayVec<u8, MOST_BODY>, number: u16)
 }
 
 #[tactic(auto, unfolding(transactions::specs::Fields::number_bytes))]
-fn put_u64(body: &mut ArrayVec<u8, MOST_BODY>, number: u64)
-    requires { array_vec_len body.old + 8 ≤ MOST_BODY }
+fn put_u64(body: &mut ArrayVec<u8, LONGEST_TX_BODY>, number: u64)
+    requires { array_vec_len body.old + 8 ≤ LONGEST_TX_BODY }
     ensures items { body.new.items ≡ body.old.items ++ number_bytes 8 number }
     ensures len { array_vec_len body.new ≡ array_vec_len body.old + 8 }
 {
@@ -135,8 +129,8 @@ fn put_u64(body: &mut ArrayVec<u8, MOST_BODY>, number: u64)
     put(body, &buf);
 }
 
-fn put(body: &mut ArrayVec<u8, MOST_BODY>, bytes: &[u8])
-    requires { array_vec_len body.old + length bytes.now ≤ MOST_BODY }
+fn put(body: &mut ArrayVec<u8, LONGEST_TX_BODY>, bytes: &[u8])
+    requires { array_vec_len body.old + length bytes.now ≤ LONGEST_TX_BODY }
     ensures items { body.new.items ≡ body.old.items ++ bytes.now }
     ensures len { array_vec_len body.new ≡ array_vec_len body.old + length bytes.now }
 {

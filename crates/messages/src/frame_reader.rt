@@ -7,7 +7,7 @@ ghost use Rattle.messages.specs.Framing.{content_of};
 ghost use Rattle.messages.specs.Pieces.{Held, IsFrame, IsNext, nothing, with_piece, finished};
 ghost use Rattle.messages.specs.Lending.{shown, Leaves};
 
-use crate::framing::LONGEST_CONTENT;
+use crate::limits::LONGEST_CONTENT;
 use byteorder::{BigEndian, ByteOrder};
 use std::alloc::Global;
 use std::marker::Model;

@@ -9,15 +9,13 @@ ghost use Rattle.messages.specs.Framing.{content_of, message_at, message_of, fra
 ghost use Rattle.messages.specs.Checking.{message_len, frame_spelled};
 
 use crate::body::Message;
+use crate::limits::LONGEST_CONTENT;
 use crate::measuring::len_of_body;
 use crate::reading::body_front;
 use crate::writing::put_body;
 use byteorder::{BigEndian, ByteOrder};
 use std::alloc::{AllocError, Global};
 use transactions::{Fault, len_of_tags, put_u32, tags_of};
-
-/// The most bytes of content that a frame has.
-pub(crate) const LONGEST_CONTENT: usize = 1_048_576;
 
 /// The content of a frame, once it is measured.
 #[tactic(auto, unfolding(crate::specs::Framing::content_of, transactions::specs::Fields::limited, transactions::specs::Fields::whole))]

@@ -24,6 +24,7 @@ mod body;
 mod frame_reader;
 mod framing;
 mod laws;
+mod limits;
 mod measuring;
 mod reading;
 mod replies;
@@ -35,6 +36,7 @@ pub use body::{
 pub use frame_reader::FrameReader;
 pub use framing::{body_in, frame_of, read, spell};
 pub use laws::pieces_law;
+pub use limits::{LONGEST_CONTENT, MOST_PRECOMMITS};
 pub use reading::read_body;
 pub use replies::{Reply, read_reply, spell_reply};
 pub use writing::spell_body;

@@ -7,6 +7,7 @@ ghost use Rattle.messages.specs.Grammar.{valid_round_code, IsContent, IsProposal
 ghost use Rattle.messages.specs.Checking.{bare_tx_len, proposal_len, content_len, precommit_len, precommits_len, bundle_len, body_len};
 
 use crate::body::{Ask, Body, Bundle, Precommit, Proposal, Vote};
+use crate::limits::MOST_PRECOMMITS;
 use transactions::{Fault, Id, Tx, len_of_tags, len_of_tx_body, len_of_value};
 
 #[tactic(auto, unfolding(crate::specs::Checking::bare_tx_len))]
@@ -118,7 +119,7 @@ fn len_of_bundle(bundle: &Bundle) -> Result<usize, Fault>
     let _round = bundle.round;
     let head = 14 + len_of_id(&bundle.id);
     let value = len_of_value(&bundle.value)?;
-    if bundle.precommits.len() > 64 {
+    if bundle.precommits.len() > MOST_PRECOMMITS {
         return Err(Fault::TooLong);
     }
     let precommits = len_of_precommits(bundle.precommits.as_slice())?;

@@ -11,6 +11,7 @@ ghost use Rattle.messages.specs.Grammar.{SpellsBody};
 ghost use Rattle.messages.specs.Reading.{valid_round_at, proposal_at, content_at, vote_at, ask_at, precommit_at, precommits_at, bundle_at, body_after, body_at, body_of, proposal_head, bundle_head, head_after, head_at};
 
 use crate::body::{Ask, Body, Bundle, Precommit, Proposal, Step, Vote};
+use crate::limits::MOST_PRECOMMITS;
 use std::alloc::Global;
 use transactions::fields::{array_at, u8_at, u16_at, u32_at, u64_at};
 use transactions::{Fault, Id, Seq, tags_of, tx_fields_of, value_front};
@@ -120,7 +121,7 @@ fn precommits_of(alloc: Global, bytes: &[u8]) -> Result<(Seq<Precommit>, &[u8]),
     ensures { Gives (λ x. (x.0, x.1.now)) result (precommits_at bytes.now) }
 {
     let (count, rest) = u8_at(bytes)?;
-    if count > 64 {
+    if usize::from(count) > MOST_PRECOMMITS {
         return Err(Fault::TooLong);
     }
     let (precommits, rest) = precommit_list_of(alloc, count, rest)?;

@@ -1,15 +1,17 @@
 -- The answers of a node's parts, by the names of the node's own.
-use Rattle.std.proofs.Common.{◌≡◌, List, [], ◌∷◌, inl, inr, Option, Err, refl, ap, option_map}
+use Rattle.std.proofs.Common.{◌≡◌, List, [], ◌∷◌, inl, inr, Option, Some, None, Result, Ok, Err, refl, ap, option_map}
 use Rattle.std.proofs.lemmas.Bool.{cases_Bool}
-use Rattle.protocol.specs.Refusals.{TxRefusal, BundleRefusal, NotQueued, NotDecided, Cause, first_cause, answering}
-use Rattle.mempool.specs.declared.fault.SubmitFault.{SubmitFault}
-use Rattle.mempool.specs.declared.fault.SubmitFault.TheVariants as submits
+use Rattle.protocol.specs.Refusals.{TxRefusal, BundleRefusal, Refusal, NotQueued, NotDecided, Cause, first_cause, answering}
+use Rattle.protocol.specs.Answers.{IsCause, cause_of, IsRefusal, IsAnswer, of_submit, of_judgement}
+use Rattle.round_states.specs.Taking.{IsAnswer as IsKept}
+use Rattle.protocol.specs.declared.refusal.Refusal.{Refusal as Answer}
+use Rattle.protocol.specs.declared.refusal.Refusal.TheVariants as answers
+use Rattle.protocol.specs.declared.refusal.SubmitFault.{SubmitFault}
+use Rattle.protocol.specs.declared.refusal.SubmitFault.TheVariants as submits
 use Rattle.mempool.specs.Answers.{IsAnswer as IsSubmitAnswer}
-use Rattle.height_catchup.specs.declared.judging.JudgeFault.{JudgeFault}
-use Rattle.height_catchup.specs.declared.judging.JudgeFault.TheVariants as judges
+use Rattle.protocol.specs.declared.refusal.JudgeFault.{JudgeFault}
+use Rattle.protocol.specs.declared.refusal.JudgeFault.TheVariants as judges
 use Rattle.height_catchup.specs.Judging.{IsVerdict}
-use Rattle.node_core.specs.Calls.{IsRefusal}
-use Rattle.node_core.specs.Named.{of_submit, of_judgement}
 
 pub first_answering : {R S : Type 0} (f : R → S) (xs : List (Cause R)) → first_cause (answering f xs) ≡ option_map f (first_cause xs)
 first_answering f [] = refl
@@ -31,3 +33,49 @@ judge_refused cause judges.WrongDigest h = ap (option_map NotDecided) h
 judge_refused cause judges.BadTag h = ap (option_map NotDecided) h
 judge_refused cause judges.NotValid h = ap (option_map NotDecided) h
 judge_refused cause judges.OutOfMemory h = tt
+
+-- ---- the cause that an answer tells
+
+pub cause_told : (first told : Option Refusal) → IsCause first told → (x : Refusal) × (first ≡ Some x)
+cause_told first None h = absurd h
+cause_told first (Some x) h = (x, h)
+
+pub told_refused : (first : Option Refusal) (r : Answer) → IsCause first (cause_of r) → IsRefusal first r
+told_refused first answers.Truncated h = h
+told_refused first answers.TooLong h = h
+told_refused first answers.BadKind h = h
+told_refused first answers.BadSpelling h = h
+told_refused first answers.UnknownSender h = h
+told_refused first answers.BadTag h = h
+told_refused first answers.OtherHeight h = h
+told_refused first answers.VoterFull h = h
+told_refused first answers.Repeat h = h
+told_refused first answers.RoundLimit h = h
+told_refused first answers.RoundAhead h = h
+told_refused first answers.WrongProposer h = h
+told_refused first (answers.Submit fault) h = h
+told_refused first (answers.Bundle fault) h = h
+told_refused first answers.Halted h = h
+told_refused first answers.OutOfMemory h = tt
+told_refused first answers.JournalFailed h = absurd h
+
+-- what the kept variables answer, the node answers
+pub kept_answer : (first : Option Refusal) (result : Result (Unit {0}) Answer) → IsKept first result → IsAnswer first result
+kept_answer first (Ok done) h = h
+kept_answer first (Err answers.Truncated) h = h
+kept_answer first (Err answers.TooLong) h = h
+kept_answer first (Err answers.BadKind) h = h
+kept_answer first (Err answers.BadSpelling) h = h
+kept_answer first (Err answers.UnknownSender) h = h
+kept_answer first (Err answers.BadTag) h = h
+kept_answer first (Err answers.OtherHeight) h = h
+kept_answer first (Err answers.VoterFull) h = h
+kept_answer first (Err answers.Repeat) h = h
+kept_answer first (Err answers.RoundLimit) h = h
+kept_answer first (Err answers.RoundAhead) h = h
+kept_answer first (Err answers.WrongProposer) h = h
+kept_answer first (Err (answers.Submit fault)) h = h
+kept_answer first (Err (answers.Bundle fault)) h = h
+kept_answer first (Err answers.Halted) h = h
+kept_answer first (Err answers.OutOfMemory) h = tt
+kept_answer first (Err answers.JournalFailed) h = absurd h

@@ -28,14 +28,14 @@ use Rattle.round_states.specs.declared.saving.Unfired.TheVariants as unfired
 use Rattle.round_machine.specs.Naming.{rule_of}
 use Rattle.round_machine.specs.declared.rule.Rule.{Rule as Name}
 use Rattle.round_machine.specs.declared.rule.Rule.TheVariants as names
-use Rattle.node_core.specs.declared.refusal.Refusal.{Refusal as Answer}
-use Rattle.node_core.specs.declared.refusal.Refusal.TheVariants as answers
+use Rattle.protocol.specs.declared.refusal.Refusal.{Refusal as Answer}
+use Rattle.protocol.specs.declared.refusal.Refusal.TheVariants as answers
 use Rattle.node_core.specs.Core.{Core, JournalSeen, IsSound, Stands, IsSame, context_of, setting, setting_of}
 use Rattle.node_core.specs.Firing.{IsFit, IsNarrow, decision_in}
 use Rattle.node_core.specs.Saving.{HasBroken, Saves}
 use Rattle.node_core.specs.Calls.{HasFired, IsTaken, IsUnchanged, IsBroken, IsLeft, IsLeftBy, TellsJournal, input_cut, next_cut}
 use Rattle.node_core.specs.Running.{HasRun, IsCutOff}
-use Rattle.node_core.specs.Named.{of_unfired}
+use Rattle.round_states.specs.Saving.{of_unfired}
 use Rattle.node_core.proofs.Arrivals.{comes_in, answers_by}
 use Rattle.node_core.proofs.Firings.{MayFire, OptionRecord, decided_in, fired_journal, same_journal}
 use Rattle.node_core.proofs.Recorded.{rule_may_fire, bundle_may_fire}

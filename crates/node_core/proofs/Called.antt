@@ -3,10 +3,11 @@ use Rattle.std.proofs.Common.{◌≡◌, ◌⊎◌, ℕ, inl, inr, Bool, true, f
 use Rattle.protocol.specs.State.{Node}
 use Rattle.protocol.specs.Refusals.{Refusal, answer}
 use Rattle.protocol.specs.History.{Input, Given}
-use Rattle.node_core.specs.declared.refusal.Refusal.{Refusal as Answer}
-use Rattle.node_core.specs.declared.refusal.Refusal.TheVariants as answers
+use Rattle.protocol.specs.declared.refusal.Refusal.{Refusal as Answer}
+use Rattle.protocol.specs.declared.refusal.Refusal.TheVariants as answers
 use Rattle.node_core.specs.Core.{Core, Stands, setting_of}
-use Rattle.node_core.specs.Calls.{Answers, IsAnswer, IsRefusal, IsUnchanged, IsUnfired, IsRefused, IsTaken, IsNotTaken, IsCalled, IsDone, Serves, TellsJournal}
+use Rattle.protocol.specs.Answers.{Answers, IsAnswer, IsRefusal}
+use Rattle.node_core.specs.Calls.{IsUnchanged, IsUnfired, IsRefused, IsTaken, IsNotTaken, IsCalled, IsDone, Serves, TellsJournal}
 use Rattle.node_core.specs.Running.{HasRun}
 use Rattle.node_core.proofs.Stepwise.{called_run, taken_from}
 use Rattle.node_core.proofs.Telling.{tells_from, unfired_by}
@@ -35,7 +36,7 @@ running_answers failed cause result running a = rw running a
 pub run_answer : (cause : Option Refusal) (result : Result (Unit {0}) Answer) → cause ≡ None → IfErr result (λ r. (r ≡ answers.OutOfMemory) ⊎ (r ≡ answers.JournalFailed)) → IsAnswer cause result
 run_answer cause (Ok done) none e = none
 run_answer cause (Err r) none (inl e) = subst (IsRefusal cause) (sym e) tt
-run_answer cause (Err r) none (inr e) = subst (IsRefusal cause) (sym e) tt
+run_answer cause (Err r) none (inr e) = subst (IsRefusal cause) (sym e) none
 
 pub tells_begun : (result : Result (Unit {0}) Answer) (old mid new : Core) → IsUnchanged old mid → TellsJournal result mid.journal new.journal → TellsJournal result old.journal new.journal
 tells_begun result old mid new u t = tells_from result old.journal mid.journal new.journal (unchanged_serves old mid u) t
@@ -45,24 +46,24 @@ run_begun n input old begun mid new u t r = called_run n input old mid new (take
 
 -- ---- what was not taken in
 
-pub unfired_refusal : (cause : Option Refusal) (r : Answer) (old new : Core) → IsUnfired r old new → IsRefusal cause r
-unfired_refusal cause answers.JournalFailed old new u = tt
-unfired_refusal cause answers.OutOfMemory old new u = tt
-unfired_refusal cause answers.Truncated old new u = absurd (let f : answers.Truncated ≡ answers.OutOfMemory = u.0 in cc)
-unfired_refusal cause answers.TooLong old new u = absurd (let f : answers.TooLong ≡ answers.OutOfMemory = u.0 in cc)
-unfired_refusal cause answers.BadKind old new u = absurd (let f : answers.BadKind ≡ answers.OutOfMemory = u.0 in cc)
-unfired_refusal cause answers.BadSpelling old new u = absurd (let f : answers.BadSpelling ≡ answers.OutOfMemory = u.0 in cc)
-unfired_refusal cause answers.UnknownSender old new u = absurd (let f : answers.UnknownSender ≡ answers.OutOfMemory = u.0 in cc)
-unfired_refusal cause answers.BadTag old new u = absurd (let f : answers.BadTag ≡ answers.OutOfMemory = u.0 in cc)
-unfired_refusal cause answers.OtherHeight old new u = absurd (let f : answers.OtherHeight ≡ answers.OutOfMemory = u.0 in cc)
-unfired_refusal cause answers.VoterFull old new u = absurd (let f : answers.VoterFull ≡ answers.OutOfMemory = u.0 in cc)
-unfired_refusal cause answers.Repeat old new u = absurd (let f : answers.Repeat ≡ answers.OutOfMemory = u.0 in cc)
-unfired_refusal cause answers.RoundLimit old new u = absurd (let f : answers.RoundLimit ≡ answers.OutOfMemory = u.0 in cc)
-unfired_refusal cause answers.RoundAhead old new u = absurd (let f : answers.RoundAhead ≡ answers.OutOfMemory = u.0 in cc)
-unfired_refusal cause answers.WrongProposer old new u = absurd (let f : answers.WrongProposer ≡ answers.OutOfMemory = u.0 in cc)
-unfired_refusal cause (answers.Submit fault) old new u = absurd (let f : (answers.Submit fault) ≡ answers.OutOfMemory = u.0 in cc)
-unfired_refusal cause (answers.Bundle fault) old new u = absurd (let f : (answers.Bundle fault) ≡ answers.OutOfMemory = u.0 in cc)
-unfired_refusal cause answers.Halted old new u = absurd (let f : answers.Halted ≡ answers.OutOfMemory = u.0 in cc)
+pub unfired_refusal : (cause : Option Refusal) (r : Answer) (old new : Core) → cause ≡ None → IsUnfired r old new → IsRefusal cause r
+unfired_refusal cause answers.JournalFailed old new none u = none
+unfired_refusal cause answers.OutOfMemory old new none u = tt
+unfired_refusal cause answers.Truncated old new none u = absurd (let f : answers.Truncated ≡ answers.OutOfMemory = u.0 in cc)
+unfired_refusal cause answers.TooLong old new none u = absurd (let f : answers.TooLong ≡ answers.OutOfMemory = u.0 in cc)
+unfired_refusal cause answers.BadKind old new none u = absurd (let f : answers.BadKind ≡ answers.OutOfMemory = u.0 in cc)
+unfired_refusal cause answers.BadSpelling old new none u = absurd (let f : answers.BadSpelling ≡ answers.OutOfMemory = u.0 in cc)
+unfired_refusal cause answers.UnknownSender old new none u = absurd (let f : answers.UnknownSender ≡ answers.OutOfMemory = u.0 in cc)
+unfired_refusal cause answers.BadTag old new none u = absurd (let f : answers.BadTag ≡ answers.OutOfMemory = u.0 in cc)
+unfired_refusal cause answers.OtherHeight old new none u = absurd (let f : answers.OtherHeight ≡ answers.OutOfMemory = u.0 in cc)
+unfired_refusal cause answers.VoterFull old new none u = absurd (let f : answers.VoterFull ≡ answers.OutOfMemory = u.0 in cc)
+unfired_refusal cause answers.Repeat old new none u = absurd (let f : answers.Repeat ≡ answers.OutOfMemory = u.0 in cc)
+unfired_refusal cause answers.RoundLimit old new none u = absurd (let f : answers.RoundLimit ≡ answers.OutOfMemory = u.0 in cc)
+unfired_refusal cause answers.RoundAhead old new none u = absurd (let f : answers.RoundAhead ≡ answers.OutOfMemory = u.0 in cc)
+unfired_refusal cause answers.WrongProposer old new none u = absurd (let f : answers.WrongProposer ≡ answers.OutOfMemory = u.0 in cc)
+unfired_refusal cause (answers.Submit fault) old new none u = absurd (let f : (answers.Submit fault) ≡ answers.OutOfMemory = u.0 in cc)
+unfired_refusal cause (answers.Bundle fault) old new none u = absurd (let f : (answers.Bundle fault) ≡ answers.OutOfMemory = u.0 in cc)
+unfired_refusal cause answers.Halted old new none u = absurd (let f : answers.Halted ≡ answers.OutOfMemory = u.0 in cc)
 
 pub unfired_done : (n : Node) (input : Input) (r : Answer) (old begun new : Core) → IsUnchanged old begun → IsUnfired r begun new → IsDone n input (Err r) old new
 unfired_done n input answers.JournalFailed old begun new b u = inr (u ∙ ap (λ (x : Core). record x { journal = new.journal }) b)

@@ -1,20 +1,22 @@
 -- A timeout that is due: its rule fires, or nothing happens.
-use Rattle.std.proofs.Common.{◌≡◌, true, false, cond, Option, Some, [], ◌++◌, map, sym, ap, subst}
+use Rattle.std.proofs.Common.{◌≡◌, ◌≢◌, true, false, cond, Option, Some, [], ◌++◌, map, sym, ap, subst}
 use Rattle.std.proofs.lemmas.List.{append-nil}
 use Rattle.protocol.specs.State.{State, Node, TimedOut}
 use Rattle.protocol.specs.declared.types.Timeout.{Timeout}
 use Rattle.protocol.specs.Rules.{holds}
 use Rattle.protocol.specs.Refusals.{Refusal}
 use Rattle.round_machine.specs.Timing.{IsRefusal as IsTimeoutRefusal}
-use Rattle.round_states.specs.declared.taking.Refusal.{Refusal as Unkept}
-use Rattle.round_states.specs.declared.taking.Refusal.TheVariants as unkept
 use Rattle.protocol.specs.Arrivals.{Outcome, firing, nothing}
 use Rattle.protocol.specs.World.{tried}
 use Rattle.protocol.specs.History.{Due}
 use Rattle.protocol.specs.Effects.{timeouts_taken, timeouts_of}
 use Rattle.node_core.specs.Core.{Core, Stands, setting_of, context_of, frame_by}
-use Rattle.node_core.specs.Calls.{IsRefusal, IsTaken, HasFiredOnce}
-use Rattle.node_core.specs.Named.{of_unkept}
+use Rattle.protocol.specs.Answers.{IsRefusal}
+use Rattle.node_core.specs.Calls.{IsTaken, HasFiredOnce}
+use Rattle.protocol.specs.Answers.{cause_of}
+use Rattle.protocol.specs.declared.refusal.Refusal.{Refusal as Answer}
+use Rattle.protocol.specs.declared.refusal.Refusal.TheVariants as answers
+use Rattle.node_core.proofs.Answering.{cause_told, told_refused}
 use Rattle.node_core.proofs.Stepwise.{same_itself}
 
 pub due_fired : (n : Node) (t : Timeout) (old new : Core) → Stands n old → holds (context_of old) old.machine.state (TimedOut t) ≡ true → HasFiredOnce n (TimedOut t) old new → IsTaken n (Due t) old new
@@ -42,20 +44,11 @@ due_passed n t old s h =
     }
 
 -- a refused timeout has a cause
-pub some_refused : (cause : Option Refusal) (r : Unkept) → IsTimeoutRefusal cause (Some r) → (x : Refusal) × (cause ≡ Some x)
-some_refused cause unkept.OtherHeight h = (_, h)
-some_refused cause unkept.VoterFull h = (_, h)
-some_refused cause unkept.Repeat h = (_, h)
-some_refused cause unkept.RoundLimit h = (_, h)
-some_refused cause unkept.RoundAhead h = (_, h)
-some_refused cause unkept.WrongProposer h = (_, h)
-some_refused cause unkept.OutOfMemory h = absurd h
+pub some_refused : (cause : Option Refusal) (r : Answer) → IsTimeoutRefusal cause (Some r) → (x : Refusal) × (cause ≡ Some x)
+some_refused cause r h = cause_told cause (cause_of r) h
 
-pub timeout_refused : (cause : Option Refusal) (r : Unkept) → IsTimeoutRefusal cause (Some r) → IsRefusal cause (of_unkept r)
-timeout_refused cause unkept.OtherHeight h = h
-timeout_refused cause unkept.VoterFull h = h
-timeout_refused cause unkept.Repeat h = h
-timeout_refused cause unkept.RoundLimit h = h
-timeout_refused cause unkept.RoundAhead h = h
-timeout_refused cause unkept.WrongProposer h = h
-timeout_refused cause unkept.OutOfMemory h = absurd h
+pub timeout_refused : (cause : Option Refusal) (r : Answer) → IsTimeoutRefusal cause (Some r) → IsRefusal cause r
+timeout_refused cause r h = told_refused cause r h
+
+pub timeout_other : (cause : Option Refusal) (r : Answer) → IsTimeoutRefusal cause (Some r) → r ≢ answers.JournalFailed
+timeout_other cause r h is = subst (λ x. IsTimeoutRefusal cause (Some x)) is h

@@ -9,16 +9,15 @@ use Rattle.protocol.specs.Refusals.{Refusal, answer}
 use Rattle.protocol.specs.Arrivals.{Outcome, arrival, received, nothing}
 use Rattle.protocol.specs.History.{Given}
 use Rattle.protocol.proofs.Arrivals.{refused_law}
-use Rattle.frame_admission.specs.Gate.{answer_behind, IsAnswer as IsAdmitted}
-use Rattle.frame_admission.specs.declared.inadmissible.Inadmissible.{Inadmissible}
-use Rattle.frame_admission.specs.declared.inadmissible.Inadmissible.TheVariants as gate
-use Rattle.mempool.specs.declared.fault.SubmitFault.TheVariants as submits
-use Rattle.height_catchup.specs.declared.judging.JudgeFault.TheVariants as judges
-use Rattle.node_core.specs.declared.refusal.Refusal.{Refusal as Answer}
-use Rattle.node_core.specs.declared.refusal.Refusal.TheVariants as answers
+use Rattle.frame_admission.specs.Gate.{answer_behind, IsRefused as IsTold, IsAnswer as IsAdmitted}
+use Rattle.protocol.specs.declared.refusal.SubmitFault.TheVariants as submits
+use Rattle.protocol.specs.declared.refusal.JudgeFault.TheVariants as judges
+use Rattle.protocol.specs.Answers.{IsCause, cause_of}
+use Rattle.protocol.specs.declared.refusal.Refusal.{Refusal as Answer}
+use Rattle.protocol.specs.declared.refusal.Refusal.TheVariants as answers
 use Rattle.node_core.specs.Core.{Core, Stands, setting_of, frame_by}
-use Rattle.node_core.specs.Calls.{IsRefusal, IsReceived, IsTaken, IsNotTaken, IsDone}
-use Rattle.node_core.specs.Named.{of_inadmissible}
+use Rattle.protocol.specs.Answers.{IsRefusal}
+use Rattle.node_core.specs.Calls.{IsReceived, IsTaken, IsNotTaken, IsDone}
 use Rattle.node_core.proofs.Arrivals.{comes_in, answers_by}
 use Rattle.node_core.proofs.Stepwise.{same_itself, none_fired, stands_counted, called, taken_counted}
 
@@ -80,15 +79,29 @@ refused_done n frame r old s h other = elim (told (answer (setting_of old) old.m
   | inr e ↦ inr (subst (λ x. IsNotTaken (Err x) old (record old { fired = 0 })) (sym e) refl)
 ]
 
+behind_told : (c : Setting) (p : ℕ) (n : Node) (wanted : Result Message Refusal) (told : Option Refusal) → IsTold wanted told → IsCause (answer_behind c p n wanted) told
+behind_told c p n wanted None h = h
+behind_told c p n wanted (Some cause) h = ap (answer_behind c p n) h
+
 -- the gate's refusal is the node's
-pub gate_refused : (c : Setting) (p : ℕ) (n : Node) (wanted : Result Message Refusal) (e : Inadmissible) → IsAdmitted wanted (Err e) → IsRefusal (answer_behind c p n wanted) (of_inadmissible e)
-gate_refused c p n wanted gate.Truncated h = ap (answer_behind c p n) h
-gate_refused c p n wanted gate.TooLong h = ap (answer_behind c p n) h
-gate_refused c p n wanted gate.BadKind h = ap (answer_behind c p n) h
-gate_refused c p n wanted gate.BadSpelling h = ap (answer_behind c p n) h
-gate_refused c p n wanted gate.UnknownSender h = ap (answer_behind c p n) h
-gate_refused c p n wanted gate.BadTag h = ap (answer_behind c p n) h
-gate_refused c p n wanted gate.OutOfMemory h = tt
+pub gate_refused : (c : Setting) (p : ℕ) (n : Node) (wanted : Result Message Refusal) (e : Answer) → IsAdmitted wanted (Err e) → IsRefusal (answer_behind c p n wanted) e
+gate_refused c p n wanted answers.Truncated h = behind_told c p n wanted (cause_of answers.Truncated) h
+gate_refused c p n wanted answers.TooLong h = behind_told c p n wanted (cause_of answers.TooLong) h
+gate_refused c p n wanted answers.BadKind h = behind_told c p n wanted (cause_of answers.BadKind) h
+gate_refused c p n wanted answers.BadSpelling h = behind_told c p n wanted (cause_of answers.BadSpelling) h
+gate_refused c p n wanted answers.UnknownSender h = behind_told c p n wanted (cause_of answers.UnknownSender) h
+gate_refused c p n wanted answers.BadTag h = behind_told c p n wanted (cause_of answers.BadTag) h
+gate_refused c p n wanted answers.OtherHeight h = behind_told c p n wanted (cause_of answers.OtherHeight) h
+gate_refused c p n wanted answers.VoterFull h = behind_told c p n wanted (cause_of answers.VoterFull) h
+gate_refused c p n wanted answers.Repeat h = behind_told c p n wanted (cause_of answers.Repeat) h
+gate_refused c p n wanted answers.RoundLimit h = behind_told c p n wanted (cause_of answers.RoundLimit) h
+gate_refused c p n wanted answers.RoundAhead h = behind_told c p n wanted (cause_of answers.RoundAhead) h
+gate_refused c p n wanted answers.WrongProposer h = behind_told c p n wanted (cause_of answers.WrongProposer) h
+gate_refused c p n wanted (answers.Submit fault) h = behind_told c p n wanted (cause_of (answers.Submit fault)) h
+gate_refused c p n wanted (answers.Bundle fault) h = behind_told c p n wanted (cause_of (answers.Bundle fault)) h
+gate_refused c p n wanted answers.Halted h = behind_told c p n wanted (cause_of answers.Halted) h
+gate_refused c p n wanted answers.OutOfMemory h = tt
+gate_refused c p n wanted answers.JournalFailed h = absurd h
 
 pub received_from : (n : Node) (m : Message) (old new : Core) (count : ℕ) → IsReceived n m (record old { fired = count }) new → IsReceived n m old new
 received_from n m old new count h = record { stands = h.stands; outgoing = h.outgoing; scheduled = h.scheduled; same = record { powers = h.same.powers; me = h.same.me; ring = h.same.ring } }

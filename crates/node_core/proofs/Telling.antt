@@ -1,22 +1,22 @@
 -- What calls answer that do not touch the journal.
 use Rattle.std.proofs.Common.{◌≡◌, ◌≢◌, ◌⊎◌, inl, inr, ◌∙◌, Option, None, Result, Ok, Err, OnErr, IfErr, refl, sym, subst}
-use Rattle.frame_admission.specs.declared.inadmissible.Inadmissible.{Inadmissible}
-use Rattle.frame_admission.specs.declared.inadmissible.Inadmissible.TheVariants as gate
-use Rattle.round_states.specs.declared.taking.Refusal.{Refusal as Unkept}
-use Rattle.round_states.specs.declared.taking.Refusal.TheVariants as unkept
-use Rattle.mempool.specs.declared.fault.SubmitFault.{SubmitFault}
-use Rattle.mempool.specs.declared.fault.SubmitFault.TheVariants as submits
-use Rattle.height_catchup.specs.declared.judging.JudgeFault.{JudgeFault}
-use Rattle.height_catchup.specs.declared.judging.JudgeFault.TheVariants as judges
-use Rattle.node_core.specs.declared.refusal.Refusal.{Refusal as Answer}
-use Rattle.node_core.specs.declared.refusal.Refusal.TheVariants as answers
+use Rattle.protocol.specs.declared.refusal.SubmitFault.{SubmitFault}
+use Rattle.protocol.specs.declared.refusal.SubmitFault.TheVariants as submits
+use Rattle.protocol.specs.declared.refusal.JudgeFault.{JudgeFault}
+use Rattle.protocol.specs.declared.refusal.JudgeFault.TheVariants as judges
+use Rattle.protocol.specs.declared.refusal.Refusal.{Refusal as Answer}
+use Rattle.protocol.specs.declared.refusal.Refusal.TheVariants as answers
 use Rattle.node_core.specs.Core.{Core, JournalSeen}
-use Rattle.node_core.specs.Calls.{Serves, TellsJournal, IsAnswer, IsUnfired, IsRefused}
+use Rattle.node_core.specs.Calls.{Serves, TellsJournal, IsUnfired, IsRefused}
+use Rattle.protocol.specs.Answers.{IsAnswer}
 use Rattle.protocol.specs.Refusals.{Refusal}
+use Rattle.protocol.specs.Messages.{Message}
+use Rattle.frame_admission.specs.Gate.{IsAnswer as IsAdmitted}
+use Rattle.round_states.specs.Taking.{IsAnswer as IsKept}
 use Rattle.vote_journal.specs.Store.{Grew}
 use Rattle.node_core.specs.Running.{HasRun}
 use Rattle.node_core.proofs.Stepwise.{run_failed}
-use Rattle.node_core.specs.Named.{of_inadmissible, of_unkept, of_submit, of_judgement}
+use Rattle.protocol.specs.Answers.{of_submit, of_judgement}
 
 pub serves_itself : (j : JournalSeen) → Serves j j
 serves_itself j = record { failed = refl; failures = refl }
@@ -41,23 +41,15 @@ tells_itself answers.Halted j other = serves_itself j
 tells_itself answers.OutOfMemory j other = serves_itself j
 tells_itself answers.JournalFailed j other = absurd (other refl)
 
-pub inadmissible_other : (e : Inadmissible) → of_inadmissible e ≢ answers.JournalFailed
-inadmissible_other gate.Truncated e = cc
-inadmissible_other gate.TooLong e = cc
-inadmissible_other gate.BadKind e = cc
-inadmissible_other gate.BadSpelling e = cc
-inadmissible_other gate.UnknownSender e = cc
-inadmissible_other gate.BadTag e = cc
-inadmissible_other gate.OutOfMemory e = cc
+pub inadmissible_other : (wanted : Result Message Refusal) (e : Answer) → IsAdmitted wanted (Err e) → e ≢ answers.JournalFailed
+inadmissible_other wanted e h is = subst (λ x. IsAdmitted wanted (Err x)) is h
 
-pub unkept_other : (e : Unkept) → of_unkept e ≢ answers.JournalFailed
-unkept_other unkept.OtherHeight e = cc
-unkept_other unkept.VoterFull e = cc
-unkept_other unkept.Repeat e = cc
-unkept_other unkept.RoundLimit e = cc
-unkept_other unkept.RoundAhead e = cc
-unkept_other unkept.WrongProposer e = cc
-unkept_other unkept.OutOfMemory e = cc
+pub unkept_other : (cause : Option Refusal) (e : Answer) → IsKept cause (Err e) → e ≢ answers.JournalFailed
+unkept_other cause e h is = subst (λ x. IsKept cause (Err x)) is h
+
+pub kept_tells : (cause : Option Refusal) (result : Result (Unit {0}) Answer) (j : JournalSeen) → IsKept cause result → TellsJournal result j j
+kept_tells cause (Ok done) j h = serves_itself j
+kept_tells cause (Err e) j h = tells_itself e j (unkept_other cause e h)
 
 pub submit_other : (e : SubmitFault) → of_submit e ≢ answers.JournalFailed
 submit_other submits.UnknownClient e = cc
@@ -128,7 +120,7 @@ unfired_result (Err r) old new e = unfired_refused r old new e
 pub unfired_answer : (cause : Option Refusal) (result : Result (Unit {0}) Answer) (old new : Core) → cause ≡ None → IfErr result (λ r. IsUnfired r old new) → IsAnswer cause result
 unfired_answer cause (Ok done) old new none e = none
 unfired_answer cause (Err answers.OutOfMemory) old new none e = tt
-unfired_answer cause (Err answers.JournalFailed) old new none e = tt
+unfired_answer cause (Err answers.JournalFailed) old new none e = none
 unfired_answer cause (Err answers.Truncated) old new none e = absurd (let f : answers.Truncated ≡ answers.OutOfMemory = e.0 in cc)
 unfired_answer cause (Err answers.TooLong) old new none e = absurd (let f : answers.TooLong ≡ answers.OutOfMemory = e.0 in cc)
 unfired_answer cause (Err answers.BadKind) old new none e = absurd (let f : answers.BadKind ≡ answers.OutOfMemory = e.0 in cc)

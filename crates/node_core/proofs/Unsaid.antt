@@ -8,7 +8,7 @@ use Rattle.round_states.specs.declared.saving.Unfired.TheVariants as unfired
 use Rattle.node_core.specs.Core.{Core, JournalSeen, IsSound}
 use Rattle.node_core.specs.Saving.{Saves}
 use Rattle.node_core.specs.Calls.{Serves, TellsJournal, IsUnfired}
-use Rattle.node_core.specs.Named.{of_unfired}
+use Rattle.round_states.specs.Saving.{of_unfired}
 
 served : (old new : JournalSeen) → new ≡ old → Serves old new
 served old new e = record { failed = ap (λ (j : JournalSeen). j.failed) e; failures = ap (λ (j : JournalSeen). j.failures) e }

@@ -1,73 +1,18 @@
 -- What a call answers, and what it leaves.
 use Rattle.std.specs.Prelude.{◌≡◌, ℕ, ◌<◌, ◌-◌, ◌^◌, ◌⊎◌, ◌++◌, map, min, reverse, List, Bool, true, false, Option, Some, None, is_some, option_map, Result, Ok, Err}
-use Rattle.transactions.specs.declared.fault.Fault.TheVariants as faults
 use Rattle.protocol.specs.Messages.{Message, Record}
 use Rattle.protocol.specs.Tags.{Setting}
 use Rattle.protocol.specs.State.{Node, Rule, TimedOut}
 use Rattle.protocol.specs.Order.{enabled}
-use Rattle.protocol.specs.Refusals.{Refusal}
-use Rattle.protocol.specs.Refusals as causes
 use Rattle.protocol.specs.Arrivals.{firing, received}
 use Rattle.protocol.specs.World.{Cut, InArrival, InFiring, cut_record}
 use Rattle.protocol.specs.History.{Input, Settle, Given, Due, firsts, taken, after}
 use Rattle.protocol.specs.Effects.{bodies_of, timeouts_of, along, bodies_taken, timeouts_taken, bodies_after, timeouts_after}
-use Rattle.mempool.specs.declared.fault.SubmitFault.{SubmitFault}
-use Rattle.mempool.specs.declared.fault.SubmitFault.TheVariants as submits
-use Rattle.height_catchup.specs.declared.judging.JudgeFault.{JudgeFault}
-use Rattle.height_catchup.specs.declared.judging.JudgeFault.TheVariants as judges
-use Rattle.node_core.specs.declared.refusal.Refusal.{Refusal as Answer}
-use Rattle.node_core.specs.declared.refusal.Refusal.TheVariants as answers
+use Rattle.protocol.specs.declared.refusal.Refusal.{Refusal as Answer}
+use Rattle.protocol.specs.declared.refusal.Refusal.TheVariants as answers
 use Rattle.vote_journal.specs.Store.{Grew}
 use Rattle.vote_journal.specs.Layout.{IsJournal}
 use Rattle.node_core.specs.Core.{Core, JournalSeen, Stands, IsSame, setting_of, frame_by}
-
--- ---- answers
-
--- The answer is this cause, unless memory ran out or the journal failed.
-abbrev pub IsSubmit : Option Refusal → SubmitFault → Type 0
-IsSubmit cause submits.UnknownClient = cause ≡ Some (causes.NotQueued causes.UnknownClient)
-IsSubmit cause submits.BadTag = cause ≡ Some (causes.NotQueued causes.BadTxTag)
-IsSubmit cause submits.OldNumber = cause ≡ Some (causes.NotQueued causes.OldNumber)
-IsSubmit cause submits.Gap = cause ≡ Some (causes.NotQueued causes.Gap)
-IsSubmit cause submits.Closed = cause ≡ Some (causes.NotQueued causes.Closed)
-IsSubmit cause submits.QueueFull = cause ≡ Some (causes.NotQueued causes.QueueFull)
-IsSubmit cause submits.TooLong = cause ≡ Some (causes.NotQueued causes.TxTooLong)
-IsSubmit cause submits.OutOfMemory = ⊥
-
-abbrev pub IsJudgement : Option Refusal → JudgeFault → Type 0
-IsJudgement cause judges.NoQuorum = cause ≡ Some (causes.NotDecided causes.NoQuorum)
-IsJudgement cause judges.WrongDigest = cause ≡ Some (causes.NotDecided causes.WrongDigest)
-IsJudgement cause judges.BadTag = cause ≡ Some (causes.NotDecided causes.BadBundleTag)
-IsJudgement cause judges.NotValid = cause ≡ Some (causes.NotDecided causes.NotValid)
-IsJudgement cause judges.OutOfMemory = ⊥
-
-abbrev pub IsRefusal : Option Refusal → Answer → Type 0
-IsRefusal cause answers.Truncated = cause ≡ Some (causes.Unread faults.Truncated)
-IsRefusal cause answers.TooLong = cause ≡ Some (causes.Unread faults.TooLong)
-IsRefusal cause answers.BadKind = cause ≡ Some (causes.Unread faults.BadKind)
-IsRefusal cause answers.BadSpelling = cause ≡ Some (causes.Unread faults.BadSpelling)
-IsRefusal cause answers.UnknownSender = cause ≡ Some causes.UnknownSender
-IsRefusal cause answers.BadTag = cause ≡ Some causes.BadTag
-IsRefusal cause answers.OtherHeight = cause ≡ Some causes.OtherHeight
-IsRefusal cause answers.VoterFull = cause ≡ Some causes.VoterFull
-IsRefusal cause answers.Repeat = cause ≡ Some causes.Repeat
-IsRefusal cause answers.RoundLimit = cause ≡ Some causes.RoundLimit
-IsRefusal cause answers.RoundAhead = cause ≡ Some causes.RoundAhead
-IsRefusal cause answers.WrongProposer = cause ≡ Some causes.WrongProposer
-IsRefusal cause (answers.Submit fault) = IsSubmit cause fault
-IsRefusal cause (answers.Bundle fault) = IsJudgement cause fault
-IsRefusal cause answers.Halted = ⊥
-IsRefusal cause answers.OutOfMemory = Unit {0}
-IsRefusal cause answers.JournalFailed = Unit {0}
-
-abbrev pub IsAnswer : Option Refusal → Result (Unit {0}) Answer → Type 0
-IsAnswer cause (Ok done) = cause ≡ None
-IsAnswer cause (Err answer) = IsRefusal cause answer
-
--- A node that has halted says so to everything.
-abbrev pub Answers : Bool → Option Refusal → Result (Unit {0}) Answer → Type 0
-Answers true cause result = result ≡ Err answers.Halted
-Answers false cause result = IsAnswer cause result
 
 -- A refusal changes nothing, but that no rule was fired by it.
 abbrev pub IsUnchanged : Core → Core → Type 0

@@ -1,7 +1,6 @@
 pub mod Core
 pub mod Saving
 pub mod Seen
-pub mod Named
 pub mod Calls
 pub mod Firing
 pub mod Running

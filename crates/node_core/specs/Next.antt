@@ -6,10 +6,11 @@ use Rattle.protocol.specs.State.{Node}
 use Rattle.protocol.specs.Order.{enabled}
 use Rattle.protocol.specs.Refusals.{answer}
 use Rattle.protocol.specs.History.{Given}
-use Rattle.node_core.specs.declared.refusal.Refusal.{Refusal as Answer}
-use Rattle.node_core.specs.declared.refusal.Refusal.TheVariants as answers
+use Rattle.protocol.specs.declared.refusal.Refusal.{Refusal as Answer}
+use Rattle.protocol.specs.declared.refusal.Refusal.TheVariants as answers
 use Rattle.node_core.specs.Core.{Core, Stands, setting_of}
-use Rattle.node_core.specs.Calls.{Answers, IsDone, IsBroken, IsUnchanged, TellsJournal}
+use Rattle.protocol.specs.Answers.{Answers}
+use Rattle.node_core.specs.Calls.{IsDone, IsBroken, IsUnchanged, TellsJournal}
 
 -- a frame was handed in: what is answered, and what is left
 pub record IsHandled (frame : List ℕ) (result : Result (Unit {0}) Answer) (old new : Core) : Type 0 where

@@ -10,13 +10,13 @@ ghost use Rattle.protocol.specs.Calls.{timeout_answer};
 ghost use Rattle.protocol.specs.History.{Settle, Given, Due};
 ghost use Rattle.node_core.specs.Core.{Stands, setting_of, frame_by};
 ghost use Rattle.node_core.specs.Next.{HandlesNext};
-ghost use Rattle.node_core.specs.Calls.{Answers, IsDone, IsBroken, IsLeftBy, IsTaken, IsUnfired, IsUnchanged, TellsJournal, input_cut};
+ghost use Rattle.protocol.specs.Answers.{Answers};
+ghost use Rattle.node_core.specs.Calls.{IsDone, IsBroken, IsLeftBy, IsTaken, IsUnfired, IsUnchanged, TellsJournal, input_cut};
 
 use crate::node::NodeCore;
-use crate::refusal::Refusal;
 use frame_admission::{admit, frame_for};
 use messages::{Ask, Body, FrameReader};
-use protocol::Timeout;
+use protocol::{Refusal, Timeout};
 use round_machine::{Rule, holds_timeout, timeout_refusal};
 use std::alloc::AllocError;
 use vote_journal::Store;
@@ -65,7 +65,7 @@ impl<S: Store + Drop> NodeCore<S> {
     {
         self.begin()?;
         if let Some(refusal) = timeout_refusal(&self.state, timeout) {
-            return Err(refusal.into());
+            return Err(refusal);
         }
         self.fire_due(timeout)?;
         self.fire_all()

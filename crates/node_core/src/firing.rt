@@ -17,12 +17,11 @@ ghost use Rattle.node_core.specs.Running.{HasRun, IsCutOff};
 ghost use Rattle.node_core.specs.Firing.{IsHanded, IsFit, IsRoundHanded, frames_of, decided_by, said_by, is_empty, IsNarrow};
 
 use crate::node::NodeCore;
-use crate::refusal::Refusal;
 use frame_admission::{frame_for, own_tags};
 use height_catchup::Decisions;
 use mempool::Mempool;
 use messages::Body;
-use protocol::{Step, Timeout};
+use protocol::{Refusal, Step, Timeout};
 use round_machine::{Input, Rule, enabled, fire, next_message};
 use round_states::{Fired, Picked, Saved, State, release};
 use std::alloc::AllocError;

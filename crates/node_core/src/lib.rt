@@ -16,8 +16,6 @@ mod firing;
 mod journal;
 mod node;
 mod opening;
-mod refusal;
 mod taking;
 
 pub use node::{Config, NodeCore};
-pub use refusal::Refusal;

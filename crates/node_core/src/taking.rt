@@ -14,22 +14,20 @@ ghost use Rattle.protocol.specs.Refusals.{first_cause, answering, NotQueued, tx_
 ghost use Rattle.frame_admission.specs.Gate.{gate_causes, state_causes};
 ghost use Rattle.round_machine.specs.Bundling.{Came};
 ghost use Rattle.node_core.specs.Core.{Stands, setting_of, context_of, frame_by};
-ghost use Rattle.node_core.specs.Calls.{IsAnswer, IsReceived, IsLeft, IsRefused, IsUnfired, IsBeside, HasFiredOnce, TellsJournal};
+ghost use Rattle.protocol.specs.Answers.{IsAnswer};
+ghost use Rattle.node_core.specs.Calls.{IsReceived, IsLeft, IsRefused, IsUnfired, IsBeside, HasFiredOnce, TellsJournal};
 
 use crate::firing::{note, push_one};
 use crate::journal::decide_saving;
 use crate::node::NodeCore;
-use crate::refusal::Refusal;
 use frame_admission::frame_for;
 use height_catchup::{certified, judge};
 use messages::{Ask, Body, Bundle, Message, Proposal, Vote};
+use protocol::{MOST_HEIGHT, Refusal};
 use round_states::Fired;
 use std::alloc::AllocError;
 use transactions::{Duplicate, Seq, Tx};
 use vote_journal::Store;
-
-/// This many heights are decided: the last is one below it.
-const MOST_HEIGHT: u64 = 1 << 48;
 
 impl<S: Store + Drop> NodeCore<S> {
     /// Takes an admitted message in, or tells the first cause against it.
@@ -39,8 +37,7 @@ impl<S: Store + Drop> NodeCore<S> {
         requires running { self.old.journal.failed ≡ false }
         ensures answer { (n : Node) → Stands n self.old → IsAnswer (first_cause (state_causes (setting_of self.old) self.old.machine.me n message message.body)) result }
         ensures ok { OnOk result ((n : Node) → Stands n self.old → IsReceived n message self.old self.new) }
-        ensures broken { result ≡ Err Refusal.JournalFailed → (n : Node) → Stands n self.old → (first_cause (state_causes (setting_of self.old) self.old.machine.me n message message.body) ≡ None)
-            × IsLeft self.old.machine.powers self.old.machine.me n.journal (option_to_list (received (setting_of self.old) self.old.machine.me n message message.body).wrote) self.new.journal.bytes }
+        ensures broken { result ≡ Err Refusal.JournalFailed → (n : Node) → Stands n self.old → IsLeft self.old.machine.powers self.old.machine.me n.journal (option_to_list (received (setting_of self.old) self.old.machine.me n message message.body).wrote) self.new.journal.bytes }
         ensures fired { self.new.fired ≡ self.old.fired }
         ensures journal { TellsJournal result self.old.journal self.new.journal }
         ensures err { IfErr result (λ r. IsRefused r self.old self.new) }
@@ -78,7 +75,8 @@ impl<S: Store + Drop> NodeCore<S> {
         ensures journal { TellsJournal result self.old.journal self.new.journal }
         ensures err { OnErr result (self.new ≡ self.old) }
     {
-        Ok(self.state.take_vote(vote, tags)?)
+        self.state.take_vote(vote, tags)?;
+        Ok(())
     }
 
     /// A proposal is kept, with the answer whether its transactions' own tags are right.
@@ -92,7 +90,8 @@ impl<S: Store + Drop> NodeCore<S> {
     {
         self.state.check_proposal(&proposal)?;
         let genuine = self.is_genuine(&proposal);
-        Ok(self.state.take_proposal(proposal, genuine)?)
+        self.state.take_proposal(proposal, genuine)?;
+        Ok(())
     }
 
     /// Whether the own tags of a proposal's transactions are right. Of one with a valid round nobody asks.
@@ -146,7 +145,6 @@ impl<S: Store + Drop> NodeCore<S> {
         requires running { self.old.journal.failed ≡ false }
         ensures answer { IsAnswer (first_cause (bundle_causes (setting_of self.old) self.old.machine.me self.old.machine.state bundle)) result }
         ensures ok { OnOk result ((n : Node) → Stands n self.old → HasFiredOnce n (DecideByBundle bundle) self.old self.new) }
-        ensures possible { result ≡ Err Refusal.JournalFailed → first_cause (bundle_causes (setting_of self.old) self.old.machine.me self.old.machine.state bundle) ≡ None }
         ensures broken { result ≡ Err Refusal.JournalFailed → (n : Node) → Stands n self.old → IsLeft self.old.machine.powers self.old.machine.me n.journal (option_to_list (firing (setting_of self.old) self.old.machine.me n (DecideByBundle bundle)).wrote) self.new.journal.bytes }
         ensures fired { self.new.fired ≡ self.old.fired }
         ensures journal { TellsJournal result self.old.journal self.new.journal }

@@ -15,25 +15,11 @@ use clap::error::ErrorKind;
 use clap::{ArgMatches, Error};
 use log::LevelFilter;
 use powers::Powers;
+use protocol::{LAST_CLIENT, LAST_NUMBER, MOST_CLIENTS, MOST_MILLISECONDS, MOST_VALIDATORS};
 use std::alloc::{AllocError, AllocFailed, Global};
 use std::convert::AsStr;
 use std::fmt;
 use transactions::{Op, Seq};
-
-/// The greatest number of validators.
-const MOST_VALIDATORS: u64 = 64;
-
-/// The greatest number of clients.
-const MOST_CLIENTS: u64 = 1024;
-
-/// The greatest number of a client.
-const LAST_CLIENT: u64 = 1023;
-
-/// The greatest number of a transaction, 2^48.
-const LAST_NUMBER: u64 = 1 << 48;
-
-/// The greatest `--start` and `--delta`, in milliseconds: a day.
-const MOST_MILLISECONDS: u64 = 86_400_000;
 
 /// Why the words of a command line are no settings.
 #[derive(Clone, Copy, Debug, PartialEq, Eq, thiserror::Error)]
@@ -215,7 +201,7 @@ impl<'a> RunSettings<'a> {
         ensures asked { Gives run_words result (run_of (rows_of (found_of found.now))) }
         ensures lawful { IfOk result IsLawfulRun }
     {
-        let me = number(found, "id", 0, MOST_VALIDATORS - 1)? as u16;
+        let me = number(found, "id", 0, MOST_VALIDATORS as u64 - 1)? as u16;
         let keys = word(found, "keys")?;
         let journal = word(found, "journal")?;
         let start = number(found, "start", 0, MOST_MILLISECONDS)?;
@@ -289,7 +275,7 @@ fn validators_of(found: &ArgMatches<'_>) -> Result<u16, SettingsFault>
     ensures asked { result ≡ validators_of (rows_of (found_of found.now)) }
     ensures lawful { IfOk result (λ count. (2 ≤ count) × (count ≤ 64)) }
 {
-    Ok(number(found, "validators", 2, MOST_VALIDATORS)? as u16)
+    Ok(number(found, "validators", 2, MOST_VALIDATORS as u64)? as u16)
 }
 
 impl<'a> SendSettings<'a> {
@@ -299,7 +285,7 @@ impl<'a> SendSettings<'a> {
         ensures asked { Gives send_words result (send_of (rows_of (found_of found.now))) }
         ensures lawful { IfOk result IsLawfulSend }
     {
-        let client = number(found, "id", 0, LAST_CLIENT)? as u16;
+        let client = number(found, "id", 0, u64::from(LAST_CLIENT))? as u16;
         let validators = validators_of(found)?;
         let keys = word(found, "keys")?;
         let to = words_of(alloc, word(found, "to")?)?;
@@ -325,7 +311,7 @@ impl<'a> KeysSettings<'a> {
         ensures lawful { IfOk result IsLawfulKeys }
     {
         let validators = validators_of(found)?;
-        let clients = number(found, "clients", 0, MOST_CLIENTS)? as u16;
+        let clients = number(found, "clients", 0, u64::from(MOST_CLIENTS))? as u16;
         let out = word(found, "out")?;
         Ok(KeysSettings {
             validators,

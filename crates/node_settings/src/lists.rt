@@ -8,11 +8,9 @@ use crate::invocation::SettingsFault;
 use crate::options::number_between;
 use hex::FromHexError;
 use powers::Powers;
+use protocol::MOST_DATA;
 use std::alloc::{AllocError, Global};
 use transactions::Seq;
-
-/// The greatest number of bytes of a transaction.
-const MOST_DATA: usize = 1024;
 
 /// The words between the commas of a list.
 pub fn words_of(alloc: Global, list: &str) -> Result<Vec<&str>, AllocError>

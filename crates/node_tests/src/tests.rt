@@ -5,7 +5,6 @@ ghost use Rattle.std.specs.Prelude.{◌≡◌, [], false, IfOk, length};
 ghost use Rattle.protocol.specs.Tags.{Validator};
 ghost use Rattle.vote_journal.specs.Layout.{IsWhole};
 
-mod answers;
 mod bundles;
 mod journal;
 mod memory;
@@ -18,8 +17,9 @@ mod timeouts;
 
 use authenticators::{KeyRing, Party, hmac};
 use messages::{Body, Proposal, Step as VoteStep, Vote, frame_of, spell_body};
-use node_core::{Config, NodeCore, Refusal};
+use node_core::{Config, NodeCore};
 use powers::Powers;
+use protocol::Refusal;
 use std::alloc::Global;
 use std::process::Abort;
 use std::test::Fail;

@@ -1,8 +1,8 @@
 -- What comes of a node's answer.
 use Rattle.std.specs.Prelude.{◌≡◌, ◌⊎◌, ℕ, Bool, true, false, ◌==◌, nat_lt, if◌then◌else◌, Result, Ok, Err, Option, Some, None}
-use Rattle.node_core.specs.declared.refusal.Refusal.{Refusal}
-use Rattle.node_core.specs.declared.refusal.Refusal.TheVariants as answers
-use Rattle.node_core.specs.Named.{numbers_of}
+use Rattle.protocol.specs.declared.refusal.Refusal.{Refusal}
+use Rattle.protocol.specs.declared.refusal.Refusal.TheVariants as answers
+use Rattle.protocol.specs.Answers.{numbers_of}
 use Rattle.messages.specs.declared.replies.Reply.{Reply}
 use Rattle.peer_threads.specs.declared.heading.Kind.{Kind}
 use Rattle.peer_threads.specs.declared.heading.Kind.TheVariants as kinds

@@ -8,7 +8,7 @@ ghost use Rattle.peer_threads.specs.Answers.{has_halted, has_changed, reply_for,
 
 use crate::heading::{Heading, Kind, is_transaction};
 use messages::Reply;
-use node_core::Refusal;
+use protocol::Refusal;
 
 /// What a peer does after a frame was handed in, beside letting go what the node released.
 #[derive(Clone, Copy, Debug, PartialEq, Eq)]

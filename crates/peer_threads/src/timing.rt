@@ -5,9 +5,8 @@ ghost use Rattle.peer_threads.specs.Times.{next_of};
 
 use crate::shared::Shared;
 use log::{Log, warn};
-use node_core::Refusal;
 use peer_links::Clock;
-use protocol::Timeout;
+use protocol::{Refusal, Timeout};
 use status_words::{Node, Seat};
 use std::sync::Wait;
 use std::time;

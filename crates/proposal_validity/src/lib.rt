@@ -14,13 +14,11 @@ ghost use Rattle.proposal_validity.specs.Laws.{FrontierLaw, ValidLaw};
 
 mod standing;
 
+use protocol::MOST_CLIENTS;
 use standing::{Standing, grow, pass, past_last};
 use std::alloc::{AllocError, Global};
 use std::marker::Model;
 use transactions::{Tx, Value};
-
-/// How many clients there can be: their numbers are 0 to 1023.
-const MOST_CLIENTS: usize = 1024;
 
 /// For each client the number of its next transaction, and whether it has closed.
 ///
@@ -120,7 +118,7 @@ impl Frontier {
         requires spelled { All IsTx txs.now }
         ensures { result ≡ all_fit (standing self.now) (items_of txs.now) }
     {
-        let mut last_places: [Option<u8>; MOST_CLIENTS] = [None; MOST_CLIENTS];
+        let mut last_places: [Option<u8>; MOST_CLIENTS as usize] = [None; MOST_CLIENTS as usize];
         for (i, tx) in txs.iter().enumerate() {
             let client = tx.client as usize;
             let standing = match last_places[client] {

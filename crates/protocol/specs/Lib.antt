@@ -11,6 +11,7 @@ pub mod Queues
 pub mod Refusals
 pub mod Rings
 pub mod Calls
+pub mod Answers
 pub mod Arrivals
 pub mod World
 pub mod History

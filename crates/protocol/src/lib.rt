@@ -4,7 +4,9 @@
 //! validator, a rule or a timeout fires, a validator stops and is opened again over its journal, a client sends.
 #![tactic(auto)]
 
+mod limits;
 mod records;
+mod refusal;
 mod types;
 
 ghost use Rattle.protocol.specs.Examples.{WorkedCases, WorkedRuns};
@@ -12,7 +14,13 @@ ghost use Rattle.protocol.specs.Order.{EnabledLaw, FirstLaw, QuietLaw};
 ghost use Rattle.protocol.specs.Laws.{AgreeLaw, BeginsLaw, CertificateLaw, FifoLaw, FrameLaw, HistoryLaw, JudgeLaw, LastsLaw, LockLaw, NoLaterQuorumLaw, OneVoteLaw, RefusedLaw, ReplayLaw, ReportLaw, SentLaw, TaggedLaw, TimeoutLaw};
 ghost use Rattle.protocol.specs.Witness.{PremisesMetLaw};
 
+pub use limits::{
+    LAST_CLIENT, LAST_NUMBER, LONGEST_CONTENT, LONGEST_TX_BODY, MOST_CLIENTS, MOST_DATA,
+    MOST_HEIGHT, MOST_MESSAGES, MOST_MILLISECONDS, MOST_PRECOMMITS, MOST_PROPOSALS, MOST_ROUNDS,
+    MOST_TAGS, MOST_TXS, MOST_VALIDATORS, MOST_VALUE_BYTES, MOST_WAITING, ROUNDS_AHEAD,
+};
 pub use records::{Act, OwnMessage, Record};
+pub use refusal::{JudgeFault, Refusal, SubmitFault};
 pub use types::{Stamp, Step, Timeout, ValueAt};
 
 /// Within a height a validator's own messages grow in round and step, over restarts too, and what it released is in

@@ -13,12 +13,9 @@ use crate::rule::Rule;
 use crate::seeking::{Sought, first_place};
 use crate::skipping::highest_weak;
 use messages::Step as VoteStep;
-use protocol::Step;
+use protocol::{MOST_HEIGHT, Step};
 use round_states::{KeptProposal, State};
 use transactions::Id;
-
-/// This many heights are decided: the last is one below it.
-const MOST_HEIGHT: u64 = 1 << 48;
 
 /// The first enabled rule, which holds: in the order of beginning, deciding, skipping rounds, prevoting,
 /// prevoting again, locking, precommitting nil and awaiting. Where there is none, no rule holds but a

@@ -6,8 +6,8 @@ ghost use Rattle.protocol.specs.State.{Context, TimedOut};
 ghost use Rattle.protocol.specs.Rules.{holds};
 ghost use Rattle.round_machine.specs.Timing.{IsRefusal};
 
-use protocol::{Step, Timeout};
-use round_states::{MOST_ROUNDS, Refusal, State};
+use protocol::{MOST_ROUNDS, Refusal, Step, Timeout};
+use round_states::State;
 
 /// Whether a timeout that is due may fire as [`Rule::TimedOut`](crate::Rule::TimedOut): it is of the
 /// present height and round, and of the present step or of precommits (lines 57, 61 and 65). One that

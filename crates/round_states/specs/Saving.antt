@@ -1,7 +1,10 @@
 -- What a firing makes of a journal.
 use Rattle.std.specs.Prelude.{◌≡◌, ℕ, Option, Some, None, Result, Ok, Err}
 use Rattle.protocol.specs.Messages.{Record, Own, Decided}
+use Rattle.protocol.specs.declared.refusal.Refusal.{Refusal as Answer}
+use Rattle.protocol.specs.declared.refusal.Refusal.TheVariants as answers
 use Rattle.round_states.specs.Pending.{Pending}
+use Rattle.round_states.specs.declared.saving.SaveFault.TheVariants as saves
 use Rattle.round_states.specs.declared.saving.SaveFault.{SaveFault}
 use Rattle.round_states.specs.declared.saving.Unfired.{Unfired}
 use Rattle.round_states.specs.declared.saving.Unfired.TheVariants.{OutOfMemory, NotSaved}
@@ -21,3 +24,9 @@ Unwritten saves (Some p) (NotSaved e) old new = saves old p (Err e) new
 abbrev pub IsOwnIn : ℕ → ℕ → Record → Type 0
 IsOwnIn height round (Own h r act) = (h ≡ height) × (r ≡ round)
 IsOwnIn height round (Decided b) = ⊥
+
+-- what a node answers for it
+abbrev pub of_unfired : Unfired → Answer
+of_unfired OutOfMemory = answers.OutOfMemory
+of_unfired (NotSaved saves.OutOfMemory) = answers.OutOfMemory
+of_unfired (NotSaved saves.Failed) = answers.JournalFailed

@@ -21,5 +21,4 @@ mod unsaved;
 pub use saving::{SaveFault, Saver, Unfired};
 pub use state::{KeptProposal, State};
 pub use steps::{Fired, Picked};
-pub use taking::{MOST_ROUNDS, Refusal};
 pub use unsaved::{Saved, Unsaved, release};

@@ -4,6 +4,7 @@ ghost use Rattle.std.specs.Prelude.{◌≡◌, Result as Answer};
 ghost use Rattle.round_states.specs.Pending.{Pending};
 
 use crate::unsaved::Unsaved;
+use protocol::Refusal;
 use std::alloc::{AllocError, AllocFailed};
 use thiserror::Error;
 
@@ -58,5 +59,20 @@ impl<T: Drop> From<AllocFailed<T>> for Unfired {
 
     fn from(_e: AllocFailed<T>) -> Unfired {
         Unfired::OutOfMemory
+    }
+}
+
+impl From<Unfired> for Refusal {
+    ghost use Rattle.round_states.specs.Saving.{of_unfired};
+
+    ghost from_gives = { λ cause e. e ≡ of_unfired cause };
+
+    fn from(cause: Unfired) -> Refusal {
+        match cause {
+            Unfired::OutOfMemory | Unfired::NotSaved(SaveFault::OutOfMemory) => {
+                Refusal::OutOfMemory
+            }
+            Unfired::NotSaved(SaveFault::Failed) => Refusal::JournalFailed,
+        }
     }
 }

@@ -12,92 +12,16 @@ ghost use Rattle.vote_tally.specs.declared.room.Ready.TheVariants as ready;
 ghost use Rattle.round_states.specs.Machine.{Agrees};
 ghost use Rattle.round_states.specs.Found.{IsFound};
 ghost use Rattle.round_states.specs.Places.{places_at, HasRoom};
-ghost use Rattle.round_states.specs.Taking.{IsTold, IsAnswer, with_proposal, place_answer, number_of};
+ghost use Rattle.round_states.specs.Taking.{IsTold, IsAnswer, with_proposal, place_answer};
 ghost use Rattle.round_states.specs.Steps.{at};
 
 use crate::places::{Places, add_place, make_room};
 use crate::state::{KeptProposal, State};
 use messages::{Precommit, Proposal, Step, Vote};
-use protocol::Stamp;
-use std::alloc::{AllocError, AllocFailed, Global};
+use protocol::{MOST_ROUNDS, ROUNDS_AHEAD, Refusal, Stamp};
+use std::alloc::{AllocError, Global};
 use transactions::{Duplicate, Id, Seq, value_id};
-use vote_tally::{Tally, TallyFault};
-
-/// The last round of a height, of which rounds are numbered from 0.
-pub const MOST_ROUNDS: u32 = 1_000_000;
-
-/// How many rounds a kept proposal may be ahead of the own one.
-const ROUNDS_AHEAD: u32 = 2;
-
-/// Why a message is not kept: the first cause in the order 7, 10, 11, 12, 9, 8. A number is the
-/// one that clients of the node see.
-#[derive(Clone, Copy, Debug, PartialEq, Eq, thiserror::Error)]
-pub enum Refusal {
-    /// It is not of the own height.
-    #[error("the message is of another height")]
-    OtherHeight = 7,
-    /// Its sender has 512 messages of this height, or two other proposals of this round.
-    #[error("too many messages of its sender are kept")]
-    VoterFull = 8,
-    /// The same message is kept.
-    #[error("the message is already kept")]
-    Repeat = 9,
-    /// Its round is above 1,000,000.
-    #[error("the round is above the last one")]
-    RoundLimit = 10,
-    /// A proposal of a round more than two above the own one.
-    #[error("the proposal is too many rounds ahead")]
-    RoundAhead = 11,
-    /// A proposal that is not from its round's proposer.
-    #[error("the proposal is not from the round's proposer")]
-    WrongProposer = 12,
-    /// A growth was refused memory. The same message may come again.
-    #[error("out of memory")]
-    OutOfMemory = 16,
-}
-
-impl Refusal {
-    /// The number of the refusal.
-    pub fn number(self) -> u8
-        ensures { result ≡ number_of self }
-    {
-        self as u8
-    }
-}
-
-impl From<AllocError> for Refusal {
-    ghost use Rattle.round_states.specs.declared.taking.Refusal.TheVariants.{OutOfMemory};
-
-    ghost from_gives = { λ _ e. e ≡ OutOfMemory };
-
-    fn from(_e: AllocError) -> Refusal {
-        Refusal::OutOfMemory
-    }
-}
-
-impl<T: Drop> From<AllocFailed<T>> for Refusal {
-    ghost use Rattle.round_states.specs.declared.taking.Refusal.TheVariants.{OutOfMemory};
-
-    ghost from_gives = { λ _ e. e ≡ OutOfMemory };
-
-    fn from(_e: AllocFailed<T>) -> Refusal {
-        Refusal::OutOfMemory
-    }
-}
-
-impl From<TallyFault> for Refusal {
-    ghost use Rattle.round_states.specs.Taking.{refusal_of_fault};
-
-    ghost from_gives = { λ fault e. e ≡ refusal_of_fault fault };
-
-    fn from(fault: TallyFault) -> Refusal {
-        match fault {
-            TallyFault::Repeat => Refusal::Repeat,
-            TallyFault::VoterFull => Refusal::VoterFull,
-            TallyFault::OutOfMemory => Refusal::OutOfMemory,
-        }
-    }
-}
+use vote_tally::Tally;
 
 impl State {
     /// The first cause against keeping a proposal, found before anything of it is hashed.

@@ -7,9 +7,9 @@ ghost use Rattle.round_machine.specs.Naming.{rule_of, pick_in, IsPlaced, Serves}
 
 use messages::{Body, Proposal, Step as VoteStep, Vote};
 use powers::Powers;
-use protocol::{Step, Timeout};
+use protocol::{Refusal, Step, Timeout};
 use round_machine::*;
-use round_states::{Fired, Picked, Refusal, SaveFault, Saver, State, Unfired, Unsaved, release};
+use round_states::{Fired, Picked, SaveFault, Saver, State, Unfired, Unsaved, release};
 use std::alloc::Global;
 use std::process::Abort;
 use std::test::Fail;

@@ -8,12 +8,10 @@ ghost use Rattle.schedule_text.specs.Names.{is_name};
 use crate::fault::LineFault;
 use crate::numbers::{list_in, number_in, number_in_u16};
 use crate::words::words_between;
+use protocol::MOST_DATA;
 use std::alloc::Global;
 use transactions::{Item, Op, Seq};
 use world_parties::{Parties, Tagged};
-
-/// The greatest number of bytes in an item.
-const MOST_BYTES: usize = 1024;
 
 /// The greatest number of letters in a name.
 const MOST_LETTERS: usize = 8;
@@ -112,7 +110,7 @@ fn item_of(alloc: Global, words: &[&[u8]]) -> Result<Item, LineFault> {
 
 /// The bytes that a client sends.
 pub(crate) fn sent_in(alloc: Global, word: &[u8]) -> Result<Op, LineFault> {
-    if word.len() > 2 * MOST_BYTES {
+    if word.len() > 2 * MOST_DATA {
         return Err(LineFault::BadLine);
     }
     Ok(Op::Bytes(bytes_in(alloc, word)?))

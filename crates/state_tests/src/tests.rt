@@ -6,8 +6,8 @@ ghost use Rattle.round_states.specs.Replaying.{HasProposedValue};
 
 use messages::{Body, Proposal, Step as VoteStep, Vote};
 use powers::Powers;
-use protocol::{Act, OwnMessage, Record, Step};
-use round_states::{Fired, Picked, Refusal, SaveFault, Saver, State, Unfired, Unsaved, release};
+use protocol::{Act, OwnMessage, Record, Refusal, Step};
+use round_states::{Fired, Picked, SaveFault, Saver, State, Unfired, Unsaved, release};
 use std::alloc::Global;
 use std::process::Abort;
 use std::test::Fail;
@@ -244,12 +244,6 @@ fn places_each(rt: &impl Abort, alloc: Global, state: &mut State) -> Result<(), 
 fn places_by_round(rt: HostRuntime) -> Result<(), Fail> {
     let mut state = state_of(rt.alloc(), 3)?;
     places_each(&rt, rt.alloc(), &mut state)
-}
-
-#[test]
-fn numbers_of_refusals(rt: HostRuntime) {
-    assert_eq!(rt; Refusal::OtherHeight.number(), 7);
-    assert_eq!(rt; Refusal::OutOfMemory.number(), 16);
 }
 
 /// The votes of validator 1 for nil that are refused, and those that are kept.

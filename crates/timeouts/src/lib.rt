@@ -12,13 +12,10 @@ ghost use Rattle.timeouts.specs.Waiting.{planned, lasting, due_of, placed, given
 ghost use Rattle.timeouts.specs.Laws.{AccountLaw};
 ghost use Rattle.timeouts.specs.Numbers.{number_of};
 
-use protocol::Timeout;
+use protocol::{MOST_MILLISECONDS, Timeout};
 use std::alloc::{AllocFailed, Global};
 use std::collections::VecDeque;
 use std::marker::Model;
-
-/// The greatest `start` and the greatest `delta`, in milliseconds: a day.
-pub const MOST_MILLISECONDS: u64 = 86_400_000;
 
 /// Why a plan is not made, or a timeout not scheduled.
 #[derive(Clone, Copy, Debug, PartialEq, Eq, thiserror::Error)]

@@ -15,6 +15,7 @@
 
 mod fault;
 pub mod fields;
+mod limits;
 mod named;
 mod reading;
 mod sequence;
@@ -22,6 +23,9 @@ mod tx;
 mod writing;
 
 pub use fault::Fault;
+pub use limits::{
+    LAST_CLIENT, LAST_NUMBER, LONGEST_TX_BODY, MOST_DATA, MOST_TAGS, MOST_TXS, MOST_VALUE_BYTES,
+};
 pub use named::Named;
 pub use reading::{read_tx, read_value, tags_of, tx_fields_of, value_front};
 pub use sequence::{Duplicate, Seq, Shared, copy_all};

@@ -13,6 +13,7 @@ ghost use Rattle.transactions.specs.Reading.{data_at, client_at, tx_number_at, o
 
 use crate::fault::Fault;
 use crate::fields::{array_at, mark_of, slice_at, u8_at, u16_at, u64_at};
+use crate::limits::{LAST_CLIENT, LAST_NUMBER, MOST_DATA, MOST_TAGS, MOST_TXS, MOST_VALUE_BYTES};
 use crate::sequence::{Seq, Shared};
 use crate::tx::{Op, Tx, Value};
 use std::alloc::Global;
@@ -23,7 +24,7 @@ fn data_of(alloc: Global, bytes: &[u8]) -> Result<(Seq<u8>, &[u8]), Fault>
     ensures told { Tells result (data_at bytes.now) }
 {
     let (len, rest) = u16_at(bytes)?;
-    if len > 1024 {
+    if usize::from(len) > MOST_DATA {
         return Err(Fault::TooLong);
     }
     let (contents, rest) = slice_at(rest, len as usize)?;
@@ -51,7 +52,7 @@ fn client_of(bytes: &[u8]) -> Result<(u16, &[u8]), Fault>
     ensures { result_map_both (λ x. (x.0, x.1.now)) (λ fault. fault) result ≡ client_at bytes.now }
 {
     let (client, rest) = u16_at(bytes)?;
-    if client > 1023 {
+    if client > LAST_CLIENT {
         return Err(Fault::BadSpelling);
     }
     Ok((client, rest))
@@ -62,7 +63,7 @@ fn number_of(bytes: &[u8]) -> Result<(u64, &[u8]), Fault>
     ensures { result_map_both (λ x. (x.0, x.1.now)) (λ fault. fault) result ≡ tx_number_at bytes.now }
 {
     let (number, rest) = u64_at(bytes)?;
-    if number == 0 || number > 0x1_0000_0000_0000 {
+    if number == 0 || number > LAST_NUMBER {
         return Err(Fault::BadSpelling);
     }
     Ok((number, rest))
@@ -110,7 +111,7 @@ fn tag_count_of(bytes: &[u8]) -> Result<(u8, &[u8]), Fault>
     ensures { result_map_both (λ x. (x.0, x.1.now)) (λ fault. fault) result ≡ tag_count_at bytes.now }
 {
     let (count, rest) = u8_at(bytes)?;
-    if count > 64 {
+    if usize::from(count) > MOST_TAGS {
         return Err(Fault::TooLong);
     }
     if count == 0 {
@@ -184,7 +185,7 @@ fn txs_of(alloc: Global, count: u16, len: usize, bytes: &[u8]) -> Result<(Vec<Tx
     let mut rest = bytes;
     for _ in 0..count {
         let (tx, after) = tx_front(alloc, rest)?;
-        if len.saturating_sub(after.len()) > 500_000 {
+        if len.saturating_sub(after.len()) > MOST_VALUE_BYTES {
             return Err(Fault::TooLong);
         }
         txs.push(tx)?;
@@ -206,7 +207,7 @@ pub fn value_front(alloc: Global, bytes: &[u8]) -> Result<(Value, &[u8]), Fault>
     ensures told { Tells result (limited 256 (number_at 2 bytes.now)) }
 {
     let (count, rest) = u16_at(bytes)?;
-    if 256 < count {
+    if MOST_TXS < usize::from(count) {
         return Err(Fault::TooLong);
     }
     let (txs, rest) = txs_of(alloc, count, bytes.len(), rest)?;

@@ -12,6 +12,7 @@ ghost use Rattle.transactions.specs.Fields.{Gives, number_bytes};
 ghost use Rattle.sha2.specs.Sha256.{sha256};
 
 use crate::fault::Fault;
+use crate::limits::{LAST_CLIENT, LAST_NUMBER, MOST_DATA, MOST_TAGS, MOST_TXS, MOST_VALUE_BYTES};
 use crate::sequence::Seq;
 use crate::tx::{Id, Op, Tx, Value};
 use byteorder::{BigEndian, ByteOrder};
@@ -26,7 +27,7 @@ fn len_of_op(op: &Op) -> Result<usize, Fault>
 {
     match op {
         Op::Bytes(contents) => {
-            if contents.len() > 1024 {
+            if contents.len() > MOST_DATA {
                 return Err(Fault::TooLong);
             }
             Ok(3 + contents.len())
@@ -45,10 +46,10 @@ pub fn len_of_tx_body(tx: &Tx) -> Result<usize, Fault>
     ensures fits { OnOk result (IsTxBody tx.now) }
     ensures small { IfOk result (λ n. n ≤ 1038) }
 {
-    if tx.client > 1023 {
+    if tx.client > LAST_CLIENT {
         return Err(Fault::BadSpelling);
     }
-    if tx.number == 0 || tx.number > 0x1_0000_0000_0000 {
+    if tx.number == 0 || tx.number > LAST_NUMBER {
         return Err(Fault::BadSpelling);
     }
     Ok(11 + len_of_op(&tx.op)?)
@@ -63,7 +64,7 @@ pub fn len_of_tags(tags: &[[u8; 32]]) -> Result<usize, Fault>
     ensures fits { OnOk result (AreTags tags.now) }
     ensures small { IfOk result (λ n. n ≤ 2049) }
 {
-    if tags.len() > 64 {
+    if tags.len() > MOST_TAGS {
         return Err(Fault::TooLong);
     }
     if tags.is_empty() {
@@ -91,7 +92,7 @@ fn len_of_txs(txs: &[Tx]) -> Result<usize, Fault>
     let mut total = 2usize;
     for tx in txs {
         let len = len_of_tx(tx)?;
-        if total + len > 500_000 {
+        if total + len > MOST_VALUE_BYTES {
             return Err(Fault::TooLong);
         }
         total += len;
@@ -109,7 +110,7 @@ pub fn len_of_value(value: &Value) -> Result<usize, Fault>
     ensures fits { OnOk result (IsValue value.now) }
     ensures small { IfOk result (λ n. n ≤ 500000) }
 {
-    if value.txs.len() > 256 {
+    if value.txs.len() > MOST_TXS {
         return Err(Fault::TooLong);
     }
     len_of_txs(value.txs.as_slice())

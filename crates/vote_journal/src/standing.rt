@@ -12,11 +12,8 @@ use crate::reading::read_record;
 use messages::Bundle;
 use powers::{MOST_VALIDATORS, Powers};
 use proposal_validity::Frontier;
-use protocol::{Act, OwnMessage, Record, Step};
+use protocol::{Act, MOST_HEIGHT, OwnMessage, Record, Step};
 use std::alloc::{AllocError, Global};
-
-/// This many heights are decided: the last is one below it.
-const MOST_HEIGHT: u64 = 1 << 48;
 
 /// The height after the last decision, the place of the last own message of that height, and what the decisions
 /// delivered.

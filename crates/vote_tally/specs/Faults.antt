@@ -3,6 +3,8 @@ use Rattle.std.specs.Prelude.{◌≡◌, ℕ, ◌||◌, ◌==◌, filter, Option
 use Rattle.std.specs.List.{list_any}
 use Rattle.protocol.specs.Messages.{Proposal, Vote, proposal_eq, vote_eq}
 use Rattle.protocol.specs.Refusals.{is_full, has_two}
+use Rattle.protocol.specs.declared.refusal.Refusal.{Refusal as Answer}
+use Rattle.protocol.specs.declared.refusal.Refusal.TheVariants as answers
 use Rattle.vote_tally.specs.Kept.{Kept}
 use Rattle.vote_tally.specs.declared.TallyFault.{TallyFault}
 use Rattle.vote_tally.specs.declared.TallyFault.TheVariants.{Repeat, VoterFull, OutOfMemory}
@@ -33,6 +35,12 @@ abbrev pub number_of : TallyFault → ℕ
 number_of Repeat = 1
 number_of VoterFull = 2
 number_of OutOfMemory = 3
+
+-- what a node answers for it
+abbrev pub of_tally : TallyFault → Answer
+of_tally Repeat = answers.Repeat
+of_tally VoterFull = answers.VoterFull
+of_tally OutOfMemory = answers.OutOfMemory
 
 -- ---- one sender's messages alone decide the answer to its next one
 

@@ -27,18 +27,13 @@ use counts::{Counts, count_one, none_counted};
 use heights::Heights;
 use messages::{Proposal, Step, Vote};
 use powers::{MOST_VALIDATORS, Powers};
+use protocol::{MOST_MESSAGES, Refusal};
 use room::Ready;
 use std::alloc::{AllocError, AllocFailed, Global};
 use std::collections::BTreeMap;
 use std::marker::Model;
 use totals::{Topic, Totals, total_at};
 use transactions::{Duplicate, Id};
-
-/// How many messages of one other validator are kept in a height: proposals and votes together.
-pub const MOST_MESSAGES: usize = 512;
-
-/// How many differing proposals of one round and sender are kept, also of the own number's.
-pub const MOST_PROPOSALS: usize = 2;
 
 /// Why a message is not kept: the first cause in the order of `Repeat`, `VoterFull`.
 #[derive(Clone, Copy, Debug, PartialEq, Eq, thiserror::Error)]
@@ -80,6 +75,20 @@ impl<T: Drop> From<AllocFailed<T>> for TallyFault {
 
     fn from(_e: AllocFailed<T>) -> TallyFault {
         TallyFault::OutOfMemory
+    }
+}
+
+impl From<TallyFault> for Refusal {
+    ghost use Rattle.vote_tally.specs.Faults.{of_tally};
+
+    ghost from_gives = { λ fault e. e ≡ of_tally fault };
+
+    fn from(fault: TallyFault) -> Refusal {
+        match fault {
+            TallyFault::Repeat => Refusal::Repeat,
+            TallyFault::VoterFull => Refusal::VoterFull,
+            TallyFault::OutOfMemory => Refusal::OutOfMemory,
+        }
     }
 }
 

@@ -7,8 +7,8 @@ ghost use Rattle.protocol.specs.Messages.{vote_eq, proposal_eq, step_of_vote};
 ghost use Rattle.protocol.specs.Refusals.{has_two};
 ghost use Rattle.protocol.specs.Tally.{senders, is_vote_for};
 
-use crate::MOST_PROPOSALS;
 use messages::{Proposal, Step, Vote, same_proposal, same_vote};
+use protocol::MOST_PROPOSALS;
 use transactions::Id;
 
 pub fn has_vote(votes: &[Vote], vote: &Vote) -> bool

@@ -9,11 +9,9 @@ use crate::fault::FaultNumber;
 use crate::keys::ring_of;
 use authenticators::KeyRing;
 use powers::{MOST_VALIDATORS, Powers};
+use protocol::MOST_CLIENTS;
 use std::alloc::{AllocError, Global};
 use std::marker::Model;
-
-/// The greatest number of clients.
-const MOST_CLIENTS: u16 = 1024;
 
 /// The validators of a world, with their powers, and its clients. Each validator is correct or a liar.
 #[derive(Drop)]

@@ -18,12 +18,11 @@ use crate::keys::tags_of;
 use crate::lines::{Bundling, Proposing, Tagged, Voting};
 use crate::parties::Parties;
 use authenticators::Party;
-use messages::{Body, Bundle, Message, Precommit, Proposal, Step, Vote, spell, spell_body};
+use messages::{
+    Body, Bundle, MOST_PRECOMMITS, Message, Precommit, Proposal, Step, Vote, spell, spell_body,
+};
 use std::alloc::{AllocError, Global};
 use transactions::{Duplicate, Id, Seq, Tx, Value, value_id};
-
-/// The greatest number of precommits in a bundle.
-const MOST_PRECOMMITS: usize = 64;
 
 impl Parties {
     /// The frame of a liar's proposal, with right tags for everyone.

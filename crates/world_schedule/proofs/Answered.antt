@@ -8,10 +8,11 @@ use Rattle.protocol.specs.Calls.{Halted, NoMemory, JournalFailed, call_number, t
 use Rattle.protocol.specs.World.{Cut, InFiring}
 use Rattle.protocol.specs.History.{Input, Settle, Given, Due, taken, after}
 use Rattle.node_core.specs.Core.{Core, setting_of}
-use Rattle.node_core.specs.Calls.{Answers, IsRefusal, TellsJournal, IsNotTaken, EachIsNamed, IsUnchanged, IsLeft, IsLeftBy, input_cut, next_cut}
-use Rattle.node_core.specs.Named.{numbers_of}
-use Rattle.node_core.specs.declared.refusal.Refusal.{Refusal as Answer}
-use Rattle.node_core.specs.declared.refusal.Refusal.TheVariants as answers
+use Rattle.protocol.specs.Answers.{Answers, IsRefusal}
+use Rattle.node_core.specs.Calls.{TellsJournal, IsNotTaken, EachIsNamed, IsUnchanged, IsLeft, IsLeftBy, input_cut, next_cut}
+use Rattle.protocol.specs.Answers.{numbers_of}
+use Rattle.protocol.specs.declared.refusal.Refusal.{Refusal as Answer}
+use Rattle.protocol.specs.declared.refusal.Refusal.TheVariants as answers
 use Rattle.world_schedule.specs.Calls.{Call, Handed, moved}
 use Rattle.world_schedule.specs.Seeing.{ActsAlike}
 use Rattle.world_schedule.specs.Cores.{StandsIn, IsCalledIn}

@@ -1,18 +1,13 @@
 -- What a core answers in its own setting, it answers in the world.
-use Rattle.std.proofs.Common.{◌≡◌, ℕ, ◌⊎◌, Bool, true, false, inl, inr, List, Option, Some, Result, Ok, Err, refl, sym, ap, ◌∙◌, subst}
+use Rattle.std.proofs.Common.{◌≡◌, ℕ, ◌⊎◌, Bool, true, false, inl, inr, List, Option, Some, None, Result, Ok, Err, refl, sym, ap, ◌∙◌, subst}
 use Rattle.protocol.specs.Tags.{Setting}
 use Rattle.protocol.specs.State.{State, Node}
 use Rattle.protocol.specs.Refusals.{Refusal, answer, refusal_number}
 use Rattle.protocol.specs.Calls.{call_answer, timeout_answer}
-use Rattle.mempool.specs.declared.fault.SubmitFault.{SubmitFault}
-use Rattle.mempool.specs.declared.fault.SubmitFault.TheVariants as submits
-use Rattle.height_catchup.specs.declared.judging.JudgeFault.{JudgeFault}
-use Rattle.height_catchup.specs.declared.judging.JudgeFault.TheVariants as judges
 use Rattle.node_core.specs.Core.{Core, setting_of}
-use Rattle.node_core.specs.Calls.{Answers, IsRefusal, IsSubmit, IsJudgement}
-use Rattle.node_core.specs.Named.{numbers_of, numbers_of_submit, numbers_of_judgement}
-use Rattle.node_core.specs.declared.refusal.Refusal.{Refusal as Answer}
-use Rattle.node_core.specs.declared.refusal.Refusal.TheVariants as answers
+use Rattle.protocol.specs.Answers.{Answers, IsCause, IsRefusal, cause_of, numbers_telling, numbers_of}
+use Rattle.protocol.specs.declared.refusal.Refusal.{Refusal as Answer}
+use Rattle.protocol.specs.declared.refusal.Refusal.TheVariants as answers
 use Rattle.world_schedule.specs.Cores.{StandsIn}
 use Rattle.world_schedule.specs.Handed.{told_numbers, call_numbers, IsTold, HandedLaw}
 use Rattle.world_schedule.proofs.Seeing.{seeing_law}
@@ -27,40 +22,27 @@ pub record HasNumbers (cause : Option Refusal) (numbers : ℕ × ℕ) : Type 0 w
 by_cause : {cause : Option Refusal} {first : Refusal} → cause ≡ Some first → HasNumbers cause (refusal_number first)
 by_cause {first = first} e = record { first = first; is = e; numbers_are = refl }
 
-submit_numbers : (cause : Option Refusal) (fault : SubmitFault) → IsSubmit cause fault → HasNumbers cause (numbers_of_submit fault)
-submit_numbers cause submits.UnknownClient e = by_cause e
-submit_numbers cause submits.BadTag e = by_cause e
-submit_numbers cause submits.OldNumber e = by_cause e
-submit_numbers cause submits.Gap e = by_cause e
-submit_numbers cause submits.Closed e = by_cause e
-submit_numbers cause submits.QueueFull e = by_cause e
-submit_numbers cause submits.TooLong e = by_cause e
-submit_numbers cause submits.OutOfMemory e = absurd e
-
-judge_numbers : (cause : Option Refusal) (fault : JudgeFault) → IsJudgement cause fault → HasNumbers cause (numbers_of_judgement fault)
-judge_numbers cause judges.NoQuorum e = by_cause e
-judge_numbers cause judges.WrongDigest e = by_cause e
-judge_numbers cause judges.BadTag e = by_cause e
-judge_numbers cause judges.NotValid e = by_cause e
-judge_numbers cause judges.OutOfMemory e = absurd e
+by_told : (cause told : Option Refusal) (r : Answer) → IsCause cause told → HasNumbers cause (numbers_telling told r)
+by_told cause None r e = absurd e
+by_told cause (Some first) r e = by_cause e
 
 pub refusal_numbers : (cause : Option Refusal) (r : Answer) → IsRefusal cause r → (r ≡ answers.OutOfMemory) ⊎ ((r ≡ answers.JournalFailed) ⊎ HasNumbers cause (numbers_of r))
-refusal_numbers cause answers.Truncated e = inr (inr (by_cause e))
-refusal_numbers cause answers.TooLong e = inr (inr (by_cause e))
-refusal_numbers cause answers.BadKind e = inr (inr (by_cause e))
-refusal_numbers cause answers.BadSpelling e = inr (inr (by_cause e))
-refusal_numbers cause answers.UnknownSender e = inr (inr (by_cause e))
-refusal_numbers cause answers.BadTag e = inr (inr (by_cause e))
-refusal_numbers cause answers.OtherHeight e = inr (inr (by_cause e))
-refusal_numbers cause answers.VoterFull e = inr (inr (by_cause e))
-refusal_numbers cause answers.Repeat e = inr (inr (by_cause e))
-refusal_numbers cause answers.RoundLimit e = inr (inr (by_cause e))
-refusal_numbers cause answers.RoundAhead e = inr (inr (by_cause e))
-refusal_numbers cause answers.WrongProposer e = inr (inr (by_cause e))
-refusal_numbers cause (answers.Submit fault) e = inr (inr (submit_numbers cause fault e))
-refusal_numbers cause (answers.Bundle fault) e = inr (inr (judge_numbers cause fault e))
+refusal_numbers cause answers.Truncated e = inr (inr (by_told cause (cause_of answers.Truncated) answers.Truncated e))
+refusal_numbers cause answers.TooLong e = inr (inr (by_told cause (cause_of answers.TooLong) answers.TooLong e))
+refusal_numbers cause answers.BadKind e = inr (inr (by_told cause (cause_of answers.BadKind) answers.BadKind e))
+refusal_numbers cause answers.BadSpelling e = inr (inr (by_told cause (cause_of answers.BadSpelling) answers.BadSpelling e))
+refusal_numbers cause answers.UnknownSender e = inr (inr (by_told cause (cause_of answers.UnknownSender) answers.UnknownSender e))
+refusal_numbers cause answers.BadTag e = inr (inr (by_told cause (cause_of answers.BadTag) answers.BadTag e))
+refusal_numbers cause answers.OtherHeight e = inr (inr (by_told cause (cause_of answers.OtherHeight) answers.OtherHeight e))
+refusal_numbers cause answers.VoterFull e = inr (inr (by_told cause (cause_of answers.VoterFull) answers.VoterFull e))
+refusal_numbers cause answers.Repeat e = inr (inr (by_told cause (cause_of answers.Repeat) answers.Repeat e))
+refusal_numbers cause answers.RoundLimit e = inr (inr (by_told cause (cause_of answers.RoundLimit) answers.RoundLimit e))
+refusal_numbers cause answers.RoundAhead e = inr (inr (by_told cause (cause_of answers.RoundAhead) answers.RoundAhead e))
+refusal_numbers cause answers.WrongProposer e = inr (inr (by_told cause (cause_of answers.WrongProposer) answers.WrongProposer e))
+refusal_numbers cause (answers.Submit fault) e = inr (inr (by_told cause (cause_of (answers.Submit fault)) (answers.Submit fault) e))
+refusal_numbers cause (answers.Bundle fault) e = inr (inr (by_told cause (cause_of (answers.Bundle fault)) (answers.Bundle fault) e))
+refusal_numbers cause answers.Halted e = inr (inr (by_told cause (cause_of answers.Halted) answers.Halted e))
 refusal_numbers cause answers.OutOfMemory e = inl refl
-refusal_numbers cause answers.Halted e = absurd e
 refusal_numbers cause answers.JournalFailed e = inr (inl refl)
 
 told : (halted : Bool) (cause : Option Refusal) (result : Result (Unit {0}) Answer) → Answers halted cause result → IsTold halted cause result

@@ -10,9 +10,10 @@ use Rattle.protocol.specs.History.{Input, Settle, after}
 use Rattle.protocol.specs.World.{Cut}
 use Rattle.protocol.specs.Calls.{Halted, JournalFailed, call_number}
 use Rattle.node_core.specs.Core.{Core, JournalSeen, frame_by}
-use Rattle.node_core.specs.Calls.{Answers, IsUnchanged, TellsJournal, IsLeftBy}
-use Rattle.node_core.specs.declared.refusal.Refusal.{Refusal as Answer}
-use Rattle.node_core.specs.declared.refusal.Refusal.TheVariants as answers
+use Rattle.protocol.specs.Answers.{Answers}
+use Rattle.node_core.specs.Calls.{IsUnchanged, TellsJournal, IsLeftBy}
+use Rattle.protocol.specs.declared.refusal.Refusal.{Refusal as Answer}
+use Rattle.protocol.specs.declared.refusal.Refusal.TheVariants as answers
 use Rattle.vote_journal.specs.Order.{AreLawful}
 use Rattle.world_schedule.specs.Health.{Health, Serving, Broken, Closed, HasHealth}
 use Rattle.world_schedule.specs.Calls.{Call, Handed, Asked, Resent, moved, bodies_by}

@@ -1,12 +1,12 @@
 -- Which answers tell that a node had halted, and that the device failed.
 use Rattle.std.proofs.Common.{◌≡◌, ◌≢◌, ◌⊎◌, inl, inr, Bool, true, false, Option, Result, Ok, Err, refl, ap, arith}
 use Rattle.protocol.specs.Refusals.{Refusal}
-use Rattle.mempool.specs.declared.fault.SubmitFault.TheVariants as submits
-use Rattle.height_catchup.specs.declared.judging.JudgeFault.TheVariants as judges
-use Rattle.node_core.specs.Calls.{Answers, IsRefusal}
-use Rattle.node_core.specs.Named.{numbers_of}
-use Rattle.node_core.specs.declared.refusal.Refusal.{Refusal as Node}
-use Rattle.node_core.specs.declared.refusal.Refusal.TheVariants as answers
+use Rattle.protocol.specs.declared.refusal.SubmitFault.TheVariants as submits
+use Rattle.protocol.specs.declared.refusal.JudgeFault.TheVariants as judges
+use Rattle.protocol.specs.Answers.{Answers, IsRefusal}
+use Rattle.protocol.specs.Answers.{numbers_of}
+use Rattle.protocol.specs.declared.refusal.Refusal.{Refusal as Node}
+use Rattle.protocol.specs.declared.refusal.Refusal.TheVariants as answers
 use Rattle.world_schedule.specs.Handed.{told_numbers}
 
 -- ---- a node that serves has not halted

@@ -8,9 +8,10 @@ use Rattle.protocol.specs.Calls.{Halted, NoMemory, JournalFailed, call_number, t
 use Rattle.protocol.specs.World.{Cut}
 use Rattle.protocol.specs.History.{Input, Settle, Given, Due, taken, after}
 use Rattle.node_core.specs.Core.{Core, setting_of}
-use Rattle.node_core.specs.Calls.{EachIsNamed, Answers, TellsJournal, IsUnchanged, IsDone, IsBroken, IsLeftBy}
-use Rattle.node_core.specs.declared.refusal.Refusal.{Refusal as Answer}
-use Rattle.node_core.specs.declared.refusal.Refusal.TheVariants as answers
+use Rattle.node_core.specs.Calls.{EachIsNamed, TellsJournal, IsUnchanged, IsDone, IsBroken, IsLeftBy}
+use Rattle.protocol.specs.Answers.{Answers}
+use Rattle.protocol.specs.declared.refusal.Refusal.{Refusal as Answer}
+use Rattle.protocol.specs.declared.refusal.Refusal.TheVariants as answers
 use Rattle.world_schedule.specs.Calls.{Call, Handed, moved, bodies_by, timeouts_by}
 use Rattle.world_schedule.specs.Health.{IsCut}
 use Rattle.world_schedule.specs.Cores.{StandsIn, frame_in}

@@ -6,10 +6,10 @@ use Rattle.protocol.specs.State.{Node}
 use Rattle.protocol.specs.Refusals.{Refusal, answer}
 use Rattle.protocol.specs.Calls.{CallRefusal, call_number, call_answer, timeout_answer}
 use Rattle.node_core.specs.Core.{Core, setting_of}
-use Rattle.node_core.specs.Calls.{Answers}
-use Rattle.node_core.specs.Named.{numbers_of}
-use Rattle.node_core.specs.declared.refusal.Refusal.{Refusal as Answer}
-use Rattle.node_core.specs.declared.refusal.Refusal.TheVariants.{OutOfMemory, JournalFailed}
+use Rattle.protocol.specs.Answers.{Answers}
+use Rattle.protocol.specs.Answers.{numbers_of}
+use Rattle.protocol.specs.declared.refusal.Refusal.{Refusal as Answer}
+use Rattle.protocol.specs.declared.refusal.Refusal.TheVariants.{OutOfMemory, JournalFailed}
 use Rattle.world_schedule.specs.Cores.{StandsIn}
 
 -- the numbers of a call's answer, and of what is told where memory and the store serve: 0 where all went well

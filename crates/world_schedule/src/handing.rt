@@ -11,8 +11,8 @@ ghost use Rattle.world_schedule.specs.Making.{Hands, IsMetBy};
 ghost use Rattle.world_schedule.specs.Cores.{StandsIn};
 ghost use Rattle.world_schedule.specs.Handed.{told_numbers};
 
-use node_core::{NodeCore, Refusal};
-use protocol::Timeout;
+use node_core::NodeCore;
+use protocol::{Refusal, Timeout};
 use vote_journal::Store;
 
 /// Hands one whole frame to a core: in every world that the core is of, the call is one of it.

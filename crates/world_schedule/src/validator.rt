@@ -18,8 +18,8 @@ use crate::chronicle::Chronicle;
 use crate::handing::{hand_frame, hand_timeout, settle};
 use crate::report::{Answer, What};
 use messages::Bundle;
-use node_core::{NodeCore, Refusal};
-use protocol::Timeout;
+use node_core::NodeCore;
+use protocol::{Refusal, Timeout};
 use vote_journal::{Strikes, StrikingStore};
 use world_parties::FaultNumber;
 

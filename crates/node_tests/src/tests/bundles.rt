@@ -2,9 +2,8 @@
 
 use super::{Answer, Node, on_node, vote};
 use authenticators::hmac;
-use height_catchup::JudgeFault;
 use messages::{Ask, Body, Bundle, Precommit, Step, frame_of, spell_body};
-use node_core::Refusal;
+use protocol::{JudgeFault, Refusal};
 use std::alloc::Global;
 use std::process::Abort;
 use std::test::Fail;

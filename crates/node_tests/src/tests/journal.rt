@@ -2,7 +2,7 @@
 
 use super::{Node, vote};
 use messages::Step as VoteStep;
-use node_core::Refusal;
+use protocol::Refusal;
 use std::alloc::Global;
 use std::process::Abort;
 use std::test::Fail;

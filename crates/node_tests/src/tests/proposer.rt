@@ -1,7 +1,8 @@
 //! Validator 0 of two of equal power, neither of which is a quorum, proposes first.
 
 use super::{journal_of, powers_of, ring_of};
-use node_core::{Config, NodeCore, Refusal};
+use node_core::{Config, NodeCore};
+use protocol::Refusal;
 use std::process::Abort;
 use std::test::Fail;
 use vote_journal::MemoryStore;

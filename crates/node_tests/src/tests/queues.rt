@@ -1,9 +1,8 @@
 //! Transactions that come to a validator.
 
 use super::{Answer, Node};
-use mempool::SubmitFault;
 use messages::Body;
-use node_core::Refusal;
+use protocol::{Refusal, SubmitFault};
 use std::process::Abort;
 use std::test::Fail;
 use transactions::{Op, Seq, Tx};

@@ -2,7 +2,7 @@
 
 use super::{Answer, Node, on_node, vote};
 use messages::Step;
-use node_core::Refusal;
+use protocol::Refusal;
 use std::process::Abort;
 use std::test::Fail;
 use transactions::Id;

@@ -2,7 +2,7 @@
 
 use super::{Node, on_node, vote};
 use messages::{FrameReader, Step as VoteStep};
-use node_core::Refusal;
+use protocol::Refusal;
 use std::process::Abort;
 use std::test::Fail;
 

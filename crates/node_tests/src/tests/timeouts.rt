@@ -1,8 +1,7 @@
 //! Timeouts that come due.
 
 use super::{Answer, Node, on_node};
-use node_core::Refusal;
-use protocol::{Step, Timeout};
+use protocol::{Refusal, Step, Timeout};
 use std::process::Abort;
 use std::test::Fail;
 

@@ -5,10 +5,11 @@ ghost use Rattle.std.specs.Prelude.{◌≡◌, ◌+◌, length, IfOk};
 ghost use Rattle.transactions.specs.Grammar.{IsValue};
 
 use authenticators::{KeyRing, Party, hmac};
-use height_catchup::{Decisions, JudgeFault, certified, judge};
+use height_catchup::{Decisions, certified, judge};
 use messages::{Body, Bundle, Precommit, Step, Vote, spell_body};
 use powers::Powers;
 use proposal_validity::Frontier;
+use protocol::JudgeFault;
 use std::alloc::{AllocError, Global};
 use std::process::Abort;
 use std::test::Fail;

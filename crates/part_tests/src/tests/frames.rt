@@ -4,8 +4,9 @@ ghost use Rattle.std.specs.Prelude.{◌≡◌};
 ghost use Rattle.protocol.specs.Messages.{sender_of};
 
 use authenticators::{KeyRing, Party, hmac};
-use frame_admission::{Inadmissible, admit, frame_for, is_genuine, own_tags};
+use frame_admission::{admit, frame_for, is_genuine, own_tags};
 use messages::{Body, frame_of, read_body, spell_body};
+use protocol::Refusal;
 use std::alloc::{AllocError, Global};
 use std::process::Abort;
 use std::test::Fail;
@@ -200,18 +201,12 @@ fn tags_of_own_precommits(rt: HostRuntime) -> Result<(), Fail> {
 }
 
 /// Why the frame isn't admitted.
-fn cause_of(alloc: Global, ring: &KeyRing, frame: &[u8]) -> Option<Inadmissible> {
+fn cause_of(alloc: Global, ring: &KeyRing, frame: &[u8]) -> Option<Refusal> {
     admit(alloc, ring, frame).err()
 }
 
 /// The frame is refused for this cause.
-fn assert_refused(
-    rt: &impl Abort,
-    alloc: Global,
-    ring: &KeyRing,
-    frame: &[u8],
-    cause: Inadmissible,
-) {
+fn assert_refused(rt: &impl Abort, alloc: Global, ring: &KeyRing, frame: &[u8], cause: Refusal) {
     assert_eq!(rt; cause_of(alloc, ring, frame), Some(cause), "{frame:?}");
 }
 
@@ -222,7 +217,7 @@ fn refuses(
     ring: &KeyRing,
     body: &[u8],
     tags: &[[u8; 32]],
-    cause: Inadmissible,
+    cause: Refusal,
 ) -> Result<(), Fail> {
     assert!(rt; body.len() < 100 && tags.len() < 64);
     let frame = frame_of(alloc, body, tags)?;
@@ -236,7 +231,7 @@ fn refuses_other(
     alloc: Global,
     ring: &KeyRing,
     last: u8,
-    cause: Inadmissible,
+    cause: Refusal,
 ) -> Result<(), Fail> {
     let mut other = PREVOTE;
     other[14] = 2;
@@ -251,7 +246,7 @@ fn refuses_tags(
     ring: &KeyRing,
     tags: &[[u8; 32]],
 ) -> Result<(), Fail> {
-    refuses(rt, alloc, ring, &PREVOTE, tags, Inadmissible::BadTag)
+    refuses(rt, alloc, ring, &PREVOTE, tags, Refusal::BadTag)
 }
 
 // Each frame has the later faults too, as far as they can stand beside the first.
@@ -259,23 +254,11 @@ fn refuses_tags(
 fn first_cause_is_told(rt: HostRuntime) -> Result<(), Fail> {
     let alloc = rt.alloc();
     by_first(alloc, |ring| {
-        assert_refused(
-            &rt,
-            alloc,
-            ring,
-            &[0, 0, 0, 2, 0x7f],
-            Inadmissible::Truncated,
-        );
-        assert_refused(
-            &rt,
-            alloc,
-            ring,
-            &[0, 0x10, 0, 1, 0x7f],
-            Inadmissible::TooLong,
-        );
-        assert_refused(&rt, alloc, ring, &[0, 0, 0, 1, 0x7f], Inadmissible::BadKind);
-        refuses_other(&rt, alloc, ring, 0, Inadmissible::UnknownSender)?;
-        refuses_other(&rt, alloc, ring, 2, Inadmissible::BadSpelling)
+        assert_refused(&rt, alloc, ring, &[0, 0, 0, 2, 0x7f], Refusal::Truncated);
+        assert_refused(&rt, alloc, ring, &[0, 0x10, 0, 1, 0x7f], Refusal::TooLong);
+        assert_refused(&rt, alloc, ring, &[0, 0, 0, 1, 0x7f], Refusal::BadKind);
+        refuses_other(&rt, alloc, ring, 0, Refusal::UnknownSender)?;
+        refuses_other(&rt, alloc, ring, 2, Refusal::BadSpelling)
     })
 }
 
@@ -362,36 +345,4 @@ fn every_tag_of_a_value(rt: HostRuntime) -> Result<(), Fail> {
     assert!(rt; !genuine_with(rt.alloc(), 7, &[own, own, own])?);
     assert!(rt; !genuine_with(rt.alloc(), 8, &[other, own])?);
     Ok(())
-}
-
-/// Each cause has its number.
-fn assert_numbered(rt: &impl Abort, causes: &[(Inadmissible, u8)]) {
-    for (cause, number) in causes {
-        assert!(rt; *cause as u8 == *number, "{number}");
-    }
-}
-
-/// Whether the cause is shown as this text.
-fn is_shown(alloc: Global, cause: Inadmissible, text: &str) -> Result<bool, AllocError> {
-    Ok(cause.to_string(alloc)?.as_str() == text)
-}
-
-#[test]
-fn causes_are_numbered(rt: HostRuntime) {
-    let causes = &[
-        (Inadmissible::Truncated, 1),
-        (Inadmissible::TooLong, 2),
-        (Inadmissible::BadKind, 3),
-        (Inadmissible::BadSpelling, 4),
-        (Inadmissible::UnknownSender, 5),
-        (Inadmissible::BadTag, 6),
-        (Inadmissible::OutOfMemory, 16),
-    ];
-    assert_numbered(&rt, causes);
-    let shown = is_shown(
-        rt.alloc(),
-        Inadmissible::BadTag,
-        "a tag of the frame is wrong",
-    );
-    assert!(rt; shown == Ok(true));
 }

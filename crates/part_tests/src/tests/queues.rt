@@ -1,8 +1,9 @@
 //! Clients 1 to 9 send transactions to the first of some validators.
 
 use authenticators::{KeyRing, Party, hmac};
-use mempool::{Mempool, SubmitFault};
+use mempool::Mempool;
 use proposal_validity::Frontier;
+use protocol::SubmitFault;
 use std::alloc::{AllocError, Global};
 use std::fmt::Write;
 use std::process::Abort;
@@ -451,44 +452,6 @@ fn most_transactions(rt: HostRuntime) -> Result<(), Fail> {
 #[test]
 fn most_bytes(rt: HostRuntime) -> Result<(), Fail> {
     assert_value(&rt, rt.alloc(), 64, 1024, 161, 497_009)
-}
-
-/// Whether the fault has this number and this text.
-fn is_told(alloc: Global, fault: SubmitFault, number: u8, text: &str) -> Result<bool, AllocError> {
-    Ok(fault as u8 == number && fault.to_string(alloc)?.as_str() == text)
-}
-
-/// Each fault has its number and its text.
-fn assert_told(rt: &impl Abort, alloc: Global, told: &[(SubmitFault, u8, &str)]) {
-    for (fault, number, text) in told {
-        assert!(rt;
-            is_told(alloc, *fault, *number, text) == Ok(true),
-            "fault {number}"
-        );
-    }
-}
-
-#[test]
-fn faults_are_numbered_and_shown(rt: HostRuntime) {
-    let told = &[
-        (SubmitFault::UnknownClient, 1, "the client is unknown"),
-        (SubmitFault::BadTag, 2, "a tag is wrong"),
-        (
-            SubmitFault::OldNumber,
-            3,
-            "the number is delivered or queued",
-        ),
-        (SubmitFault::Gap, 4, "a number before it is missing"),
-        (SubmitFault::Closed, 5, "the client has closed"),
-        (
-            SubmitFault::QueueFull,
-            6,
-            "too many transactions of the client are waiting",
-        ),
-        (SubmitFault::TooLong, 7, "the transaction is too long"),
-        (SubmitFault::OutOfMemory, 8, "out of memory"),
-    ];
-    assert_told(&rt, rt.alloc(), told);
 }
 
 /// Transaction 1 of client 7 waits, and 2 doesn't.

@@ -6,7 +6,7 @@ ghost use Rattle.protocol.specs.Restart.{restart};
 
 use super::*;
 use messages::Bundle;
-use round_states::MOST_ROUNDS;
+use protocol::MOST_ROUNDS;
 
 fn propose(rt: &impl Abort, validator: &mut Validator) -> Result<(), Fail> {
     let mut bodies = Vec::new(validator.alloc);

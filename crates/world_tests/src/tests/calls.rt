@@ -4,9 +4,9 @@ ghost use Rattle.std.specs.Prelude.{◌≡◌, IfOk, length};
 ghost use Rattle.protocol.specs.Tags.{Validator};
 
 use authenticators::{KeyRing, Party};
-use node_core::{Config, NodeCore, Refusal};
+use node_core::{Config, NodeCore};
 use powers::Powers;
-use protocol::{Step, Timeout};
+use protocol::{Refusal, Step, Timeout};
 use std::alloc::{AllocError, Global};
 use std::process::Abort;
 use std::test::Fail;

@@ -2,7 +2,7 @@ use Rattle.std.proofs.Common.{◌≡◌, inl, inr, List, [], ◌∷◌, ◌++◌
 use Rattle.std.proofs.lemmas.List.{append_assoc, map_push, length-map, length_push}
 use Rattle.protocol.specs.Values.{Tx}
 use Rattle.mempool.proofs.Sizes.{size_none, size_more, Fits, fitting_is}
-use Rattle.mempool.proofs.picking.picked.Goals.{in-None, in-Some+then-len-eq-MOST_TXS, then-len-eq-MOST_TXS-via-then-len-eq-MOST_TXS, then-len-eq-MOST_TXS-via-else-len-eq-MOST_TXS+then-len-gt-MOST_BYTES}
+use Rattle.mempool.proofs.picking.picked.Goals.{in-None, in-Some+then-len-eq-MOST_TXS, then-len-eq-MOST_TXS-via-then-len-eq-MOST_TXS, then-len-eq-MOST_TXS-via-else-len-eq-MOST_TXS+then-len-gt-MOST_VALUE_BYTES}
 use Rattle.mempool.proofs.picking.picked.Goals as goal
 
 abbrev taken : List (Bor Tx) → List Tx
@@ -34,6 +34,6 @@ returns c =
       | in-None w ↦ fitting_is c.args.turns (taken c.loop-tx.txs.items) c.loop-tx.tx-iterator c.loop-tx.invariant.all fits (inr (rw w.in-None.ensures.steps.0 tt))
       | in-Some+then-len-eq-MOST_TXS w ↦ fitting_is c.args.turns (taken c.loop-tx.txs.items) c.loop-tx.tx-iterator c.loop-tx.invariant.all fits (elim w.then-len-eq-MOST_TXS.branch [
         | then-len-eq-MOST_TXS-via-then-len-eq-MOST_TXS v ↦ inl (omega (arith, length-map c.loop-tx.txs.items (λ (t : Bor Tx). t.now)))
-        | then-len-eq-MOST_TXS-via-else-len-eq-MOST_TXS+then-len-gt-MOST_BYTES v ↦ inr (rw w.in-Some.ensures.steps (omega (arith, size_more (taken c.loop-tx.txs.items) w.in-Some.tx.now, c.loop-tx.invariant.len)))
+        | then-len-eq-MOST_TXS-via-else-len-eq-MOST_TXS+then-len-gt-MOST_VALUE_BYTES v ↦ inr (rw w.in-Some.ensures.steps (omega (arith, size_more (taken c.loop-tx.txs.items) w.in-Some.tx.now, c.loop-tx.invariant.len)))
       ])
     ]

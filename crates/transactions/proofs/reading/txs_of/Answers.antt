@@ -11,8 +11,8 @@ returns-in_err-tx c =
     let p = err_from_is_err_and c.from_residual.result c.from_residual.ensures.1 in
     rw (p.1, p.2) (ends tx_at (is_within c.args.len) c.in_err-tx.field-0.0 c.loop.txs.items c.args.count c.loop.counter c.loop.rest.now (repeat tx_at (is_within c.args.len) c.args.count c.args.bytes.now) c.loop-test.true c.in_err-tx.ensures.exact c.loop.invariant)
 
-pub returns-then-saturating_sub-gt500000 : goal.returns-then-saturating_sub-gt500000
-returns-then-saturating_sub-gt500000 c =
+pub returns-then-saturating_sub-gt-MOST_VALUE_BYTES : goal.returns-then-saturating_sub-gt-MOST_VALUE_BYTES
+returns-then-saturating_sub-gt-MOST_VALUE_BYTES c =
     let passes : is_within c.args.len c.in_ok-tx.after.now ≡ false = lt-leb _ _ (omega arith) in
     too_long tx_at (is_within c.args.len) c.loop.txs.items c.args.count c.loop.counter c.loop.rest.now c.in_ok-tx.tx c.in_ok-tx.after.now (repeat tx_at (is_within c.args.len) c.args.count c.args.bytes.now) c.loop-test.true c.in_ok-tx.ensures.exact passes c.loop.invariant
 

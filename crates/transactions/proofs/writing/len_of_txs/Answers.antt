@@ -12,8 +12,8 @@ returns-in_err-len-clause-len c =
     let p = err_from_is_err_and c.from_residual.result c.from_residual.ensures.1 in
     rw (p.1, p.2) (txs_fail c.loop-tx.total c.loop-tx.tx-index c.args.txs.now c.tx-item.result (txs_len 2 c.args.txs.now) c.loop-tx-test.true c.tx-item.is c.loop-tx.invariant.rest c.in_err-len.field-0.0 c.in_err-len.ensures.len)
 
-pub returns-then-total-len-gt500000-clause-len : goal.returns-then-total-len-gt500000-clause-len
-returns-then-total-len-gt500000-clause-len c = txs_long c.loop-tx.total c.loop-tx.tx-index c.args.txs.now c.tx-item.result (txs_len 2 c.args.txs.now) c.loop-tx-test.true c.tx-item.is c.loop-tx.invariant.rest c.in_ok-len.len c.in_ok-len.ensures.len (omega arith)
+pub returns-then-total-len-gt-MOST_VALUE_BYTES-clause-len : goal.returns-then-total-len-gt-MOST_VALUE_BYTES-clause-len
+returns-then-total-len-gt-MOST_VALUE_BYTES-clause-len c = txs_long c.loop-tx.total c.loop-tx.tx-index c.args.txs.now c.tx-item.result (txs_len 2 c.args.txs.now) c.loop-tx-test.true c.tx-item.is c.loop-tx.invariant.rest c.in_ok-len.len c.in_ok-len.ensures.len (omega arith)
 
 pub loop-tx-preserved : goal.loop-tx-preserved
 loop-tx-preserved c = record {

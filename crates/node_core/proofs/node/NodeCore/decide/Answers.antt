@@ -19,8 +19,8 @@ use Rattle.round_states.specs.Saving.{Wrote}
 use Rattle.node_core.proofs.Spelled.{bundle_decided}
 use Rattle.node_core.proofs.node.NodeCore.decide.Given as given
 use Rattle.round_states.specs.Saving.{Unwritten}
-use Rattle.node_core.specs.declared.refusal.Refusal.TheVariants as answers
-use Rattle.node_core.specs.Named.{of_unfired}
+use Rattle.protocol.specs.declared.refusal.Refusal.TheVariants as answers
+use Rattle.round_states.specs.Saving.{of_unfired}
 use Rattle.node_core.proofs.Broken.{unfired_broken, bundle_broken}
 use Rattle.node_core.proofs.node.NodeCore.decide.Goals as goal
 

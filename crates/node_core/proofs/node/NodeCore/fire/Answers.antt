@@ -21,8 +21,8 @@ use Rattle.node_core.proofs.Unsaid.{unfired_tells, unfired_core, unfired_sound}
 use Rattle.node_core.proofs.Firings.{IsFiredTo, MayFire, fired_to, fired_once, fired_sound, written_serves, pending_decided, decided_in}
 use Rattle.node_core.proofs.node.NodeCore.fire.Given as given
 use Rattle.round_states.specs.Saving.{Unwritten}
-use Rattle.node_core.specs.declared.refusal.Refusal.TheVariants as answers
-use Rattle.node_core.specs.Named.{of_unfired}
+use Rattle.protocol.specs.declared.refusal.Refusal.TheVariants as answers
+use Rattle.round_states.specs.Saving.{of_unfired}
 use Rattle.node_core.proofs.Broken.{unfired_broken, rule_broken}
 use Rattle.node_core.proofs.node.NodeCore.fire.Goals as goal
 

@@ -9,7 +9,7 @@ use Rattle.node_core.specs.Seen.{seen}
 use Rattle.node_core.specs.Calls.{HasFiredOnce, Serves}
 use Rattle.node_core.proofs.Stepwise.{none_fired, fired_more, once_counted, run_counted}
 use Rattle.node_core.proofs.Telling.{serves_itself, both_serve, tells_from, run_unfired, unfired_by}
-use Rattle.node_core.specs.declared.refusal.Refusal.TheVariants as answers
+use Rattle.protocol.specs.declared.refusal.Refusal.TheVariants as answers
 use Rattle.node_core.specs.Calls.{IsUnfired, TellsJournal}
 use Rattle.node_core.proofs.Broken.{cut_off, cut_counted}
 use Rattle.node_core.proofs.node.NodeCore.fire_all.Goals as goal

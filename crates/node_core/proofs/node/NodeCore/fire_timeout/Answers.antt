@@ -7,13 +7,12 @@ use Rattle.protocol.proofs.Timeouts.{timeout_law}
 use Rattle.round_machine.specs.Timing.{IsRefusal as IsTimeoutRefusal}
 use Rattle.protocol.specs.History.{Due}
 use Rattle.node_core.specs.Core.{Core, Stands, context_of, setting_of}
-use Rattle.node_core.proofs.Due.{due_passed, some_refused, timeout_refused}
-use Rattle.node_core.specs.Named.{of_unkept}
+use Rattle.node_core.proofs.Due.{due_passed, some_refused, timeout_refused, timeout_other}
 use Rattle.node_core.proofs.Stepwise.{none_fired, called, stands_counted, taken_counted}
-use Rattle.node_core.proofs.Telling.{tells_itself, tells_from, unkept_other}
+use Rattle.node_core.proofs.Telling.{tells_itself, tells_from}
 use Rattle.node_core.proofs.Called.{halted_answers, halted_done, halted_tells, running_answers, run_answer, tells_begun, run_begun, run_left, unfired_refusal, unfired_done, unfired_left}
 use Rattle.node_core.proofs.Broken.{input_broken, run_broken}
-use Rattle.node_core.specs.declared.refusal.Refusal.TheVariants as answers
+use Rattle.protocol.specs.declared.refusal.Refusal.TheVariants as answers
 use Rattle.node_core.specs.Calls.{IsUnfired}
 use Rattle.node_core.proofs.node.NodeCore.fire_timeout.Goals as goal
 
@@ -37,9 +36,10 @@ returns-in_err-begin-clause-journal g c =
 pub returns-in-Some-clause-answer : goal.returns-in-Some-clause-answer
 returns-in-Some-clause-answer g c =
     let old : Core = c.args.self.now in
-    let told = subst (λ (x : Core). IsTimeoutRefusal (timeout_answer x.machine.state c.args.timeout) c.timeout_refusal.result) (c.self.view_is ∙ c.in_ok-begin.ensures.new) c.timeout_refusal.ensures in
-    let some = subst (λ o. IsTimeoutRefusal (timeout_answer old.machine.state c.args.timeout) o) c.in-Some.is told in
-    rw c.into.ensures (running_answers old.journal.failed (timeout_answer old.machine.state c.args.timeout) (Err (of_unkept c.in-Some.refusal)) c.in_ok-begin.ensures.running (timeout_refused _ c.in-Some.refusal some))
+    let t = c.args.timeout in
+    let told = subst (λ (x : Core). IsTimeoutRefusal (timeout_answer x.machine.state t) c.timeout_refusal.result) (c.self.view_is ∙ c.in_ok-begin.ensures.new) c.timeout_refusal.ensures in
+    let some = subst (λ o. IsTimeoutRefusal (timeout_answer old.machine.state t) o) c.in-Some.is told in
+    running_answers old.journal.failed (timeout_answer old.machine.state t) (Err c.in-Some.refusal) c.in_ok-begin.ensures.running (timeout_refused _ c.in-Some.refusal some)
 
 pub returns-in-Some-clause-done : goal.returns-in-Some-clause-done
 returns-in-Some-clause-done g c =
@@ -56,14 +56,21 @@ returns-in-Some-clause-done g c =
 
 pub returns-in-Some-clause-journal : goal.returns-in-Some-clause-journal
 returns-in-Some-clause-journal g c =
-    rw c.into.ensures (tells_begun (Err (of_unkept c.in-Some.refusal)) c.args.self.now c.begin.new.self c.begin.new.self c.in_ok-begin.ensures.new (tells_itself (of_unkept c.in-Some.refusal) c.begin.new.self.journal (unkept_other c.in-Some.refusal)))
+    let old : Core = c.args.self.now in
+    let t = c.args.timeout in
+    let told = subst (λ (x : Core). IsTimeoutRefusal (timeout_answer x.machine.state t) c.timeout_refusal.result) (c.self.view_is ∙ c.in_ok-begin.ensures.new) c.timeout_refusal.ensures in
+    let some = subst (λ o. IsTimeoutRefusal (timeout_answer old.machine.state t) o) c.in-Some.is told in
+    tells_begun (Err c.in-Some.refusal) old c.begin.new.self c.begin.new.self c.in_ok-begin.ensures.new (tells_itself c.in-Some.refusal c.begin.new.self.journal (timeout_other _ c.in-Some.refusal some))
 
 -- ---- its rule does not fire
 
 pub returns-in_err-fire_due-clause-answer : goal.returns-in_err-fire_due-clause-answer
 returns-in_err-fire_due-clause-answer g c =
     let p = err_from_is_err_and c.from_residual-in_err-fire_due.result c.from_residual-in_err-fire_due.ensures.1 in
-    rw (p.1, p.2) (running_answers c.args.self.now.journal.failed _ (Err c.in_err-fire_due.field-0.0) c.in_ok-begin.ensures.running (unfired_refusal _ c.in_err-fire_due.field-0.0 c.begin.new.self c.fire_due.new.self c.in_err-fire_due.ensures.err))
+    let old : Core = c.args.self.now in
+    let told = subst (λ (x : Core). IsTimeoutRefusal (timeout_answer x.machine.state c.args.timeout) c.timeout_refusal.result) (c.self.view_is ∙ c.in_ok-begin.ensures.new) c.timeout_refusal.ensures in
+    let none = subst (λ o. IsTimeoutRefusal (timeout_answer old.machine.state c.args.timeout) o) c.in_default.is told in
+    rw (p.1, p.2) (running_answers c.args.self.now.journal.failed _ (Err c.in_err-fire_due.field-0.0) c.in_ok-begin.ensures.running (unfired_refusal _ c.in_err-fire_due.field-0.0 c.begin.new.self c.fire_due.new.self none c.in_err-fire_due.ensures.err))
 
 pub returns-in_err-fire_due-clause-done : goal.returns-in_err-fire_due-clause-done
 returns-in_err-fire_due-clause-done g c =
@@ -113,7 +120,12 @@ returns-in_err-begin-clause-broken g c =
     rw (p.1, p.2) (λ is. absurd (let e : answers.Halted ≡ answers.JournalFailed = cc in cc))
 
 pub returns-in-Some-clause-broken : goal.returns-in-Some-clause-broken
-returns-in-Some-clause-broken g c = rw c.into.ensures (λ is. absurd (unkept_other c.in-Some.refusal cc))
+returns-in-Some-clause-broken g c =
+    let old : Core = c.args.self.now in
+    let t = c.args.timeout in
+    let told = subst (λ (x : Core). IsTimeoutRefusal (timeout_answer x.machine.state t) c.timeout_refusal.result) (c.self.view_is ∙ c.in_ok-begin.ensures.new) c.timeout_refusal.ensures in
+    let some = subst (λ o. IsTimeoutRefusal (timeout_answer old.machine.state t) o) c.in-Some.is told in
+    λ is. absurd (timeout_other _ c.in-Some.refusal some cc)
 
 pub returns-in_err-fire_due-clause-broken : goal.returns-in_err-fire_due-clause-broken
 returns-in_err-fire_due-clause-broken g c =

@@ -1,4 +1,4 @@
-use Rattle.std.proofs.Common.{◌≡◌, ℕ, List, Option, None, Result, Ok, Err, inl, sym, ap, subst, ◌∙◌}
+use Rattle.std.proofs.Common.{◌≡◌, ◌≢◌, ℕ, List, Option, None, Result, Ok, Err, inl, sym, ap, subst, ◌∙◌}
 use Rattle.std.proofs.lemmas.Result.{err_from_is_err_and}
 use Rattle.protocol.specs.Refusals.{Refusal, first_cause, answer}
 use Rattle.protocol.specs.Messages.{Message}
@@ -7,9 +7,9 @@ use Rattle.protocol.specs.History.{Given}
 use Rattle.frame_admission.specs.Gate.{admission, answer_behind, state_causes, IsAnswer as IsAdmitted}
 use Rattle.frame_admission.proofs.Causes.{gate_law, let_in_message}
 use Rattle.node_core.specs.Core.{Core, Stands, setting_of}
-use Rattle.node_core.specs.declared.refusal.Refusal.{Refusal as Answer}
-use Rattle.node_core.specs.Calls.{IsAnswer, IsRefusal, IsDone}
-use Rattle.node_core.specs.Named.{of_inadmissible}
+use Rattle.protocol.specs.declared.refusal.Refusal.{Refusal as Answer}
+use Rattle.protocol.specs.Answers.{IsAnswer, IsRefusal}
+use Rattle.node_core.specs.Calls.{IsDone}
 use Rattle.node_core.specs.Seen.{seen}
 use Rattle.node_core.proofs.Known.{known}
 use Rattle.node_core.proofs.Given.{gate_refused, refused_done, received_taken}
@@ -18,7 +18,7 @@ use Rattle.node_core.proofs.Stepwise.{stands_counted}
 use Rattle.node_core.proofs.Called.{halted_answers, halted_done, halted_tells, running_answers, run_answer, tells_begun, run_begun, refused_call, refused_left, run_left}
 use Rattle.node_core.proofs.node.NodeCore.handle.Given as given
 use Rattle.node_core.proofs.Broken.{input_broken, run_broken, arrival_left}
-use Rattle.node_core.specs.declared.refusal.Refusal.TheVariants as answers
+use Rattle.protocol.specs.declared.refusal.Refusal.TheVariants as answers
 use Rattle.node_core.specs.Calls.{IsRefused}
 use Rattle.node_core.proofs.node.NodeCore.handle.Goals as goal
 
@@ -39,30 +39,36 @@ returns-in_err-begin-clause-journal g c =
 
 -- ---- the gate refuses
 
-refusal : (g : given.Over) (c : goal.After-from_residual-in_err-message g) (n : Node) → IsRefusal (answer (setting_of c.args.self.now) c.args.self.now.machine.me n c.args.frame.now) (of_inadmissible c.in_err-message.field-0.0)
+gate_told : (g : given.Over) (c : goal.After-from_residual-in_err-message g) → IsAdmitted (admission (setting_of c.args.self.now) c.args.self.now.machine.me c.args.frame.now) (Err c.in_err-message.field-0.0)
+gate_told g c =
+    let core : Core = seen c.self.inside in
+    subst (λ (x : Core). IsAdmitted (admission (setting_of x) x.machine.me c.args.frame.now) (Err c.in_err-message.field-0.0)) (c.self.view_is ∙ c.in_ok-begin.ensures.new) (c.in_err-message.ensures.answer (setting_of core) core.machine.me (known core c.self.invariant))
+
+refusal : (g : given.Over) (c : goal.After-from_residual-in_err-message g) (n : Node) → IsRefusal (answer (setting_of c.args.self.now) c.args.self.now.machine.me n c.args.frame.now) c.in_err-message.field-0.0
 refusal g c n =
     let old : Core = c.args.self.now in
-    let core : Core = seen c.self.inside in
     let e = c.in_err-message.field-0.0 in
-    let wanted = subst (λ (x : Core). IsAdmitted (admission (setting_of x) x.machine.me c.args.frame.now) (Err e)) (c.self.view_is ∙ c.in_ok-begin.ensures.new) (c.in_err-message.ensures.answer (setting_of core) core.machine.me (known core c.self.invariant)) in
-    subst (λ (o : Option Refusal). IsRefusal o (of_inadmissible e)) (sym (gate_law (setting_of old) old.machine.me n c.args.frame.now)) (gate_refused (setting_of old) old.machine.me n _ e wanted)
+    subst (λ (o : Option Refusal). IsRefusal o e) (sym (gate_law (setting_of old) old.machine.me n c.args.frame.now)) (gate_refused (setting_of old) old.machine.me n _ e (gate_told g c))
+
+other : (g : given.Over) (c : goal.After-from_residual-in_err-message g) → c.in_err-message.field-0.0 ≢ answers.JournalFailed
+other g c = inadmissible_other _ c.in_err-message.field-0.0 (gate_told g c)
 
 pub returns-in_err-message-clause-answer : goal.returns-in_err-message-clause-answer
 returns-in_err-message-clause-answer g c =
     let p = err_from_is_err_and c.from_residual-in_err-message.result c.from_residual-in_err-message.ensures.1 in
-    rw (p.1, p.2) (λ n s. running_answers c.args.self.now.journal.failed _ (Err (of_inadmissible c.in_err-message.field-0.0)) c.in_ok-begin.ensures.running (refusal g c n))
+    rw (p.1, p.2) (λ n s. running_answers c.args.self.now.journal.failed _ (Err c.in_err-message.field-0.0) c.in_ok-begin.ensures.running (refusal g c n))
 
 pub returns-in_err-message-clause-done : goal.returns-in_err-message-clause-done
 returns-in_err-message-clause-done g c =
     let p = err_from_is_err_and c.from_residual-in_err-message.result c.from_residual-in_err-message.ensures.1 in
-    let r = of_inadmissible c.in_err-message.field-0.0 in
-    rw (p.1, p.2) (λ n s. subst (IsDone n (Given c.args.frame.now) (Err r) c.args.self.now) (sym c.in_ok-begin.ensures.new) (refused_done n c.args.frame.now r c.args.self.now s (refusal g c n) (inadmissible_other c.in_err-message.field-0.0)))
+    let r = c.in_err-message.field-0.0 in
+    rw (p.1, p.2) (λ n s. subst (IsDone n (Given c.args.frame.now) (Err r) c.args.self.now) (sym c.in_ok-begin.ensures.new) (refused_done n c.args.frame.now r c.args.self.now s (refusal g c n) (other g c)))
 
 pub returns-in_err-message-clause-journal : goal.returns-in_err-message-clause-journal
 returns-in_err-message-clause-journal g c =
     let p = err_from_is_err_and c.from_residual-in_err-message.result c.from_residual-in_err-message.ensures.1 in
-    let r = of_inadmissible c.in_err-message.field-0.0 in
-    rw (p.1, p.2) (tells_begun (Err r) c.args.self.now c.begin.new.self c.begin.new.self c.in_ok-begin.ensures.new (tells_itself r c.begin.new.self.journal (inadmissible_other c.in_err-message.field-0.0)))
+    let r = c.in_err-message.field-0.0 in
+    rw (p.1, p.2) (tells_begun (Err r) c.args.self.now c.begin.new.self c.begin.new.self c.in_ok-begin.ensures.new (tells_itself r c.begin.new.self.journal (other g c)))
 
 -- ---- the message is refused
 
@@ -147,7 +153,7 @@ returns-in_err-begin-clause-broken g c =
 pub returns-in_err-message-clause-broken : goal.returns-in_err-message-clause-broken
 returns-in_err-message-clause-broken g c =
     let p = err_from_is_err_and c.from_residual-in_err-message.result c.from_residual-in_err-message.ensures.1 in
-    rw (p.1, p.2) (λ is. absurd (inadmissible_other c.in_err-message.field-0.0 cc))
+    rw (p.1, p.2) (λ is. absurd (other g c cc))
 
 pub returns-in_err-take-clause-broken : goal.returns-in_err-take-clause-broken
 returns-in_err-take-clause-broken g c =
@@ -163,10 +169,12 @@ returns-in_err-take-clause-broken g c =
     let read = (let_in_message (setting_of old) old.machine.me frame m admission).0 in
     rw (p.1, p.2) (λ is n s.
     let failed : r ≡ answers.JournalFailed = cc in
-    let left = c.in_err-take.ensures.broken (ap Err failed) n (subst (Stands n) (sym b) (stands_counted n old 0 s)) in
-    let none = judged old begun n frame m (Ok tt) b admission left.0 in
+    let s0 = subst (Stands n) (sym b) (stands_counted n old 0 s) in
+    let left = c.in_err-take.ensures.broken (ap Err failed) n s0 in
+    let told = judged old begun n frame m (Err r) b admission (c.in_err-take.ensures.answer n s0) in
+    let none = subst (IsRefusal (answer (setting_of old) old.machine.me n frame)) failed told in
     let here = subst (λ (x : Core). answer (setting_of x) x.machine.me n frame ≡ None) (sym b) none in
-    input_broken n (Given frame) old begun new b (subst (λ x. IsRefused x begun new) failed c.in_err-take.ensures.err) (arrival_left begun n frame m new.journal.bytes read here left.1))
+    input_broken n (Given frame) old begun new b (subst (λ x. IsRefused x begun new) failed c.in_err-take.ensures.err) (arrival_left begun n frame m new.journal.bytes read here left))
 
 pub returns-clause-broken : goal.returns-clause-broken
 returns-clause-broken g c = λ is n s.

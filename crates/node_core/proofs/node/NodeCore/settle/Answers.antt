@@ -5,7 +5,7 @@ use Rattle.node_core.specs.Core.{Core, Stands}
 use Rattle.node_core.proofs.Stepwise.{settled, stands_counted}
 use Rattle.node_core.proofs.Called.{halted_answers, halted_done, halted_tells, running_answers, run_answer, tells_begun, run_begun, run_left}
 use Rattle.node_core.proofs.Broken.{run_broken}
-use Rattle.node_core.specs.declared.refusal.Refusal.TheVariants as answers
+use Rattle.protocol.specs.declared.refusal.Refusal.TheVariants as answers
 use Rattle.std.proofs.Common.{◌≡◌}
 use Rattle.node_core.proofs.node.NodeCore.settle.Goals as goal
 

@@ -7,9 +7,8 @@ use Rattle.frame_admission.specs.Gate.{gate_causes}
 use Rattle.protocol.specs.State.{State}
 use Rattle.protocol.specs.Refusals.{first_cause, proposal_causes}
 use Rattle.node_core.specs.Core.{setting, setting_of}
-use Rattle.node_core.specs.Calls.{IsAnswer}
+use Rattle.protocol.specs.Answers.{IsAnswer}
 use Rattle.node_core.proofs.Telling.{result_refused}
-use Rattle.protocol.specs.Refusals.{bundle_causes}
 use Rattle.node_core.proofs.Broken.{never_broken, err_same}
 use Rattle.node_core.proofs.node.NodeCore.take.Goals as goal
 
@@ -52,7 +51,4 @@ pub returns-in-Ask-clause-broken : goal.returns-in-Ask-clause-broken
 returns-in-Ask-clause-broken g c = λ is. absurd (never_broken c.take_ask.result _ _ (err_same c.take_ask.result _ _ c.take_ask.ensures.err is) c.take_ask.ensures.journal is)
 
 pub returns-in-Bundle-clause-broken : goal.returns-in-Bundle-clause-broken
-unfolding setting
-returns-in-Bundle-clause-broken g c = λ is n s.
-    let old = c.args.self.now in
-    rw c.in-Bundle.is (subst (λ (x : State). first_cause (bundle_causes (setting_of old) old.machine.me x c.in-Bundle.bundle) ≡ None) s.state (c.take_bundle.ensures.possible is), c.take_bundle.ensures.broken is n s)
+returns-in-Bundle-clause-broken g c = λ is n s. rw c.in-Bundle.is (c.take_bundle.ensures.broken is n s)

@@ -39,18 +39,7 @@ returns-in_err-judge-clause-err g c =
 pub returns-clause-err : goal.returns-clause-err
 returns-clause-err g c = unfired_result c.decide.result _ _ c.decide.ensures.err
 
-pub returns-in_err-judge-clause-possible : goal.returns-in_err-judge-clause-possible
-returns-in_err-judge-clause-possible g c =
-    let p = err_from_is_err_and c.from_residual.result c.from_residual.ensures.1 in
-    rw (p.1, p.2) (λ is. absurd (judge_other c.in_err-judge.field-0.0 cc))
-
 pub returns-in_err-judge-clause-broken : goal.returns-in_err-judge-clause-broken
 returns-in_err-judge-clause-broken g c =
     let p = err_from_is_err_and c.from_residual.result c.from_residual.ensures.1 in
     rw (p.1, p.2) (λ is. absurd (judge_other c.in_err-judge.field-0.0 cc))
-
-pub returns-clause-possible : goal.returns-clause-possible
-returns-clause-possible g c = λ is.
-    let core : Core = seen c.self.inside in
-    let verdict = c.in_ok-judge.ensures (setting_of core) core.machine.me core.machine.state.delivered (powers_setting core ∙ sym c.powers.ensures) (known core c.self.invariant) c.frontier.ensures in
-    rw (← c.self.view_is) (judged_none (setting_of core) core.machine.me core.machine.state c.args.bundle (c.if-bundle-height.false ∙ c.height.ensures.height) (omega (arith, c.if-bundle-ge-MOST_HEIGHT.false, c.if-bundle-height.false, c.height.ensures.height)) verdict)

@@ -33,4 +33,4 @@ invariant_of-self-2 g c =
 pub returns-in_err-take_vote-clause-journal : goal.returns-in_err-take_vote-clause-journal
 returns-in_err-take_vote-clause-journal g c =
     let p = err_from_is_err_and c.from_residual.result c.from_residual.ensures.1 in
-    rw (← c.self.view_is, p.1, p.2) (tells_itself _ c.self.inside.journal (unkept_other c.in_err-take_vote.field-0.0))
+    rw (← c.self.view_is, p.1, p.2) (tells_itself _ c.self.inside.journal (unkept_other _ c.in_err-take_vote.field-0.0 c.in_err-take_vote.ensures.answer))
