@@ -1,9 +1,8 @@
 -- The answers of a node's parts, by the names of the node's own.
-use Rattle.std.proofs.Common.{◌≡◌, List, [], ◌∷◌, inl, inr, Option, Some, None, Result, Ok, Err, refl, ap, option_map}
+use Rattle.std.proofs.Common.{◌≡◌, List, [], ◌∷◌, inl, inr, Option, Some, None, Err, refl, ap, option_map}
 use Rattle.std.proofs.lemmas.Bool.{cases_Bool}
 use Rattle.protocol.specs.Refusals.{TxRefusal, BundleRefusal, Refusal, NotQueued, NotDecided, Cause, first_cause, answering}
-use Rattle.protocol.specs.Answers.{IsCause, cause_of, IsRefusal, IsAnswer, of_submit, of_judgement}
-use Rattle.round_states.specs.Taking.{IsAnswer as IsKept}
+use Rattle.protocol.specs.Answers.{IsCause, cause_of, IsRefusal, of_submit, of_judgement}
 use Rattle.protocol.specs.declared.refusal.Refusal.{Refusal as Answer}
 use Rattle.protocol.specs.declared.refusal.Refusal.TheVariants as answers
 use Rattle.protocol.specs.declared.refusal.SubmitFault.{SubmitFault}
@@ -58,24 +57,3 @@ told_refused first (answers.Bundle fault) h = h
 told_refused first answers.Halted h = h
 told_refused first answers.OutOfMemory h = tt
 told_refused first answers.JournalFailed h = absurd h
-
--- what the kept variables answer, the node answers
-pub kept_answer : (first : Option Refusal) (result : Result (Unit {0}) Answer) → IsKept first result → IsAnswer first result
-kept_answer first (Ok done) h = h
-kept_answer first (Err answers.Truncated) h = h
-kept_answer first (Err answers.TooLong) h = h
-kept_answer first (Err answers.BadKind) h = h
-kept_answer first (Err answers.BadSpelling) h = h
-kept_answer first (Err answers.UnknownSender) h = h
-kept_answer first (Err answers.BadTag) h = h
-kept_answer first (Err answers.OtherHeight) h = h
-kept_answer first (Err answers.VoterFull) h = h
-kept_answer first (Err answers.Repeat) h = h
-kept_answer first (Err answers.RoundLimit) h = h
-kept_answer first (Err answers.RoundAhead) h = h
-kept_answer first (Err answers.WrongProposer) h = h
-kept_answer first (Err (answers.Submit fault)) h = h
-kept_answer first (Err (answers.Bundle fault)) h = h
-kept_answer first (Err answers.Halted) h = h
-kept_answer first (Err answers.OutOfMemory) h = tt
-kept_answer first (Err answers.JournalFailed) h = absurd h

@@ -21,7 +21,7 @@ use Rattle.vote_journal.specs.declared.fault.JournalFault.{JournalFault}
 use Rattle.vote_journal.specs.declared.fault.JournalFault.TheVariants as journal
 use Rattle.vote_journal.proofs.Stopping.{newest}
 use Rattle.round_states.specs.Pending.{pending_of}
-use Rattle.round_states.specs.Saving.{Unwritten}
+use Rattle.round_states.specs.Saving.{Unwritten, of_unfired}
 use Rattle.round_states.specs.declared.saving.SaveFault.TheVariants as saves
 use Rattle.round_states.specs.declared.saving.Unfired.{Unfired}
 use Rattle.round_states.specs.declared.saving.Unfired.TheVariants as unfired
@@ -35,7 +35,6 @@ use Rattle.node_core.specs.Firing.{IsFit, IsNarrow, decision_in}
 use Rattle.node_core.specs.Saving.{HasBroken, Saves}
 use Rattle.node_core.specs.Calls.{HasFired, IsTaken, IsUnchanged, IsBroken, IsLeft, IsLeftBy, TellsJournal, input_cut, next_cut}
 use Rattle.node_core.specs.Running.{HasRun, IsCutOff}
-use Rattle.round_states.specs.Saving.{of_unfired}
 use Rattle.node_core.proofs.Arrivals.{comes_in, answers_by}
 use Rattle.node_core.proofs.Firings.{MayFire, OptionRecord, decided_in, fired_journal, same_journal}
 use Rattle.node_core.proofs.Recorded.{rule_may_fire, bundle_may_fire}

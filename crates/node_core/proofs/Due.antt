@@ -11,9 +11,8 @@ use Rattle.protocol.specs.World.{tried}
 use Rattle.protocol.specs.History.{Due}
 use Rattle.protocol.specs.Effects.{timeouts_taken, timeouts_of}
 use Rattle.node_core.specs.Core.{Core, Stands, setting_of, context_of, frame_by}
-use Rattle.protocol.specs.Answers.{IsRefusal}
+use Rattle.protocol.specs.Answers.{IsRefusal, cause_of}
 use Rattle.node_core.specs.Calls.{IsTaken, HasFiredOnce}
-use Rattle.protocol.specs.Answers.{cause_of}
 use Rattle.protocol.specs.declared.refusal.Refusal.{Refusal as Answer}
 use Rattle.protocol.specs.declared.refusal.Refusal.TheVariants as answers
 use Rattle.node_core.proofs.Answering.{cause_told, told_refused}

@@ -12,11 +12,10 @@ use Rattle.protocol.proofs.Arrivals.{refused_law}
 use Rattle.frame_admission.specs.Gate.{answer_behind, IsRefused as IsTold, IsAnswer as IsAdmitted}
 use Rattle.protocol.specs.declared.refusal.SubmitFault.TheVariants as submits
 use Rattle.protocol.specs.declared.refusal.JudgeFault.TheVariants as judges
-use Rattle.protocol.specs.Answers.{IsCause, cause_of}
+use Rattle.protocol.specs.Answers.{IsCause, cause_of, IsRefusal}
 use Rattle.protocol.specs.declared.refusal.Refusal.{Refusal as Answer}
 use Rattle.protocol.specs.declared.refusal.Refusal.TheVariants as answers
 use Rattle.node_core.specs.Core.{Core, Stands, setting_of, frame_by}
-use Rattle.protocol.specs.Answers.{IsRefusal}
 use Rattle.node_core.specs.Calls.{IsReceived, IsTaken, IsNotTaken, IsDone}
 use Rattle.node_core.proofs.Arrivals.{comes_in, answers_by}
 use Rattle.node_core.proofs.Stepwise.{same_itself, none_fired, stands_counted, called, taken_counted}

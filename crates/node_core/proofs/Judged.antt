@@ -8,8 +8,7 @@ use Rattle.protocol.specs.State.{State}
 use Rattle.protocol.specs.Refusals.{Refusal, NotDecided, judge_causes, bundle_causes, first_cause}
 use Rattle.protocol.specs.declared.refusal.JudgeFault.{JudgeFault}
 use Rattle.height_catchup.specs.Judging.{IsVerdict}
-use Rattle.protocol.specs.Answers.{IsRefusal}
-use Rattle.protocol.specs.Answers.{of_judgement}
+use Rattle.protocol.specs.Answers.{IsRefusal, of_judgement}
 use Rattle.node_core.proofs.Answering.{first_answering, judge_refused}
 
 of_height : (c : Setting) (p : ℕ) (s : State) (b : Bundle) → b.height ≡ s.height → s.height < 2 ^ 48 → first_cause (bundle_causes c p s b) ≡ option_map NotDecided (first_cause (judge_causes c p s.delivered b))

@@ -8,7 +8,7 @@ use Rattle.protocol.specs.declared.refusal.Refusal.{Refusal as Answer}
 use Rattle.protocol.specs.declared.refusal.Refusal.TheVariants as answers
 use Rattle.node_core.specs.Core.{Core, JournalSeen}
 use Rattle.node_core.specs.Calls.{Serves, TellsJournal, IsUnfired, IsRefused}
-use Rattle.protocol.specs.Answers.{IsAnswer}
+use Rattle.protocol.specs.Answers.{IsAnswer, of_submit, of_judgement}
 use Rattle.protocol.specs.Refusals.{Refusal}
 use Rattle.protocol.specs.Messages.{Message}
 use Rattle.frame_admission.specs.Gate.{IsAnswer as IsAdmitted}
@@ -16,7 +16,6 @@ use Rattle.round_states.specs.Taking.{IsAnswer as IsKept}
 use Rattle.vote_journal.specs.Store.{Grew}
 use Rattle.node_core.specs.Running.{HasRun}
 use Rattle.node_core.proofs.Stepwise.{run_failed}
-use Rattle.protocol.specs.Answers.{of_submit, of_judgement}
 
 pub serves_itself : (j : JournalSeen) → Serves j j
 serves_itself j = record { failed = refl; failures = refl }
@@ -46,10 +45,6 @@ inadmissible_other wanted e h is = subst (λ x. IsAdmitted wanted (Err x)) is h
 
 pub unkept_other : (cause : Option Refusal) (e : Answer) → IsKept cause (Err e) → e ≢ answers.JournalFailed
 unkept_other cause e h is = subst (λ x. IsKept cause (Err x)) is h
-
-pub kept_tells : (cause : Option Refusal) (result : Result (Unit {0}) Answer) (j : JournalSeen) → IsKept cause result → TellsJournal result j j
-kept_tells cause (Ok done) j h = serves_itself j
-kept_tells cause (Err e) j h = tells_itself e j (unkept_other cause e h)
 
 pub submit_other : (e : SubmitFault) → of_submit e ≢ answers.JournalFailed
 submit_other submits.UnknownClient e = cc

@@ -1,14 +1,13 @@
 -- A rule that did not fire: what is left of the core and of its journal.
 use Rattle.std.proofs.Common.{◌≡◌, true, false, Option, Some, None, Err, refl, sym, ap, subst, ◌∙◌}
 use Rattle.round_states.specs.Pending.{Pending}
-use Rattle.round_states.specs.Saving.{Unwritten}
+use Rattle.round_states.specs.Saving.{Unwritten, of_unfired}
 use Rattle.round_states.specs.declared.saving.SaveFault.TheVariants as saves
 use Rattle.round_states.specs.declared.saving.Unfired.{Unfired}
 use Rattle.round_states.specs.declared.saving.Unfired.TheVariants as unfired
 use Rattle.node_core.specs.Core.{Core, JournalSeen, IsSound}
 use Rattle.node_core.specs.Saving.{Saves}
 use Rattle.node_core.specs.Calls.{Serves, TellsJournal, IsUnfired}
-use Rattle.round_states.specs.Saving.{of_unfired}
 
 served : (old new : JournalSeen) → new ≡ old → Serves old new
 served old new e = record { failed = ap (λ (j : JournalSeen). j.failed) e; failures = ap (λ (j : JournalSeen). j.failures) e }

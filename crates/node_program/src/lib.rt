@@ -16,4 +16,4 @@ mod telling;
 mod validator;
 
 pub use item_line::ItemLine;
-pub use program::node_program;
+pub use program::{node_program, tell};

@@ -74,7 +74,7 @@ fn print_page<W: Write>(out: &mut W, page: &Page) -> u8
 }
 
 /// Tells a failure, and answers its exit status. A failed write is passed over.
-fn tell<E: Write>(failure: Failure, err: &mut E) -> u8
+pub fn tell<E: Write>(failure: Failure, err: &mut E) -> u8
     ensures { result ≤ 8 }
 {
     let _ = writeln!(err, "{failure}");

@@ -1,10 +1,9 @@
 //! A validator that serves its peers over TCP, a client that sends transactions, or the maker of their key files.
 #![tactic(auto)]
 
-use node_program::node_program;
+use node_program::{node_program, tell};
 use node_settings::Failure;
 use std::env;
-use std::io::Write;
 use std::process::ExitCode;
 use std::rt::Env;
 
@@ -12,10 +11,7 @@ fn main(rt: HostRuntime) -> ExitCode {
     let mut err = rt.stderr();
     let status = match words(&rt) {
         Some(words) => node_program(&rt, &words, rt.stdout(), &mut err),
-        None => {
-            let _ = writeln!(err, "{}", Failure::OutOfMemory);
-            Failure::OutOfMemory.status()
-        }
+        None => tell(Failure::OutOfMemory, &mut err),
     };
     ExitCode::from(status)
 }

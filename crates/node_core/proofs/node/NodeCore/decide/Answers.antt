@@ -15,12 +15,10 @@ use Rattle.node_core.proofs.Firings.{IsFiredTo, MayFire, fired_to, fired_once, f
 use Rattle.node_core.proofs.Recorded.{bundle_may_fire, decided_height}
 use Rattle.node_core.proofs.Unsaid.{unfired_tells, unfired_core, unfired_sound}
 use Rattle.node_core.specs.Saving.{Saves}
-use Rattle.round_states.specs.Saving.{Wrote}
+use Rattle.round_states.specs.Saving.{Wrote, Unwritten, of_unfired}
 use Rattle.node_core.proofs.Spelled.{bundle_decided}
 use Rattle.node_core.proofs.node.NodeCore.decide.Given as given
-use Rattle.round_states.specs.Saving.{Unwritten}
 use Rattle.protocol.specs.declared.refusal.Refusal.TheVariants as answers
-use Rattle.round_states.specs.Saving.{of_unfired}
 use Rattle.node_core.proofs.Broken.{unfired_broken, bundle_broken}
 use Rattle.node_core.proofs.node.NodeCore.decide.Goals as goal
 

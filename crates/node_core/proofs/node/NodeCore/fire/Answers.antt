@@ -4,7 +4,7 @@ use Rattle.std.proofs.lemmas.Result.{err_from_is_err_and}
 use Rattle.protocol.specs.State.{Context}
 use Rattle.messages.specs.Grammar.{IsBody}
 use Rattle.protocol.specs.Rules.{fired, saved, scheduled, released_by}
-use Rattle.round_states.specs.Saving.{Wrote}
+use Rattle.round_states.specs.Saving.{Wrote, Unwritten, of_unfired}
 use Rattle.node_core.specs.Saving.{Saves}
 use Rattle.round_machine.specs.Naming.{rule_of, pick_in}
 use Rattle.round_states.specs.Machine.{Agrees}
@@ -20,9 +20,7 @@ use Rattle.node_core.proofs.Recorded.{rule_may_fire, decided_height}
 use Rattle.node_core.proofs.Unsaid.{unfired_tells, unfired_core, unfired_sound}
 use Rattle.node_core.proofs.Firings.{IsFiredTo, MayFire, fired_to, fired_once, fired_sound, written_serves, pending_decided, decided_in}
 use Rattle.node_core.proofs.node.NodeCore.fire.Given as given
-use Rattle.round_states.specs.Saving.{Unwritten}
 use Rattle.protocol.specs.declared.refusal.Refusal.TheVariants as answers
-use Rattle.round_states.specs.Saving.{of_unfired}
 use Rattle.node_core.proofs.Broken.{unfired_broken, rule_broken}
 use Rattle.node_core.proofs.node.NodeCore.fire.Goals as goal
 

@@ -6,11 +6,10 @@ use Rattle.round_machine.specs.Naming.{rule_of}
 use Rattle.round_machine.proofs.Ending.{left, less_after}
 use Rattle.node_core.specs.Core.{Core, context_of, setting_of}
 use Rattle.node_core.specs.Seen.{seen}
-use Rattle.node_core.specs.Calls.{HasFiredOnce, Serves}
+use Rattle.node_core.specs.Calls.{HasFiredOnce, Serves, IsUnfired, TellsJournal}
 use Rattle.node_core.proofs.Stepwise.{none_fired, fired_more, once_counted, run_counted}
 use Rattle.node_core.proofs.Telling.{serves_itself, both_serve, tells_from, run_unfired, unfired_by}
 use Rattle.protocol.specs.declared.refusal.Refusal.TheVariants as answers
-use Rattle.node_core.specs.Calls.{IsUnfired, TellsJournal}
 use Rattle.node_core.proofs.Broken.{cut_off, cut_counted}
 use Rattle.node_core.proofs.node.NodeCore.fire_all.Goals as goal
 

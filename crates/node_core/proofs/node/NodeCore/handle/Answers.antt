@@ -9,7 +9,7 @@ use Rattle.frame_admission.proofs.Causes.{gate_law, let_in_message}
 use Rattle.node_core.specs.Core.{Core, Stands, setting_of}
 use Rattle.protocol.specs.declared.refusal.Refusal.{Refusal as Answer}
 use Rattle.protocol.specs.Answers.{IsAnswer, IsRefusal}
-use Rattle.node_core.specs.Calls.{IsDone}
+use Rattle.node_core.specs.Calls.{IsDone, IsRefused}
 use Rattle.node_core.specs.Seen.{seen}
 use Rattle.node_core.proofs.Known.{known}
 use Rattle.node_core.proofs.Given.{gate_refused, refused_done, received_taken}
@@ -19,7 +19,6 @@ use Rattle.node_core.proofs.Called.{halted_answers, halted_done, halted_tells, r
 use Rattle.node_core.proofs.node.NodeCore.handle.Given as given
 use Rattle.node_core.proofs.Broken.{input_broken, run_broken, arrival_left}
 use Rattle.protocol.specs.declared.refusal.Refusal.TheVariants as answers
-use Rattle.node_core.specs.Calls.{IsRefused}
 use Rattle.node_core.proofs.node.NodeCore.handle.Goals as goal
 
 pub returns-in_err-begin-clause-answer : goal.returns-in_err-begin-clause-answer

@@ -1,4 +1,4 @@
-use Rattle.std.proofs.Common.{None, inl, refl, sym, subst}
+use Rattle.std.proofs.Common.{None, inl, refl, sym, subst, ◌≡◌}
 use Rattle.std.proofs.lemmas.Result.{err_from_is_err_and}
 use Rattle.protocol.specs.History.{Settle}
 use Rattle.node_core.specs.Core.{Core, Stands}
@@ -6,7 +6,6 @@ use Rattle.node_core.proofs.Stepwise.{settled, stands_counted}
 use Rattle.node_core.proofs.Called.{halted_answers, halted_done, halted_tells, running_answers, run_answer, tells_begun, run_begun, run_left}
 use Rattle.node_core.proofs.Broken.{run_broken}
 use Rattle.protocol.specs.declared.refusal.Refusal.TheVariants as answers
-use Rattle.std.proofs.Common.{◌≡◌}
 use Rattle.node_core.proofs.node.NodeCore.settle.Goals as goal
 
 pub returns-in_err-begin-clause-answer : goal.returns-in_err-begin-clause-answer

@@ -5,8 +5,7 @@ use Rattle.protocol.specs.Refusals.{NotQueued, tx_causes, first_cause}
 use Rattle.proposal_validity.specs.Standing.{IsFrontierOf}
 use Rattle.mempool.specs.Answers.{IsAnswer as IsSubmitAnswer}
 use Rattle.node_core.specs.Core.{Core, setting_of}
-use Rattle.protocol.specs.Answers.{IsRefusal}
-use Rattle.protocol.specs.Answers.{of_submit}
+use Rattle.protocol.specs.Answers.{IsRefusal, of_submit}
 use Rattle.node_core.specs.Seen.{seen}
 use Rattle.node_core.proofs.Known.{known}
 use Rattle.node_core.proofs.Sound.{sound_queued}
