@@ -1,12 +1,17 @@
 #!/usr/bin/env bash
 # Runs four validators on this machine and two clients, kills one validator with -9 in the middle and starts it again over its
-# journal, and compares what they delivered: ./cluster.sh [PROGRAM], bin/tmnode of ./build.sh if none is named.
+# journal, and compares what they delivered: ./cluster.sh [PROGRAM]. If none is named it is the proved one of ./build.sh, or, where
+# that isn't built of these sources, one without any proof, which is made in a minute or two.
 # It takes some seconds and ends by itself. Key files, journals, lists and logs stay in a folder, whose name it prints. Its
 # status is other than 0 if a list differs, or isn't whole in two minutes.
 set -euo pipefail
 top=$(cd "$(dirname "${BASH_SOURCE[0]}")" && pwd)
-program=$(realpath -- "${1:-$top/bin/tmnode}")
-[ -x "$program" ] || { echo "cluster.sh: $program is no program; ./build.sh makes it" >&2; exit 2; }
+if [ $# -gt 0 ]; then
+    program=$(realpath -- "$1")
+else
+    program=$(cd "$top" && source gate/sources.sh && program_of tmnode)
+fi
+[ -x "$program" ] || { echo "cluster.sh: $program is no program" >&2; exit 2; }
 folder=$(mktemp -d "${TMPDIR:-/tmp}/tmnode_cluster.XXXXXX")
 cd "$folder"
 each=10                    # transactions of each client, with its close

@@ -9,7 +9,7 @@ import sys
 import tempfile
 
 sys.dont_write_bytecode = True
-from wrong_bodies import TOP, rt
+from kit import TOP, crates, rt
 
 
 def not_laid_out(crate):
@@ -25,7 +25,7 @@ def main():
     if sys.argv[1:]:
         print(__doc__, file=sys.stderr)
         return 2
-    each = [not_laid_out(it) for it in rt.rtlib.crates_below(TOP)]
+    each = [not_laid_out(it) for it in crates()]
     for line in sum(each, []):
         print(line)
     failed = sum(map(bool, each))

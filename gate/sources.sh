@@ -12,3 +12,14 @@ sum_of_sources() {
 is_built() {
     [ -f bin/sources ] && [ "$(sum_of_sources)" = "$(cat bin/sources)" ]
 }
+
+# Prints the path of a program: the proved one where bin/ has it of these sources, else one that is built without any proof.
+program_of() {
+    if is_built; then
+        echo "$PWD/bin/$1"
+        return
+    fi
+    echo "$1 runs unproved here, and is built for that in a minute or two the first time; ./build.sh proves it" >&2
+    gate/unproved.py "$1" >&2
+    echo "$PWD/bin/unproved/$1"
+}

@@ -1,7 +1,7 @@
 #!/usr/bin/env python3
 """Tries the wrong bodies and definitions: the prover has to refuse each edit of crates/NAME/wrong/.
 
-usage: gate/wrong_bodies.py [--built] [CRATE [EDIT..]]
+usage: gate/wrong_bodies.py [--built] [--anew] [CRATE [EDIT..]]
 
 Edits of functions' bodies stand in one check together: each in a copy of its function beside it, with the same contract and
 the same proof files, so that what calls the function is proved over the one that wasn't edited. Of a function with proof
@@ -14,38 +14,30 @@ whole check of its crate is dear, that function alone is checked.
 Beside them stand the edits of crates/NAME/equal/, which say the same in other words: each has to be proved, so that a
 run can't call everything refused.
 
-All is tried on copies. --built takes the libraries as `rt ci` left them in out/; without it they are built first,
-where they are not up to date. The last line is 'N passed, M failed', and the status 0 where nothing failed.
+What a run told is kept on this machine (`gate/kept.py`), so that a later one tries only what changed; --anew tries all. An edit of
+definitions is kept by itself, a crate's edits of code together.
+
+All is tried on copies. --built takes the libraries as `rt ci` left them in out/; without it this works in a copy of the
+checkout, over the libraries that `rt ci` keeps on this machine, and proves first what it lacks. The last line is 'N passed, M
+failed', and the status 0 where nothing failed.
 """
 import copy
 import os
 import re
 import shutil
-import subprocess
 import sys
 import tempfile
 import threading
-from importlib.machinery import SourceFileLoader
-from importlib.util import module_from_spec, spec_from_loader
 from typing import NamedTuple
 
-TOP = os.path.dirname(os.path.dirname(os.path.realpath(__file__)))
-ONE_JOB = ["--jobs", "1"]
+sys.dont_write_bytecode = True
+from kept import Kept
+from kit import ONE_JOB, PARTS, TOP, crates as crates_below, guard, rt
+from libraries import where_built
 
-
-def load_rt():
-    """Returns the kit's own `rt` as a module: how it reads an edit, checks a copy and shares out the processors."""
-    said = subprocess.run(["rt", "doc"], capture_output=True, text=True, check=True).stdout
-    file = f"{os.path.dirname(said.strip())}/bin/rt"
-    sys.dont_write_bytecode = True
-    loader = SourceFileLoader("rt", file)
-    made = module_from_spec(spec_from_loader("rt", loader))
-    loader.exec_module(made)
-    return made
-
-
-rt = load_rt()
 printing = threading.Lock()
+# What an edit of definitions takes of the memory that is planned for a proof of its whole crate: its check proves one function.
+LAW_SHARE = 0.4
 
 
 def say(text):
@@ -344,7 +336,7 @@ def is_proved(crate, function, text, lines):
 def checked(crate, texts, flags, kept):
     """Checks a copy of the crate with these texts, some of files that it lacks."""
     with tempfile.TemporaryDirectory(prefix="edits-") as room:
-        for part in rt.rtlib.PARTS:
+        for part in PARTS:
             if os.path.isdir(f"{crate.folder}/{part}"):
                 shutil.copytree(f"{crate.folder}/{part}", f"{room}/{part}")
         for path, text in texts.items():
@@ -426,20 +418,20 @@ def verdict_by_law(crate, edit):
     return True, f"{edit.label}: refused, as it must be{little}, by {edit.law}: {(told or [''])[0][:120]}"
 
 
-def tried_by_law(crate, edit):
-    """Tries an edit of definitions, and returns in a list whether all is well."""
-    well, text = verdict_by_law(crate, edit)
-    say(text)
+def tried_by_law(crate, edits, note):
+    """Tries an edit of definitions, notes what it comes to, and returns in a list whether all is well."""
+    well, text = verdict_by_law(crate, edits[0])
+    note(text)
     return [well]
 
 
-def tried(crate, edits):
-    """Tries a crate's edits of code, and returns for each whether all is well. Each verdict is printed as it is known."""
+def tried(crate, edits, note):
+    """Tries a crate's edits of code, and returns for each whether all is well. Each verdict is noted as it is known."""
     wells, left, alone, is_first = [], [it for it in edits if it.functions], [it for it in edits if not it.functions], True
 
     def tell(well, text):
         wells.append(well)
-        say(text)
+        note(text)
 
     with tempfile.TemporaryDirectory(prefix="wrong-bodies-") as kept:
         while len(left) > 1:
@@ -477,54 +469,47 @@ def edits_of(crate, names):
     return found, bad
 
 
-def tasks_of(crate, edits):
+def tasks_of(crate, edits, kept):
     """Returns the checks of a crate's edits, which may run side by side: one for each edit of definitions, and one for all others."""
-    code, size = [it for it in edits if not it.law], crate.count(rb"\n")
-    tasks = {(crate.name, "edits", it.label): ([], size, rt.need(crate), lambda given, jobs, it=it: tried_by_law(crate, it)) for it in edits if it.law}
+    code, size, memory = [it for it in edits if not it.law], crate.count(rb"\n"), rt.need(crate)
+    tasks = {}
+    for edit in (it for it in edits if it.law):
+        call = lambda given, jobs, edit=edit: kept.told(crate, [edit], tried_by_law, say)
+        tasks[crate.name, "edits", edit.label] = [], size, LAW_SHARE * memory, call
     if code:
-        tasks[crate.name, "edits"] = ([], size * len(code), rt.need(crate), lambda given, jobs: tried(crate, code))
+        tasks[crate.name, "edits"] = [], size * len(code), memory, lambda given, jobs: kept.told(crate, code, tried, say)
     return tasks
 
 
-def build_libraries(crates):
-    """Builds the libraries below these crates that are not up to date. Returns whether all are built."""
-    for library in dict.fromkeys(it for crate in crates for it in crate.below()):
-        if library.is_built():
-            continue
-        say(f"building {library.name}")
-        with tempfile.TemporaryFile("w+") as library.out:
-            if library.build_rlib(ONE_JOB, anew=False):
-                library.out.seek(0)
-                say(library.out.read()[-2000:])
-                return False
-    return True
+def tell(crates, names, kept):
+    """Tries the edits of these crates, or those that are named, and returns how much passed and failed."""
+    each = {it: edits_of(it, names) for it in crates}
+    asked = {*names} - {os.path.basename(e.path).removesuffix(".edit") for found, _ in each.values() for e in found}
+    bad = [text for _, faults in each.values() for text in faults] + [f"no edit {it}" for it in sorted(asked)]
+    for text in bad:
+        say(text)
+    tasks = {key: task for crate, (found, _) in each.items() if found for key, task in tasks_of(crate, found, kept).items()}
+    wells = [well for it in rt.in_lanes(tasks).values() for well in it]
+    return wells.count(True), len(bad) + wells.count(False)
 
 
 def main(words):
-    is_built = "--built" in words
-    words = [it for it in words if it != "--built"]
+    is_built, kept = "--built" in words, Kept("--anew" in words)
+    words = [it for it in words if it not in ("--built", "--anew")]
     if any(it.startswith("-") for it in words):
         print(__doc__, file=sys.stderr)
         return 2
     os.chdir(TOP)
-    # (its first call sets a signal's handler, which only the main thread may)
-    rt.rtlib.guarded()
-    crates = [it for it in rt.rtlib.crates_below(TOP) if not words or it.name == words[0]]
-    each = {it: edits_of(it, words[1:]) for it in crates}
-    asked = {*words[1:]} - {os.path.basename(e.path).removesuffix(".edit") for found, _ in each.values() for e in found}
-    bad = [text for _, faults in each.values() for text in faults] + [f"no edit {it}" for it in sorted(asked)]
-    if words and not crates:
-        bad.append(f"no crate {words[0]}")
-    for text in bad:
-        say(text)
-    at_work = [crate for crate, (found, _) in each.items() if found]
-    if not is_built and not build_libraries(at_work):
-        print("0 passed, 1 failed")
-        return 1
-    tasks = {key: task for crate in at_work for key, task in tasks_of(crate, each[crate][0]).items()}
-    wells = [well for it in rt.in_lanes(tasks).values() for well in it]
-    failed = len(bad) + wells.count(False)
-    print(f"{wells.count(True)} passed, {failed} failed")
+    guard()
+    crates = [it for it in crates_below() if not words or it.name == words[0]]
+    if not crates:
+        say(f"no crate {words[0]}")
+    with where_built(crates, is_built) as built:
+        passed, failed = tell(built, words[1:], kept) if built else (0, 1)
+    kept.shrink()
+    if kept.given:
+        say(f"{kept.given} of these were tried by an earlier run on this machine, and nothing that their checks read has changed")
+    print(f"{passed} passed, {failed} failed")
     return 1 if failed else 0
 
 

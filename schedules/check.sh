@@ -6,7 +6,7 @@
 # With no NAME (as first_decision) all are run. Beside NAME.txt stand NAME.report, NAME.status where the exit status isn't 0, and
 # NAME.errors where something is told on standard error. A difference is shown as a diff; --rewrite keeps what the program prints,
 # for a person to read before it is committed. PROGRAM is a built tmsim; without it the one in bin/ is taken where it is up to
-# date, else the sources run unproved, which takes a minute. The last line is 'N passed, M failed'.
+# date, else one without any proof, which is built in a minute or two. The last line is 'N passed, M failed'.
 set -euo pipefail
 here=$(cd "$(dirname "${BASH_SOURCE[0]}")" && pwd)
 rewrite= program= names=()
@@ -32,24 +32,6 @@ run_all() {
     done
 }
 
-# Runs the schedules with the unproved program, which prints each report under a line '== NAME'. On standard error each case's
-# lines stand above the one that tells of its status.
-try_all() {
-    local cases=$got/cases data=()
-    mkdir "$cases"
-    for name in "${names[@]}"; do
-        : > "$cases/$name"
-        echo "$name.txt" > "$cases/$name.args"
-        data+=(--data "$name.txt=$here/$name.txt")
-    done
-    (cd "$here/../crates/tmsim" && rt try --cases "$cases" "${data[@]}" 2> "$got/said" > "$got/printed") || { cat "$got/said" >&2; return 1; }
-    awk -v folder="$got" '/^== /{file = folder "/" $2 ".report"; printf "" > file; next} {print > file}' "$got/printed"
-    awk -v folder="$got" '
-        /^case=/ { name = substr($1, 6); printf "%s", told > (folder "/" name ".errors")
-                   match($0, /status=[0-9]+/); print substr($0, RSTART + 7, RLENGTH - 7) > (folder "/" name ".status"); told = ""; next }
-        { told = told $0 "\n" }' "$got/said"
-}
-
 # Compares one text with the one that is kept, or keeps it; WANTED is what is meant where no file is kept.
 compare() {
     local name=$1 wanted=$2
@@ -63,8 +45,8 @@ compare() {
 
 cd "$here/.."
 source gate/sources.sh
-[ -n "$program" ] || ! is_built || program=$PWD/bin/tmsim
-if [ -n "$program" ]; then run_all; else try_all; fi
+[ -n "$program" ] || program=$(program_of tmsim)
+run_all
 
 failed=0
 for name in "${names[@]}"; do

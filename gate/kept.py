@@ -1,0 +1,104 @@
+"""What earlier runs of the gate on this machine told of edits, by the sum of all that their checks read.
+
+It lies in ~/.cache/pomtsjef-gate/edits, or in the folder that GATE_KEPT names, for its user alone. An entry's name is a sum of
+the kit, of the scripts that try edits, of the crate's own files, of the libraries below it as they were built, and of the edits;
+so none goes stale, and one that can't be read counts for nothing. Only what went well is kept.
+"""
+import contextlib
+import hashlib
+import json
+import os
+import tempfile
+import time
+
+from kit import TOP, rt
+
+STORE = os.environ.get("GATE_KEPT") or os.path.expanduser("~/.cache/pomtsjef-gate/edits")
+# The scripts that say what a check comes to.
+SCRIPTS = ("kit.py", "kept.py", "wrong_bodies.py")
+# Entries that no run asked for in so many seconds are removed.
+LONGEST_UNUSED = 30 * 24 * 3600
+
+
+def sum_of(*parts):
+    return hashlib.sha256(repr(parts).encode()).hexdigest()
+
+
+def sum_of_library(library):
+    """Returns a sum of what a check above reads of a built library: each file but the texts of its proofs and `format`, which has a
+    sum over those. A check over statements takes a library's modules as they were checked, and reads neither."""
+    found = []
+    for at, folders, names in os.walk(library.rlib):
+        folders.sort()
+        paths = sorted(os.path.relpath(f"{at}/{name}", library.rlib) for name in names)
+        found += [(it, rt.rtlib.sum_of(f"{library.rlib}/{it}")) for it in paths if it != "format" and not it.startswith("lang/antt/proofs/")]
+    return sum_of(*found)
+
+
+class Kept:
+    """Gives what is kept of edits, or has them tried and keeps what went well."""
+
+    def __init__(self, is_anew):
+        self.is_anew, self.given, self.libraries = is_anew, 0, {}
+        self.scripts = sum_of(*(rt.rtlib.sum_of(f"{TOP}/gate/{it}") for it in SCRIPTS))
+        with contextlib.suppress(OSError):
+            os.makedirs(STORE, 0o700, exist_ok=True)
+        self.is_ours = os.path.isdir(STORE) and os.stat(STORE).st_uid == os.geteuid()
+
+    def key(self, crate, edits):
+        """Returns the sum of all that the check of these edits reads."""
+        for it in crate.below():
+            if it.name not in self.libraries:
+                self.libraries[it.name] = sum_of_library(it)
+        below = [(it.name, self.libraries[it.name]) for it in crate.below()]
+        return sum_of(self.scripts, rt.own_sum(crate), below, [(it.label, it.text) for it in edits])
+
+    def lines_of(self, key):
+        """Returns the lines that an earlier run told under this key, or None."""
+        if self.is_anew or not self.is_ours:
+            return None
+        try:
+            with open(f"{STORE}/{key}", encoding="utf-8") as it:
+                found = json.load(it)
+            os.utime(f"{STORE}/{key}")
+            return found["lines"] if found["key"] == key else None
+        except (OSError, ValueError, KeyError, TypeError):
+            return None
+
+    def told(self, crate, edits, tried, say):
+        """Returns whether all is well with each of these edits, and prints a line for each. `tried` tries them, and is handed what is to be called
+        with each line."""
+        key = self.key(crate, edits)
+        lines = self.lines_of(key)
+        if lines is not None and len(lines) == len(edits):
+            self.given += len(edits)
+            for line in lines:
+                say(f"{line} (kept)")
+            return [True] * len(edits)
+        lines = []
+
+        def note(line):
+            lines.append(line)
+            say(line)
+
+        wells = tried(crate, edits, note)
+        self.libraries = {}
+        if all(wells) and len(lines) == len(edits) and self.key(crate, edits) == key:
+            self.keep(key, lines)
+        return wells
+
+    def keep(self, key, lines):
+        """Writes an entry apart and then renames it, so that no other run meets half of it."""
+        if not self.is_ours:
+            return
+        with contextlib.suppress(OSError):
+            with tempfile.NamedTemporaryFile("w", prefix="new-", dir=STORE, delete=False, encoding="utf-8") as it:
+                json.dump({"key": key, "lines": lines}, it)
+            os.replace(it.name, f"{STORE}/{key}")
+
+    def shrink(self):
+        """Removes what no run asked for in a month."""
+        with contextlib.suppress(OSError):
+            for it in os.scandir(STORE) if self.is_ours else ():
+                if it.stat().st_mtime < time.time() - LONGEST_UNUSED:
+                    os.remove(it.path)
