@@ -6,23 +6,23 @@ use Rattle.std.proofs.lemmas.List.Elements.{filter-append}
 use Rattle.std.proofs.lemmas.List.Sums.{sum_by_push}
 use Rattle.edge_frames.specs.Passing.{SentFrame, Load, sent, of_sender, bytes_of, load_of, no_load, IsMeasured, has_room, refusal}
 
-pub nothing_measured : IsMeasured (replicate 64 no_load) []
+pub nothing_measured : IsMeasured (replicate 128 no_load) []
 nothing_measured = record {
   count = refl;
-  each = λ s lt. get_or-replicate 64 s no_load no_load lt;
+  each = λ s lt. get_or-replicate 128 s no_load no_load lt;
   within = λ s. record { frames = omega arith; bytes = omega arith };
 }
 
 size : SentFrame → ℕ
 size f = length f.frame
 
-module _ (loads : List Load) (fs : List SentFrame) (s : ℕ) (frame : List ℕ) (is : IsMeasured loads fs) (lt : s < 64) where
+module _ (loads : List Load) (fs : List SentFrame) (s : ℕ) (frame : List ℕ) (is : IsMeasured loads fs) (lt : s < 128) where
   had : get_or loads s no_load ≡ load_of s fs
   had = is.each s lt
 
   pub room_is : (get_or loads s no_load).frames < 64 → (get_or loads s no_load).bytes + length frame ≤ 2097152 → refusal s frame fs ≡ None
   room_is a b =
-      let known : leb 64 s ≡ false = lt-leb _ _ lt in
+      let known : leb 128 s ≡ false = lt-leb _ _ lt in
       let count : (get_or loads s no_load).frames ≡ (load_of s fs).frames = ap (λ (l : Load). l.frames) had in
       let bytes : (get_or loads s no_load).bytes ≡ (load_of s fs).bytes = ap (λ (l : Load). l.bytes) had in
       let few : ltb (load_of s fs).frames 64 ≡ true = lt-ltb _ _ (omega arith) in

@@ -27,12 +27,12 @@ with_frames link es (l ∷ ls) = if link == l.link then of_link l.link es ∷ ls
 -- why a link's frame is not kept
 abbrev pub refusal : ℕ → Early → List OfLink → Option KeepFault
 refusal link e ls =
-    if not (is_known link ls) && nat_le 128 (length ls) then Some TooManyLinks
+    if not (is_known link ls) && nat_le 384 (length ls) then Some TooManyLinks
     else if has_room e (frames_of link ls) then None else Some LinkFull
 
 -- why the first frame of a link is not kept beside those of so many links
 abbrev pub opening : Early → ℕ → Option KeepFault
-opening e count = if nat_le 128 count then Some TooManyLinks else if has_room e [] then None else Some LinkFull
+opening e count = if nat_le 384 count then Some TooManyLinks else if has_room e [] then None else Some LinkFull
 
 -- behind the entries of the others stands that of a link whose first frame this is
 pub record IsOpened (e : Early) (link : ℕ) (old new : List (ℕ × List Early)) : Type 0 where

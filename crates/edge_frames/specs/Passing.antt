@@ -28,8 +28,8 @@ no_load = record { frames = 0; bytes = 0 }
 
 -- it is known of each validator how much is kept, which is within the bounds
 pub record IsMeasured (loads : List Load) (fs : List SentFrame) : Type 0 where
-  pub count : length loads ≡ 64
-  pub each : (s : ℕ) → s < 64 → slice_index_or loads s no_load ≡ load_of s fs
+  pub count : length loads ≡ 128
+  pub each : (s : ℕ) → s < 128 → slice_index_or loads s no_load ≡ load_of s fs
   pub within : (s : ℕ) → IsWithin (of_sender s fs)
 
 -- with the kept ones of its sender, it is within the bounds
@@ -39,5 +39,5 @@ has_room sender frame fs = nat_lt (load_of sender fs).frames 64 && nat_le ((load
 -- why it is not kept
 abbrev pub refusal : ℕ → List ℕ → List SentFrame → Option PassFault
 refusal sender frame fs =
-    if nat_le 64 sender then Some UnknownSender
+    if nat_le 128 sender then Some UnknownSender
     else if has_room sender frame fs then None else Some SenderFull

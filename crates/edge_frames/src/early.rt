@@ -13,7 +13,7 @@ use std::alloc::Global;
 use std::marker::Model;
 
 /// How many links may have early frames.
-pub const MOST_LINKS: usize = 128;
+pub const MOST_LINKS: usize = 384;
 
 /// The number of a link, which no other link that a peer has at the same time has.
 #[derive(Clone, Copy, Debug, PartialEq, Eq)]

@@ -35,7 +35,7 @@ pub enum PassFault {
     /// As much is kept of the sender as may.
     #[error("the sender has no room for the frame")]
     SenderFull,
-    /// The sender is above 63, and so no validator.
+    /// The sender is above 127, and so no validator.
     #[error("no validator has the sender's number")]
     UnknownSender,
     /// A growth was refused memory. The same frame may come again.

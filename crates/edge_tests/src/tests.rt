@@ -141,15 +141,15 @@ fn fills_sender(alloc: Global, kept: &mut HeightFrames, sender: u16, count: usiz
 
 fn assert_passed<R: Abort>(rt: &R, alloc: Global, kept: &mut HeightFrames) {
     assert_eq!(rt; pass(alloc, kept, 3, 1), None);
-    assert_eq!(rt; pass(alloc, kept, 63, 2), None);
+    assert_eq!(rt; pass(alloc, kept, 127, 2), None);
     assert_eq!(rt; pass(alloc, kept, 3, 3), None);
     assert_eq!(rt; kept_at(kept, 0), Some((3, 1)));
-    assert_eq!(rt; kept_at(kept, 1), Some((63, 2)));
+    assert_eq!(rt; kept_at(kept, 1), Some((127, 2)));
     assert_eq!(rt; kept_at(kept, 2), Some((3, 3)));
     assert_eq!(rt; kept_at(kept, 3), None);
     assert!(rt; fills_sender(alloc, kept, 3, MOST_SENDER_FRAMES - 2));
     assert_eq!(rt; pass(alloc, kept, 3, 4), Some(PassFault::SenderFull));
-    assert_eq!(rt; pass(alloc, kept, 64, 4), Some(PassFault::UnknownSender));
+    assert_eq!(rt; pass(alloc, kept, 128, 4), Some(PassFault::UnknownSender));
     assert_eq!(rt; pass(alloc, kept, 4, 4), None);
     kept.clear();
     assert_eq!(rt; kept_at(kept, 0), None);

@@ -12,6 +12,9 @@ use transactions::{Duplicate, Fault, Op, Seq, Shared, Tx, Value};
 /// The body of client 7's transaction 1, which asks for the byte `a`.
 const ONE_BYTE: [u8; 15] = [1, 0, 7, 0, 0, 0, 0, 0, 0, 0, 1, 0, 0, 1, b'a'];
 
+/// The body of client 7's transaction 1 of session 1, which asks for the byte `b`.
+const LATER: [u8; 19] = [2, 0, 7, 0, 0, 0, 1, 0, 0, 0, 0, 0, 0, 0, 1, 0, 0, 1, b'b'];
+
 /// The body of client 7's transaction 2, which is a close.
 const CLOSE: [u8; 12] = [1, 0, 7, 0, 0, 0, 0, 0, 0, 0, 2, 1];
 
@@ -38,8 +41,8 @@ const BUNDLE_FRONT: [u8; 49] = [
     7, 7, 7, 7, 7, 7, 7, 7, 7, 7, 7, 7, 7, 7, 7, 7, 0, 0,
 ];
 
-/// A body of each kind but a bundle, and two of transactions.
-const VECTORS: [&[u8]; 5] = [&ONE_BYTE, &CLOSE, &PROPOSAL, &PREVOTE, &ASK];
+/// A body of each kind but a bundle, and two of transactions of a first session.
+const VECTORS: [&[u8]; 6] = [&ONE_BYTE, &CLOSE, &LATER, &PROPOSAL, &PREVOTE, &ASK];
 
 /// What was looked at is so.
 fn assert_holds(rt: &impl Abort, outcome: Result<bool, Fault>) {
@@ -69,14 +72,15 @@ fn letters(alloc: Global, count: usize) -> Result<Seq<u8>, AllocError> {
     Ok(contents)
 }
 
-/// A transaction of 1,024 bytes and 64 tags.
+/// A transaction of the last session, of 1,024 bytes and 128 tags.
 fn full_tx(alloc: Global) -> Result<Tx, AllocError> {
     let contents = letters(alloc, 1024)?;
     Ok(Tx {
         client: 1023,
+        session: 0xffff_ffff,
         number: 1,
         op: Op::Bytes(contents),
-        tags: nines(alloc, 64)?,
+        tags: nines(alloc, 128)?,
     })
 }
 
@@ -88,13 +92,13 @@ fn copies_of(alloc: Global, tx: &Tx, count: usize) -> Result<Vec<Tx>, AllocError
     Ok(txs)
 }
 
-/// So many transactions, each of 1,024 bytes and 64 tags.
+/// So many transactions, each of 1,024 bytes and 128 tags.
 fn full_txs(alloc: Global, count: usize) -> Result<Vec<Tx>, AllocError> {
     let tx = full_tx(alloc)?;
     copies_of(alloc, &tx, count)
 }
 
-/// A value of so many transactions, each of 1,024 bytes and 64 tags.
+/// A value of so many transactions, each of 1,024 bytes and 128 tags.
 fn value_of(alloc: Global, count: usize) -> Result<Value, AllocError> {
     let txs = full_txs(alloc, count)?;
     Ok(Value {
@@ -319,19 +323,19 @@ fn bundle_there_and_back(rt: HostRuntime) {
     assert_holds(&rt, bundle_is_kept(rt.alloc()));
 }
 
-/// The spelling of a copy of a bundle with 161 transactions and 64 precommits, each with 64 tags.
+/// The spelling of a copy of a bundle with 97 transactions and 128 precommits, each with 128 tags.
 fn full_bundle(alloc: Global) -> Result<Vec<u8>, Fault> {
-    let bundle = bundle_of(alloc, 161, 64, 64)?;
+    let bundle = bundle_of(alloc, 97, 128, 128)?;
     let body = Body::Bundle(bundle.copy(alloc)?);
     spell_body(alloc, &body)
 }
 
-/// Whether these bytes spell a bundle with 161 transactions and 64 precommits, each with 64 tags, and are its spelling.
+/// Whether these bytes spell a bundle with 97 transactions and 128 precommits, each with 128 tags, and are its spelling.
 fn spell_full_bundle(alloc: Global, bytes: &[u8]) -> Result<bool, Fault> {
-    // The kind, 46 bytes, the value, the count, and 64 times a sender and 64 tags.
+    // The kind, 46 bytes, the value, the count, and 128 times a sender and 128 tags.
     Ok(
-        bytes.len() == 1 + 46 + 497_009 + 1 + 64 * 2051
-            && spell_bundle(alloc, bytes, 161, 64)?
+        bytes.len() == 1 + 46 + 498_485 + 1 + 128 * 4099
+            && spell_bundle(alloc, bytes, 97, 128)?
             && there_and_back(alloc, bytes)?,
     )
 }

@@ -12,13 +12,13 @@ use messages::{Body, Step, Vote, frame_of, spell_body};
 use std::alloc::{AllocError, Global};
 use transactions::{Id, Seq};
 
-/// The frame of an own body, with a right tag for each of up to 64 validators.
+/// The frame of an own body, with a right tag for each of up to 128 validators.
 ///
 /// The body is spelled once, hashed once for each tag, and copied once into the frame.
 pub fn frame_for(alloc: Global, ring: &KeyRing, body: &Body) -> Result<Vec<u8>, AllocError>
     requires spelled { IsBody body.now }
     requires own { sender_of body.now ≡ ring.now.me }
-    requires few { ring.now.count ≤ 64 }
+    requires few { ring.now.count ≤ 128 }
     ensures { (c : Setting) (p : ℕ) → IsRingOf c p ring.now → IfOk result (λ frame. frame.items ≡ frame_spelling (tagged c body.now)) }
 {
     let bytes = bytes_of(alloc, body)?;
@@ -56,7 +56,7 @@ pub fn own_tags(
 fn bytes_of(alloc: Global, body: &Body) -> Result<Vec<u8>, AllocError>
     requires { IsBody body.now }
     ensures spelled { IfOk result (λ bytes. bytes.items ≡ body_spelling body.now) }
-    ensures short { IfOk result (λ bytes. length bytes.items ≤ 631312) }
+    ensures short { IfOk result (λ bytes. length bytes.items ≤ 1024720) }
 {
     spell_body(alloc, body).map_err(|_fault| AllocError)
 }

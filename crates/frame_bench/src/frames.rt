@@ -113,6 +113,7 @@ fn proposal(alloc: Global) -> Result<Frame, BenchFault> {
 fn tx(alloc: Global, client: u16, number: u64) -> Result<Tx, BenchFault> {
     Ok(Tx {
         client,
+        session: 0,
         number,
         op: Op::Bytes(Seq::from_vec(vec![in alloc; 7u8; 64]?)),
         tags: Seq::new(alloc),

@@ -33,7 +33,7 @@ unfolding below
 all_fit f h zero = tt
 all_fit f h (suc n) = subst (λ (ps : List Precommit). AllByRecursion IsPrecommit ps) (sym (one_more f n)) (joined_fit (flat_map f (below n)) (f n) (all_fit f h n) (h n))
 
-pub certified_fits : (c : Setting) (p : ℕ) (b : Bundle) → length c.powers ≤ 64 → IsBundle b → IsBundle (record b { precommits = certified c p b })
+pub certified_fits : (c : Setting) (p : ℕ) (b : Bundle) → length c.powers ≤ 128 → IsBundle b → IsBundle (record b { precommits = certified c p b })
 unfolding certified
 certified_fits c p b small fits = record {
   height = fits.height;

@@ -20,7 +20,7 @@ use transactions::{Duplicate, Seq};
 pub fn certified(alloc: Global, bundle: Bundle, ring: &KeyRing) -> Result<Bundle, AllocError>
     ensures cut { IfOk result (λ cut. (c : Setting) (p : ℕ) → IsRingOf c p ring.now → cut ≡ record bundle { precommits = certified c p bundle }) }
     // A bundle that can be spelled is cut down to one.
-    ensures spelled { (c : Setting) (p : ℕ) → IsRingOf c p ring.now → length c.powers ≤ 64 → IsBundle bundle → IfOk result IsBundle }
+    ensures spelled { (c : Setting) (p : ℕ) → IsRingOf c p ring.now → length c.powers ≤ 128 → IsBundle bundle → IfOk result IsBundle }
 {
     let precommits = right_precommits(alloc, &bundle, ring)?;
     Ok(Bundle {

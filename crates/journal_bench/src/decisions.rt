@@ -66,6 +66,7 @@ fn value(alloc: Global, before: u64) -> Result<Value, BenchFault> {
 fn tx(alloc: Global, number: u64) -> Result<Tx, BenchFault> {
     Ok(Tx {
         client: 7,
+        session: 0,
         number,
         op: Op::Bytes(Seq::from_vec(vec![in alloc; 7u8; 1024]?)),
         tags: nines(alloc)?,

@@ -30,7 +30,7 @@ IsKey key = (length key ≡ 32) × IsBytes key
 
 -- what every table keeps
 pub record IsTable (table : Table) : Type 0 where
-  pub few_validators : table.validators ≤ 64
+  pub few_validators : table.validators ≤ 128
   pub few_clients : table.clients ≤ 1024
   pub whole : length table.keys ≡ (table.validators + table.clients) * table.validators
   pub keys : All IsKey table.keys

@@ -73,7 +73,7 @@ impl KeyTable {
         validators: u16,
         clients: u16,
     ) -> Result<KeyTable, DrawFault>
-        requires validators { validators ≤ 64 }
+        requires validators { validators ≤ 128 }
         requires clients { clients ≤ 1024 }
         ensures size { IfOk result (λ table. (table.validators ≡ validators) × (table.clients ≡ clients)) }
         ensures drawn { IfOk result (λ table. Consumes (R.remaining source.old) (R.remaining source.new) (flat_map (λ key. key) table.keys)) }
@@ -90,7 +90,7 @@ impl KeyTable {
     /// How many validators there are.
     pub fn validators(&self) -> u16
         ensures count { result ≡ self.now.validators }
-        ensures few { result ≤ 64 }
+        ensures few { result ≤ 128 }
     {
         self.validators
     }

@@ -8,9 +8,9 @@ use Rattle.messages.specs.declared.body.Body.TheVariants.{Tx}
 use Rattle.messages.specs.declared.body.Message.{Message}
 
 -- a transaction as a body, whose tags stand behind it
-abbrev pub body_of : ℕ → ℕ → Op → Body
-body_of client number op = Tx (record { client = client; number = number; op = op; tags = [] })
+abbrev pub body_of : ℕ → ℕ → ℕ → Op → Body
+body_of client session number op = Tx (record { client = client; session = session; number = number; op = op; tags = [] })
 
 -- the transaction with the client's tag for each validator
-abbrev pub sent : Ring → ℕ → ℕ → Op → Message
-sent keys client number op = record { body = body_of client number op; tags = tags_of keys (body_spelling (body_of client number op)) }
+abbrev pub sent : Ring → ℕ → ℕ → ℕ → Op → Message
+sent keys client session number op = record { body = body_of client session number op; tags = tags_of keys (body_spelling (body_of client session number op)) }

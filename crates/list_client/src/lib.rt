@@ -26,22 +26,24 @@ pub enum ClientFault {
     Ended,
 }
 
-/// The frame of a client's transaction of this number, with a tag for each validator under the client's keys.
+/// The frame of a client's transaction of this session and number, with a tag for each validator under the client's keys.
 ///
 /// Faults: that of the transaction, where its numbers or its bytes are out of range; `OutOfMemory`.
 pub fn frame_of(
     alloc: Global,
     keys: &KeyRing,
     client: u16,
+    session: u32,
     number: u64,
     op: Op,
 ) -> Result<Vec<u8>, Fault>
-    ensures ok { IfOk result (λ frame. SpellsFrame frame.items (sent keys.now client number op)) }
+    ensures ok { IfOk result (λ frame. SpellsFrame frame.items (sent keys.now client session number op)) }
     // What has a frame is given it, unless memory runs out.
-    ensures only { (bytes : List ℕ) → SpellsFrame bytes (sent keys.now client number op) → Gives (λ v. v.items) result (Ok bytes) }
+    ensures only { (bytes : List ℕ) → SpellsFrame bytes (sent keys.now client session number op) → Gives (λ v. v.items) result (Ok bytes) }
 {
     let body = Body::Tx(Tx {
         client,
+        session,
         number,
         op,
         tags: Seq::new(alloc),
@@ -98,10 +100,15 @@ impl<S: Read + Write> Connection<S> {
     }
 }
 
-/// Whose transaction stands in a line of the list, `POSITION CLIENT NUMBER HEX`: the client and the number.
-pub fn item_of(line: &str) -> Option<(u16, u64)> {
+/// Whose transaction stands in a line of the list, `POSITION CLIENT NUMBER HEX`, where CLIENT may be `CLIENT.SESSION`: the
+/// client, the session and the number.
+pub fn item_of(line: &str) -> Option<(u16, u32, u64)> {
     let mut words = line.split(' ').skip(1);
-    let client = words.next()?.parse().ok()?;
+    let sender = words.next()?;
+    let (client, session) = match sender.split_once('.') {
+        Some((client, session)) => (client.parse().ok()?, session.parse().ok()?),
+        None => (sender.parse().ok()?, 0),
+    };
     let number = words.next()?.parse().ok()?;
-    Some((client, number))
+    Some((client, session, number))
 }

@@ -29,6 +29,7 @@ pub(crate) fn frames(alloc: Global) -> Result<Vec<Vec<u8>>, BenchFault> {
 fn frame(alloc: Global, client: u16, number: u64) -> Result<Vec<u8>, BenchFault> {
     let body = Body::Tx(Tx {
         client,
+        session: 0,
         number,
         op: op(alloc)?,
         tags: Seq::new(alloc),

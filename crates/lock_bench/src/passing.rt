@@ -77,6 +77,7 @@ fn offer_next<R: Wait>(rt: &R, alloc: Global, feeder: &mut Feeder) -> Option<boo
     }
     let item = Item {
         client: 7,
+        session: 0,
         number: position,
         op: op(alloc).ok()?,
     };

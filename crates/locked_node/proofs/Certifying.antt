@@ -21,6 +21,7 @@ use Rattle.vote_journal.specs.Order.{may_follow}
 use Rattle.vote_journal.specs.Laws.{EachFollows, EachMade, IsLawful}
 use Rattle.vote_journal.proofs.Following.{fired_lawful, taken_lawful, opened_lawful}
 use Rattle.vote_journal.proofs.Kept.{lawful_opened}
+use Rattle.vote_journal.proofs.Stops.{whole_lawful}
 use Rattle.node_core.specs.Core.{Core, Stands, setting, setting_of, delivered_in}
 use Rattle.locked_node.specs.History.{Replayed}
 use Rattle.locked_node.specs.Locked.{Locked, IsLocked, count_of}
@@ -109,7 +110,7 @@ record OfLawful (core : Core) : Type 0 where
 running_lawful : (core : Core) (n : Node) → Stands n core → core.journal.failed ≡ false → OfLawful core
 unfolding setting
 running_lawful core n s running =
-    let l = lawful_opened (setting_of core) core.machine.me (reverse n.journal) (s.journal running).lawful in record {
+    let l = lawful_opened (setting_of core) core.machine.me (reverse n.journal) (whole_lawful core.machine.powers core.machine.me _ (reverse n.journal) (s.journal running)) in record {
       records = n.journal;
       decisions = s.decisions;
       follows = subst (EachFollows core.machine.powers) (reverse-reverse n.journal) l.follows;
@@ -119,7 +120,7 @@ running_lawful core n s running =
 opened_is_lawful : (base : Core) (w : WasOpened base) → IsLawful (setting_of base) base.machine.me (opened base.machine.me w.records)
 unfolding setting
 opened_is_lawful base w =
-    subst (λ j. IsLawful (setting_of base) base.machine.me (opened base.machine.me j)) (reverse-reverse w.records) (lawful_opened (setting_of base) base.machine.me (reverse w.records) (w.stands.journal w.running).lawful)
+    subst (λ j. IsLawful (setting_of base) base.machine.me (opened base.machine.me j)) (reverse-reverse w.records) (lawful_opened (setting_of base) base.machine.me (reverse w.records) (whole_lawful base.machine.powers base.machine.me _ (reverse w.records) (w.stands.journal w.running)))
 
 replayed_lawful : (l : Locked) → IsLocked l → WasOpened l.base → OfLawful l.core
 unfolding setting

@@ -56,7 +56,11 @@ fn past_item(decisions: &[Bundle], place: Place, item: &Item) -> Option<Place>
 {
     let place = normal(decisions, place);
     let tx = tx_at(decisions, place)?;
-    if tx.client != item.client || tx.number != item.number || tx.op != item.op {
+    if tx.client != item.client
+        || tx.session != item.session
+        || tx.number != item.number
+        || tx.op != item.op
+    {
         return None;
     }
     Some(Place {

@@ -52,6 +52,7 @@ pub(crate) fn item_of(alloc: Global, tx: &Tx) -> Result<Item, AllocError>
 {
     Ok(Item {
         client: tx.client,
+        session: tx.session,
         number: tx.number,
         op: tx.op.copy(alloc)?,
     })

@@ -4,12 +4,12 @@ use Rattle.std.specs.List.{AllByRecursion}
 use Rattle.std.proofs.lemmas.Bool.{leb-true, leb-false, ltb-false, and_parts, cases_Bool, not-false}
 use Rattle.std.proofs.lemmas.List.Elements.{All-from_recursion, recursion_from_All}
 use Rattle.transactions.specs.Grammar.{IsTx, IsValue}
-use Rattle.protocol.specs.Values.{Tx, Item, item, keeps_limits}
+use Rattle.protocol.specs.Values.{Tx, Item, item, fits, keeps_limits}
 use Rattle.protocol.specs.Messages.{◌∈◌}
-use Rattle.protocol.specs.Queues.{Queue, all_waiting, queued, drop_delivered, pick, longest, turns, is_closed, waiting_of}
+use Rattle.protocol.specs.Queues.{Queue, all_waiting, queued, drop_delivered, pick, longest, turns, waiting_of}
 use Rattle.protocol.proofs.Waiting.{picked_waits, queued_in, dropped_in}
 use Rattle.protocol.specs.Tags.{Setting, tx_is_right}
-use Rattle.protocol.specs.Refusals.{is_long, wanted, first_cause, tx_causes}
+use Rattle.protocol.specs.Refusals.{is_long, is_old, is_closed, reached, first_cause, tx_causes}
 use Rattle.protocol.proofs.Arrivals.{none_stand}
 use Rattle.mempool.proofs.Sizes.{Fits, fits_keeps, size_none}
 
@@ -67,8 +67,9 @@ pub record IsGood (c : Setting) (p : ℕ) (d : List Item) (queues : List Queue) 
   pub short : is_long t.op ≡ false
   pub known : c.clients t.client ≡ true
   pub right : tx_is_right c p t ≡ true
-  pub number : t.number ≡ wanted d queues t.client
-  pub open_still : is_closed t.client (d ++ map item (waiting_of t.client queues)) ≡ false
+  pub above : is_old d queues t ≡ false
+  pub open_still : is_closed d queues t ≡ false
+  pub next : fits (reached d queues t.client) (item t) ≡ true
   pub room : length (waiting_of t.client queues) < 64
 
 pub good_if_queued : (c : Setting) (p : ℕ) (d : List Item) (queues : List Queue) (t : Tx) → first_cause (tx_causes c p d queues t) ≡ None → IsGood c p d queues t
@@ -78,7 +79,8 @@ good_if_queued c p d queues t e =
       short = stand.0;
       known = not-false _ stand.1.0;
       right = not-false _ stand.1.1.0;
-      number = omega (arith, ltb-false _ _ stand.1.1.1.0, ltb-false _ _ stand.1.1.1.1.1.0);
+      above = stand.1.1.1.0;
       open_still = stand.1.1.1.1.0;
-      room = leb-false _ _ stand.1.1.1.1.1.1.0;
+      next = not-false _ stand.1.1.1.1.1.1.0;
+      room = leb-false _ _ stand.1.1.1.1.1.1.1.0;
     }

@@ -1,5 +1,5 @@
 -- The clients' queues as the entries of a map.
-use Rattle.std.proofs.Common.{◌≡◌, ℕ, zero, suc, ◌+◌, ◌<◌, length, get_or, take, drop, slice_get, Bool, true, false, eqb, List, [], ◌∷◌, ◌++◌, map, filter, Option, Some, None, is_some, inl, inr, refl, sym, ap, ◌∙◌, arith}
+use Rattle.std.proofs.Common.{◌≡◌, ℕ, zero, suc, ◌+◌, ◌<◌, length, get_or, take, drop, slice_get, Bool, true, false, eqb, List, [], ◌∷◌, ◌++◌, map, filter, Option, Some, None, is_some, option_map, inl, inr, refl, sym, ap, ◌∙◌, arith}
 use Rattle.std.specs.Global.{Vec}
 use Rattle.std.specs.List.{AllByRecursion, IsDistinct}
 use Rattle.std.specs.Map.{keys_of, values_of, lookup, set_value}
@@ -10,7 +10,7 @@ use Rattle.std.specs.Cmp.{nat_eq_equiv}
 use Rattle.indexmap.proofs.MapLemmas.{absent_before}
 use Rattle.indexmap.specs.IndexMap.{set_value_at}
 use Rattle.protocol.specs.Values.{Tx, Item}
-use Rattle.protocol.specs.Queues.{Queue, queued, waiting_of, drop_delivered, still_waiting}
+use Rattle.protocol.specs.Queues.{Queue, queued, waiting_of, drop_delivered, standing_of, still_waiting}
 
 flipped : (a b : ℕ) (same : Bool) → eqb a b ≡ same → eqb b a ≡ same
 flipped a b true e = eq-eqb b a (sym (eqb-true a b e))
@@ -100,38 +100,42 @@ module _ {V : Type 0} (txs : V → List Tx) where
   waiting_lists (e ∷ es) = ap (λ (lists : List (List Tx)). txs e.1 ∷ lists) (waiting_lists es)
 
   -- what a write at a place leaves
-  record Written (before : List Queue) (q : Queue) (behind : List Queue) (es : List (ℕ × V)) (i : ℕ) (old v : V) : Type 0 where
+  record Written (before : List Queue) (q : Queue) (behind : List Queue) (es : List (ℕ × V)) (i : ℕ) (key : ℕ) (old v : V) : Type 0 where
+    whose : q.client ≡ key
     had : q.waiting ≡ txs old
     after : queues_of (set_value_at es i v) ≡ before ++ record q { waiting = txs v } ∷ behind
 
-  written : (before : List Queue) (q : Queue) (behind : List Queue) (es : List (ℕ × V)) (i : ℕ) (old v : V) → queues_of es ≡ before ++ q ∷ behind → length before ≡ i → slice_get (values_of es) i ≡ Some old
-      → Written before q behind es i old v
-  written [] q behind [] i old v e n at = absurd (cc)
-  written [] q behind (x ∷ es) zero old v e n at =
+  written : (before : List Queue) (q : Queue) (behind : List Queue) (es : List (ℕ × V)) (i : ℕ) (key : ℕ) (old v : V) → queues_of es ≡ before ++ q ∷ behind → length before ≡ i → slice_get (values_of es) i ≡ Some old
+      → option_map (λ (e : ℕ × V). e.0) (slice_get es i) ≡ Some key → Written before q behind es i key old v
+  written [] q behind [] i key old v e n at own = absurd (cc)
+  written [] q behind (x ∷ es) zero key old v e n at own =
       let head : queue_of x ≡ q = cc in
       let tail : queues_of es ≡ behind = cc in
       let value : x.1 ≡ old = cc in
-      record { had = ap (λ (r : Queue). r.waiting) (sym head) ∙ ap txs value; after = rw (← head, ← tail) refl }
-  written [] q behind (x ∷ es) (suc i) old v e n at = absurd (omega arith)
-  written (b ∷ before) q behind [] i old v e n at = absurd (cc)
-  written (b ∷ before) q behind (x ∷ es) zero old v e n at = absurd (omega arith)
-  written (b ∷ before) q behind (x ∷ es) (suc i) old v e n at =
+      let client : x.0 ≡ key = cc in
+      record { whose = ap (λ (r : Queue). r.client) (sym head) ∙ client; had = ap (λ (r : Queue). r.waiting) (sym head) ∙ ap txs value; after = rw (← head, ← tail) refl }
+  written [] q behind (x ∷ es) (suc i) key old v e n at own = absurd (omega arith)
+  written (b ∷ before) q behind [] i key old v e n at own = absurd (cc)
+  written (b ∷ before) q behind (x ∷ es) zero key old v e n at own = absurd (omega arith)
+  written (b ∷ before) q behind (x ∷ es) (suc i) key old v e n at own =
       let head : queue_of x ≡ b = cc in
       let tail : queues_of es ≡ before ++ q ∷ behind = cc in
-      let rest = written before q behind es i old v tail (omega arith) at in
-      record { had = rest.had; after = rw (head, rest.after) refl }
+      let rest = written before q behind es i key old v tail (omega arith) at own in
+      record { whose = rest.whose; had = rest.had; after = rw (head, rest.after) refl }
 
   -- one queue more is gone over
-  pub dropped_more : (d : List Item) (queues : List Queue) (es : List (ℕ × V)) (i : ℕ) (old v : V) → queues_of es ≡ drop_delivered d (take i queues) ++ drop i queues → i < length queues
-      → slice_get (values_of es) i ≡ Some old → txs v ≡ filter (still_waiting d) (txs old) → queues_of (set_value_at es i v) ≡ drop_delivered d (take (i + 1) queues) ++ drop (i + 1) queues
-  dropped_more d queues es i old v so_far lt at kept =
+  pub dropped_more : (d : List Item) (queues : List Queue) (es : List (ℕ × V)) (i : ℕ) (key : ℕ) (old v : V) → queues_of es ≡ drop_delivered d (take i queues) ++ drop i queues → i < length queues
+      → slice_get (values_of es) i ≡ Some old → option_map (λ (e : ℕ × V). e.0) (slice_get es i) ≡ Some key → txs v ≡ still_waiting (standing_of key d) (txs old)
+      → queues_of (set_value_at es i v) ≡ drop_delivered d (take (i + 1) queues) ++ drop (i + 1) queues
+  dropped_more d queues es i key old v so_far lt at own kept =
       let nobody : Queue = record { client = 0; waiting = [] } in
       let q = get_or queues i nobody in
       let before = drop_delivered d (take i queues) in
-      let w = written before q (drop (i + 1) queues) es i old v (so_far ∙ ap (λ (qs : List Queue). before ++ qs) (drop_more queues i nobody lt)) (omega (arith, length-map (take i queues) (λ (r : Queue). record r { waiting = filter (still_waiting d) r.waiting }), length-take i queues)) at in
-      let gone : record q { waiting = txs v } ≡ record q { waiting = filter (still_waiting d) q.waiting } = rw (kept, w.had) refl in
-      let front : drop_delivered d (take (i + 1) queues) ≡ before ++ record q { waiting = filter (still_waiting d) q.waiting } ∷ [] = ap (drop_delivered d) (take_more queues i nobody lt) ∙ map-append _ (take i queues) (q ∷ []) in
-      w.after ∙ rw (gone, front) (sym (append_assoc before (record q { waiting = filter (still_waiting d) q.waiting } ∷ []) (drop (i + 1) queues)))
+      let left : Queue → Queue = λ (r : Queue). record r { waiting = still_waiting (standing_of r.client d) r.waiting } in
+      let w = written before q (drop (i + 1) queues) es i key old v (so_far ∙ ap (λ (qs : List Queue). before ++ qs) (drop_more queues i nobody lt)) (omega (arith, length-map (take i queues) left, length-take i queues)) at own in
+      let gone : record q { waiting = txs v } ≡ left q = rw (kept, w.had, w.whose) refl in
+      let front : drop_delivered d (take (i + 1) queues) ≡ before ++ left q ∷ [] = ap (drop_delivered d) (take_more queues i nobody lt) ∙ map-append _ (take i queues) (q ∷ []) in
+      w.after ∙ rw (gone, front) (sym (append_assoc before (left q ∷ []) (drop (i + 1) queues)))
 
   -- ---- a queue that is copied behind others
 

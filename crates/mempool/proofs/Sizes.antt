@@ -6,7 +6,7 @@ use Rattle.std.proofs.lemmas.Grind.{flat_map-append}
 use Rattle.std.proofs.lemmas.List.{append-nil, append_assoc, length-append, take_all, take_at, nil_from_length}
 use Rattle.std.proofs.Math.Seq.{take-append-add}
 use Rattle.transactions.specs.Fields.{number_bytes}
-use Rattle.transactions.specs.Grammar.{op_spelling, tx_fields_spelling, tx_body_spelling, tags_spelling, tx_spelling, value_spelling}
+use Rattle.transactions.specs.Grammar.{op_spelling, session_spelling, tx_fields_spelling, tx_body_spelling, tags_spelling, tx_spelling, value_spelling}
 use Rattle.transactions.proofs.Formats.{length-number_bytes}
 use Rattle.protocol.specs.Values.{Tx, Bytes, Value, keeps_limits}
 use Rattle.protocol.specs.Queues.{Queue, longest, pick}
@@ -23,14 +23,19 @@ joined_len (tag ∷ tags) each =
 pub op_len : (contents : List ℕ) → length (op_spelling (Bytes contents)) ≡ 3 + length contents
 op_len contents = omega (arith, length-append (number_bytes 2 (length contents)) contents, length-number_bytes 2 (length contents))
 
-pub tx_len : (t : Tx) → length (tx_spelling t) ≡ length (tags_spelling t.tags) + length (op_spelling t.op) + 11
+pub session_len : (session : ℕ) → 1 ≤ session → length (session_spelling session) ≡ 4
+session_len zero h = absurd (omega arith)
+session_len (suc before) h = length-number_bytes 4 (suc before)
+
+pub tx_len : (t : Tx) → length (tx_spelling t) ≡ length (tags_spelling t.tags) + length (op_spelling t.op) + length (session_spelling t.session) + 11
 unfolding tx_spelling tx_fields_spelling
 tx_len t = omega (
   arith,
   length-append (tx_body_spelling t) (tags_spelling t.tags),
   length-number_bytes 2 t.client,
   length-number_bytes 8 t.number,
-  length-append (number_bytes 2 t.client) (number_bytes 8 t.number ++ op_spelling t.op),
+  length-append (number_bytes 2 t.client) (session_spelling t.session ++ (number_bytes 8 t.number ++ op_spelling t.op)),
+  length-append (session_spelling t.session) (number_bytes 8 t.number ++ op_spelling t.op),
   length-append (number_bytes 8 t.number) (op_spelling t.op),
 )
 

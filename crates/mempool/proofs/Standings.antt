@@ -1,45 +1,40 @@
--- What a frontier and a queue tell of a client.
-use Rattle.std.proofs.Common.{◌≡◌, ℕ, ◌+◌, Bool, true, false, cond, ◌&&◌, ◌||◌, List, [], ◌∷◌, ◌++◌, length, map, refl, sym, ap, ◌∙◌, arith}
-use Rattle.std.specs.Prelude.{◌==◌}
-use Rattle.std.specs.List.{list_any}
-use Rattle.std.proofs.lemmas.List.Elements.{filter-append}
-use Rattle.protocol.specs.Values.{Tx, Item, item, of}
-use Rattle.protocol.specs.Queues.{Queue, is_close, is_closed, still_waiting, waiting_of}
-use Rattle.protocol.specs.Refusals.{wanted}
-use Rattle.proposal_validity.specs.Standing.{Standings, standing, IsFrontierOf}
-use Rattle.mempool.specs.Waiting.{is_close_of, is_left}
+-- What a frontier and a queue tell of a client, and how far a queue goes on.
+use Rattle.std.proofs.Common.{◌≡◌, ℕ, zero, suc, ◌+◌, ◌-◌, ◌<◌, ◌≤◌, Bool, true, false, Some, slice_get, List, [], ◌∷◌, ◌++◌, length, get_or, map, take, drop, refl, sym, ap, ◌∙◌, arith, append_assoc}
+use Rattle.std.proofs.lemmas.Option.{get_or_from_slice_get}
+use Rattle.std.proofs.lemmas.List.{append-nil, take_all, take_more, drop_more, drop_all}
+use Rattle.protocol.specs.declared.standing.Standing.{Standing}
+use Rattle.protocol.specs.Values.{Tx, item, fits, left_by, left_after}
+use Rattle.protocol.specs.Queues.{going_on}
 
-abbrev closes : Item → Bool
-closes t = is_close t.op
+-- the last one tells
+pub left_of_last : (s : Standing) (xs : List Tx) (i : ℕ) (x : Tx) → length xs ≡ suc i → x ≡ get_or xs i x → left_after s (map item xs) ≡ left_by (item x)
+left_of_last s [] i x n e = absurd (omega arith)
+left_of_last s (y ∷ []) zero x n e = ap (λ (t : Tx). left_by (item t)) (sym e)
+left_of_last s (y ∷ []) (suc i) x n e = absurd (omega arith)
+left_of_last s (y ∷ z ∷ xs) zero x n e = absurd (omega arith)
+left_of_last s (y ∷ z ∷ xs) (suc i) x n e = left_of_last (left_by (item y)) (z ∷ xs) i x (omega arith) e
 
-or_assoc : (a b c : Bool) → ((a || b) || c) ≡ (a || (b || c))
-or_assoc true b c = refl
-or_assoc false b c = refl
+-- the first i of these go on, and then what goes on from where the client then stands
+abbrev pub GoesOn : Standing → List Tx → ℕ → Standing → Type 0
+GoesOn s txs i reached = going_on s txs ≡ take i txs ++ going_on reached (drop i txs)
 
-any_joined : (xs ys : List Item) → list_any closes (xs ++ ys) ≡ (list_any closes xs || list_any closes ys)
-any_joined [] ys = refl
-any_joined (x ∷ xs) ys = ap (λ b. closes x || b) (any_joined xs ys) ∙ sym (or_assoc (closes x) (list_any closes xs) (list_any closes ys))
+module _ (s reached : Standing) (txs : List Tx) (i : ℕ) (t : Tx) (lt : i < length txs) (is : t ≡ get_or txs i t) (so_far : GoesOn s txs i reached) where
+  rest : drop i txs ≡ t ∷ drop (i + 1) txs
+  rest = drop_more txs i t lt ∙ ap (λ (u : Tx). u ∷ drop (i + 1) txs) (sym is)
 
-closed_later : (client : ℕ) (d e : List Item) → is_closed client (d ++ e) ≡ (is_closed client d || is_closed client e)
-closed_later client d e = ap (list_any closes) (filter-append (λ (t : Item). t.client == client) d e) ∙ any_joined (of client d) (of client e)
+  front : take (i + 1) txs ≡ take i txs ++ t ∷ []
+  front = take_more txs i t lt ∙ ap (λ (u : Tx). take i txs ++ u ∷ []) (sym is)
 
--- a close among the client's waiting transactions
-pub close_waits : (client : ℕ) (txs : List Tx) → is_closed client (map item txs) ≡ list_any (is_close_of client) txs
-close_waits client [] = refl
-close_waits client (t ∷ ts) = at (t.client == client) (close_waits client ts)
-  where
-    at : (own : Bool) → is_closed client (map item ts) ≡ list_any (is_close_of client) ts
-        → list_any closes (cond own (item t ∷ of client (map item ts)) (of client (map item ts))) ≡ ((own && is_close t.op) || list_any (is_close_of client) ts)
-    at true rest = ap (λ b. is_close t.op || b) rest
-    at false rest = rest
+  pub one_more : fits reached (item t) ≡ true → GoesOn s txs (i + 1) (left_by (item t))
+  one_more f = so_far ∙ rw (rest, f) (sym (rw front (append_assoc (take i txs) (t ∷ []) (going_on (left_by (item t)) (drop (i + 1) txs)))))
 
--- delivered or waiting
-pub closed_either : (d : List Item) (f : Standings) (client : ℕ) (txs : List Tx) → IsFrontierOf d f → is_closed client (d ++ map item txs) ≡ ((standing f client).closed || list_any (is_close_of client) txs)
-closed_either d f client txs is = closed_later client d (map item txs) ∙ ap (λ b. is_closed client d || b) (close_waits client txs)
-    ∙ rw (is.each client) refl
+  pub stops : fits reached (item t) ≡ false → take i txs ≡ going_on s txs
+  stops f = sym (so_far ∙ rw (rest, f) (append-nil (take i txs)))
 
-pub wanted_next : (d : List Item) (f : Standings) (client : ℕ) (queues : List Queue) → IsFrontierOf d f → (standing f client).next + length (waiting_of client queues) ≡ wanted d queues client
-wanted_next d f client queues is = rw (is.each client) (omega arith)
+pub all_go_on : (s reached : Standing) (txs : List Tx) (i : ℕ) → length txs ≤ i → GoesOn s txs i reached → txs ≡ going_on s txs
+all_go_on s reached txs i le so_far = sym (so_far ∙ rw (take_all i txs le, drop_all i txs le) (append-nil txs))
 
-pub left_waiting : (d : List Item) (f : Standings) (t : Tx) → IsFrontierOf d f → is_left f t ≡ still_waiting d t
-left_waiting d f t is = rw (is.each t.client) refl
+-- the last one, where there is one
+pub left_of_found : (s : Standing) (xs : List Tx) (x : Tx) → slice_get xs (length xs - 1) ≡ Some x → left_after s (map item xs) ≡ left_by (item x)
+left_of_found s [] x e = absurd (cc)
+left_of_found s (y ∷ xs) x e = left_of_last s (y ∷ xs) (length (y ∷ xs) - 1) x (omega arith) (sym (get_or_from_slice_get (y ∷ xs) (length (y ∷ xs) - 1) x x e))

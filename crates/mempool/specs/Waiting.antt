@@ -1,18 +1,17 @@
 -- Single transactions that wait.
-use Rattle.std.specs.Prelude.{◌≡◌, ℕ, Bool, true, List, not, ◌&&◌, ◌==◌, nat_le}
-use Rattle.protocol.specs.Values.{Tx}
+use Rattle.std.specs.Prelude.{◌≡◌, ℕ, Bool, true, List, ◌&&◌, ◌==◌, nat_le}
+use Rattle.protocol.specs.Values.{Tx, is_close}
 use Rattle.protocol.specs.Messages.{◌∈◌}
 use Rattle.protocol.specs.Tags.{Setting, tx_is_right}
-use Rattle.protocol.specs.Queues.{Queue, all_waiting, is_close}
-use Rattle.proposal_validity.specs.Standing.{Standings, standing}
+use Rattle.protocol.specs.Queues.{Queue, all_waiting}
 
--- the transaction is the client's close
-abbrev pub is_close_of : ℕ → Tx → Bool
-is_close_of client t = (t.client == client) && is_close t.op
+-- one of the transaction's session that has its number, or a higher one
+abbrev pub is_not_below : Tx → Tx → Bool
+is_not_below t u = (u.session == t.session) && nat_le t.number u.number
 
--- By this frontier the transaction is not delivered, and its client has not closed.
-abbrev pub is_left : Standings → Tx → Bool
-is_left f t = nat_le (standing f t.client).next t.number && not (standing f t.client).closed
+-- the close of the transaction's session
+abbrev pub closes_session_of : Tx → Tx → Bool
+closes_session_of t u = (u.session == t.session) && is_close u.op
 
 -- what waits was found to have the right tag for validator p
 abbrev pub HaveRightTags : Setting → ℕ → List Queue → Type 0

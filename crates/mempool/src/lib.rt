@@ -5,7 +5,7 @@
 //! keeps another one waiting.
 #![tactic(auto)]
 
-ghost use Rattle.std.specs.Prelude.{◌≡◌, ◌++◌, ◌∷◌, ℕ, List, [], true, None, All, nat_eq, IfOk, OnErr, OnOk, drop, map};
+ghost use Rattle.std.specs.Prelude.{◌≡◌, ◌++◌, ◌∷◌, ◌<◌, ◌≤◌, ℕ, List, [], true, None, Some, All, nat_eq, IfOk, OnErr, OnOk, drop, length, map, option_map, slice_get, take};
 ghost use Rattle.std.specs.List.{list_any};
 ghost use Rattle.indexmap.specs.IndexMap.{get};
 ghost use Rattle.transactions.specs.Grammar.{IsTx, IsValue};
@@ -13,12 +13,12 @@ ghost use Rattle.protocol.specs.Tags.{Setting, genuine, tx_is_right};
 ghost use Rattle.protocol.specs.Messages.{◌∈◌};
 ghost use Rattle.protocol.specs.Rings.{IsRingOf};
 ghost use Rattle.protocol.specs.Values.{Item, item};
-ghost use Rattle.protocol.specs.Queues.{all_waiting, drop_delivered, is_closed, pick, queued, waiting_of};
-ghost use Rattle.protocol.specs.Refusals.{first_cause, tx_causes, wanted};
+ghost use Rattle.protocol.specs.Queues.{all_waiting, drop_delivered, going_on, is_above, pick, queued, still_waiting, waiting_of};
+ghost use Rattle.protocol.specs.Refusals.{first_cause, is_ahead, is_closed, is_old, reached, tx_causes};
 ghost use Rattle.proposal_validity.specs.Standing.{IsFrontierOf};
 ghost use Rattle.mempool.specs.Answers.{IsAnswer, IsVerdict};
 ghost use Rattle.mempool.specs.Turns.{in_turn};
-ghost use Rattle.mempool.specs.Waiting.{HaveRightTags, is_close_of, is_left};
+ghost use Rattle.mempool.specs.Waiting.{HaveRightTags, closes_session_of, is_not_below};
 
 mod picking;
 mod seeking;
@@ -29,7 +29,7 @@ use authenticators::KeyRing;
 use indexmap::IndexMap;
 use picking::{copy_each, picked};
 use proposal_validity::Frontier;
-use protocol::{MOST_WAITING, SubmitFault};
+use protocol::{MOST_WAITING, Standing, SubmitFault};
 use seeking::{is_same, numbered};
 use std::alloc::{AllocError, Global};
 use std::collections::VecDeque;
@@ -77,12 +77,14 @@ impl Mempool {
         }
     }
 
-    /// The number that the client's next transaction has to have, 1 to 2^48 + 65: what is delivered
-    /// and what waits come before it.
-    pub fn wanted(&self, client: u16, frontier: &Frontier) -> u64
-        ensures { (d : List Item) → IsFrontierOf d frontier.now → result ≡ wanted d self.now client }
+    /// Where the client stands after what is delivered and what waits: what its next transaction has to be.
+    pub fn reached(&self, client: u16, frontier: &Frontier) -> Standing
+        ensures { (d : List Item) → IsFrontierOf d frontier.now → result ≡ reached d self.now client }
     {
-        frontier.next(client) + self.waiting(client).len() as u64
+        match self.waiting(client).last() {
+            Some(tx) => Standing::left_by(tx),
+            None => frontier.standing(client),
+        }
     }
 
     /// What `submit` would answer, but for want of memory. It takes none.
@@ -126,13 +128,15 @@ impl Mempool {
         })
     }
 
-    /// Drops what is delivered, and all of a client whose close is delivered. It takes no memory.
+    /// Keeps of each queue what is above its client's last delivered transaction, up to the first that doesn't go on
+    /// from there. It takes no memory.
     pub fn drop_delivered(&mut self, frontier: &Frontier)
         ensures { (d : List Item) → IsFrontierOf d frontier.now → self.new ≡ drop_delivered d self.old }
     {
         // A proof knows what is written at a place, but not what is written through `values_mut`.
         for place in 0..self.queues.len() {
-            self.queues[place].retain(|tx| is_left(frontier, tx));
+            let standing = frontier.standing(client_at(&self.queues, place));
+            keep_going_on(standing, &mut self.queues[place]);
         }
     }
 
@@ -162,7 +166,7 @@ impl Mempool {
     fn holds(&self, tx: &Tx) -> bool
         ensures { result ≡ true → tx.now ∈ all_waiting self.now }
     {
-        match numbered(self.waiting(tx.client), tx.number) {
+        match numbered(self.waiting(tx.client), tx.session, tx.number) {
             Some(waiting) => is_same(waiting, tx),
             None => false,
         }
@@ -187,14 +191,17 @@ impl Mempool {
         ensures { (d : List Item) → IsFrontierOf d frontier.now → (c : Setting) (p : ℕ)
             → IsVerdict (first_cause (drop 3 (tx_causes c p d self.now tx.now))) result }
     {
-        let wanted = self.wanted(tx.client, frontier);
-        if tx.number < wanted {
+        if self.is_old(tx, frontier) {
             return Err(SubmitFault::OldNumber);
         }
-        if self.has_closed(tx.client, frontier) {
+        if self.is_closed(tx, frontier) {
             return Err(SubmitFault::Closed);
         }
-        if tx.number > wanted {
+        let reached = self.reached(tx.client, frontier);
+        if is_ahead(reached, tx) {
+            return Err(SubmitFault::SessionAhead);
+        }
+        if !reached.admits(tx) {
             return Err(SubmitFault::Gap);
         }
         if self.waiting(tx.client).len() >= MOST_WAITING {
@@ -203,12 +210,21 @@ impl Mempool {
         Ok(())
     }
 
-    /// Whether the client's close is delivered or waits.
-    fn has_closed(&self, client: u16, frontier: &Frontier) -> bool
-        ensures { (d : List Item) → IsFrontierOf d frontier.now
-            → result ≡ is_closed client (d ++ map item (waiting_of client self.now)) }
+    /// Whether the transaction isn't above the client's last delivered one, or one of its session with its
+    /// number or a higher one waits.
+    fn is_old(&self, tx: &Tx, frontier: &Frontier) -> bool
+        ensures { (d : List Item) → IsFrontierOf d frontier.now → result ≡ is_old d self.now tx.now }
     {
-        frontier.is_closed(client) || has_close_of(client, self.waiting(client))
+        !is_above(frontier.standing(tx.client), tx) || has_not_below(tx, self.waiting(tx.client))
+    }
+
+    /// Whether the close of the transaction's session is delivered or waits.
+    fn is_closed(&self, tx: &Tx, frontier: &Frontier) -> bool
+        ensures { (d : List Item) → IsFrontierOf d frontier.now → result ≡ is_closed d self.now tx.now }
+    {
+        let standing = frontier.standing(tx.client);
+        (tx.session == standing.session && standing.closed)
+            || has_close_of(tx, self.waiting(tx.client))
     }
 
     /// Puts a transaction at the end of its client's queue.
@@ -251,21 +267,76 @@ fn open_queue(
     Ok(())
 }
 
-/// Whether a transaction goes on waiting: it is not delivered, and its client has not closed.
-fn is_left(frontier: &Frontier, tx: &Tx) -> bool
-    ensures { result ≡ is_left frontier.now tx.now }
+/// The client whose queue stands at this place.
+fn client_at(queues: &IndexMap<u16, Vec<Tx>>, place: usize) -> u16
+    requires { place < length queues.now.entries }
+    ensures { option_map (λ e. e.0) (slice_get queues.now.entries place) ≡ Some result }
 {
-    tx.number >= frontier.next(tx.client) && !frontier.is_closed(tx.client)
+    match queues.get_index(place) {
+        Some((client, _)) => *client,
+        None => 0,
+    }
 }
 
-fn has_close_of(client: u16, txs: &[Tx]) -> bool
-    ensures { result ≡ list_any (is_close_of client) txs.now }
+/// Keeps what is above this standing, up to the first that doesn't go on from it.
+fn keep_going_on(standing: Standing, waiting: &mut Vec<Tx>)
+    ensures { waiting.new.items ≡ still_waiting standing waiting.old.items }
 {
-    txs.iter().any(|tx| is_close_of(client, tx))
+    waiting.retain(|tx| is_above(standing, tx));
+    let kept = count_going_on(standing, waiting.as_slice());
+    waiting.truncate(kept);
 }
 
-fn is_close_of(client: u16, tx: &Tx) -> bool
-    ensures { result ≡ is_close_of client tx.now }
+/// How many of these go on from this standing, one after the other.
+fn count_going_on(standing: Standing, waiting: &[Tx]) -> usize
+    ensures items { take result waiting.now ≡ going_on standing waiting.now }
+    ensures within { result ≤ length waiting.now }
 {
-    tx.client == client && matches!(tx.op, Op::Close)
+    let mut reached = standing;
+    for (i, tx) in waiting.iter().enumerate() {
+        if !reached.admits(tx) {
+            return i;
+        }
+        reached = Standing::left_by(tx);
+    }
+    waiting.len()
+}
+
+/// Whether session and number are above those of the client's last transaction.
+fn is_above(standing: Standing, tx: &Tx) -> bool
+    ensures { result ≡ is_above standing tx.now }
+{
+    standing.session < tx.session || (tx.session == standing.session && standing.last < tx.number)
+}
+
+/// Whether the transaction is neither of this session nor, where it is closed, of the next.
+fn is_ahead(reached: Standing, tx: &Tx) -> bool
+    ensures { result ≡ is_ahead reached tx.now }
+{
+    !(tx.session == reached.session
+        || (reached.closed && u64::from(tx.session) == u64::from(reached.session) + 1))
+}
+
+fn has_not_below(tx: &Tx, waiting: &[Tx]) -> bool
+    ensures { result ≡ list_any (is_not_below tx.now) waiting.now }
+{
+    waiting.iter().any(|other| is_not_below(tx, other))
+}
+
+fn is_not_below(tx: &Tx, other: &Tx) -> bool
+    ensures { result ≡ is_not_below tx.now other.now }
+{
+    other.session == tx.session && tx.number <= other.number
+}
+
+fn has_close_of(tx: &Tx, waiting: &[Tx]) -> bool
+    ensures { result ≡ list_any (closes_session_of tx.now) waiting.now }
+{
+    waiting.iter().any(|other| closes_session_of(tx, other))
+}
+
+fn closes_session_of(tx: &Tx, other: &Tx) -> bool
+    ensures { result ≡ closes_session_of tx.now other.now }
+{
+    other.session == tx.session && matches!(other.op, Op::Close)
 }

@@ -1,7 +1,7 @@
 //! As many transactions as a value may have.
 
 ghost use Rattle.std.specs.Prelude.{◌≡◌, IfOk, length, map, min};
-ghost use Rattle.transactions.specs.Grammar.{tags_spelling, tx_spelling};
+ghost use Rattle.transactions.specs.Grammar.{session_spelling, tags_spelling, tx_spelling};
 ghost use Rattle.mempool.specs.Turns.{fitting};
 
 use crate::turns::Turns;
@@ -50,7 +50,14 @@ fn len_of(tx: &Tx) -> usize
     };
     len_of_tags(tx.tags.as_slice())
         .saturating_add(op)
+        .saturating_add(len_of_session(tx.session))
         .saturating_add(11)
+}
+
+fn len_of_session(session: u32) -> usize
+    ensures { result ≡ length (session_spelling session) }
+{
+    if session == 0 { 0 } else { 4 }
 }
 
 fn len_of_tags(tags: &[[u8; 32]]) -> usize

@@ -7,11 +7,15 @@ ghost use Rattle.protocol.specs.Messages.{◌∈◌};
 
 use transactions::{Op, Tx};
 
-/// The transaction of this number, where the queue's numbers go on one by one.
-pub(crate) fn numbered(waiting: &[Tx], number: u64) -> Option<&Tx>
+/// The transaction of this session and number, where it is of the queue's first session and the numbers go on one by
+/// one.
+pub(crate) fn numbered(waiting: &[Tx], session: u32, number: u64) -> Option<&Tx>
     ensures { IfSome result (λ tx. tx.now ∈ waiting.now) }
 {
     let first = waiting.first()?;
+    if session != first.session {
+        return None;
+    }
     let behind = number.checked_sub(first.number)?;
     waiting.get(behind as usize)
 }
@@ -21,6 +25,7 @@ pub(crate) fn is_same(a: &Tx, b: &Tx) -> bool
     ensures { result ≡ tx_eq a.now b.now }
 {
     a.client == b.client
+        && a.session == b.session
         && a.number == b.number
         && is_same_op(&a.op, &b.op)
         && are_same_tags(a.tags.as_slice(), b.tags.as_slice())

@@ -4,7 +4,7 @@ ghost use Rattle.std.specs.Prelude.{◌≡◌, ◌+◌, ◌≤◌, ◌++◌, ◌
 ghost use Rattle.authenticators.specs.Ring.{incoming};
 ghost use Rattle.arrayvec.specs.ArrayVec.{array_vec_len};
 ghost use Rattle.transactions.specs.Fields.{number_bytes};
-ghost use Rattle.transactions.specs.Grammar.{op_spelling, tx_body_spelling};
+ghost use Rattle.transactions.specs.Grammar.{op_spelling, session_spelling, tx_body_spelling};
 ghost use Rattle.protocol.specs.Tags.{Setting, tx_is_right};
 ghost use Rattle.protocol.specs.Rings.{IsRingOf};
 ghost use Rattle.protocol.specs.Queues.{Queue};
@@ -85,8 +85,9 @@ fn body_of(tx: &Tx) -> ArrayVec<u8, LONGEST_TX_BODY>
     ensures { result.items ≡ tx_body_spelling tx.now }
 {
     let mut body = ArrayVec::new();
-    body.push(1);
+    body.push(if tx.session == 0 { 1 } else { 2 });
     put_u16(&mut body, tx.client);
+    put_session(&mut body, tx.session);
     put_u64(&mut body, tx.number);
     put_op(&mut body, &tx.op);
     body
@@ -94,7 +95,7 @@ fn body_of(tx: &Tx) -> ArrayVec<u8, LONGEST_TX_BODY>
 
 fn put_op(body: &mut ArrayVec<u8, LONGEST_TX_BODY>, op: &Op)
     requires short { is_long op.now ≡ false }
-    requires room { array_vec_len body.old ≡ 11 }
+    requires room { array_vec_len body.old ≤ 15 }
     ensures { body.new.items ≡ body.old.items ++ op_spelling op.now }
 {
     match op {
@@ -105,6 +106,27 @@ fn put_op(body: &mut ArrayVec<u8, LONGEST_TX_BODY>, op: &Op)
         }
         Op::Close => body.push(1),
     }
+}
+
+fn put_session(body: &mut ArrayVec<u8, LONGEST_TX_BODY>, session: u32)
+    requires { array_vec_len body.old ≡ 3 }
+    ensures items { body.new.items ≡ body.old.items ++ session_spelling session }
+    ensures len { array_vec_len body.new ≤ 7 }
+{
+    if session > 0 {
+        put_u32(body, session);
+    }
+}
+
+#[tactic(auto, unfolding(transactions::specs::Fields::number_bytes))]
+fn put_u32(body: &mut ArrayVec<u8, LONGEST_TX_BODY>, number: u32)
+    requires { array_vec_len body.old + 4 ≤ LONGEST_TX_BODY }
+    ensures items { body.new.items ≡ body.old.items ++ number_bytes 4 number }
+    ensures len { array_vec_len body.new ≡ array_vec_len body.old + 4 }
+{
+    let mut buf = [0u8; 4];
+    BigEndian::write_u32(&mut buf, number);
+    put(body, &buf);
 }
 
 #[tactic(auto, unfolding(transactions::specs::Fields::number_bytes))]

@@ -48,7 +48,7 @@ precommits_len (p ∷ ps) = do
 unfoldable pub bundle_len : Bundle → Result ℕ Fault
 bundle_len b = do
   value ← value_len b.value
-  ask (nat_le (length b.precommits) 64) TooLong
+  ask (nat_le (length b.precommits) 128) TooLong
   precommits ← precommits_len b.precommits
   Ok (47 + value + precommits)
 

@@ -6,9 +6,9 @@ use Rattle.transactions.specs.Fields.{◌>>=◌, ◌>>◌, ask, Read, byte_at, w
 use Rattle.messages.specs.declared.replies.Reply.{Reply}
 use Rattle.messages.specs.Framing.{content_of}
 
--- Behind 13, a transaction that was not queued, stands why, 1 to 8; behind any other code 0.
+-- Behind 13, a transaction that was not queued, stands why, 1 to 9; behind any other code 0.
 abbrev pub goes_with : ℕ → ℕ → Bool
-goes_with code inner = if code == 13 then nat_le 1 inner && nat_le inner 8 else (inner == 0)
+goes_with code inner = if code == 13 then nat_le 1 inner && nat_le inner 9 else (inner == 0)
 
 -- a byte that passes the test, or this fault
 abbrev pub tested : (ℕ → Bool) → Fault → List ℕ → Read ℕ
@@ -39,7 +39,7 @@ reply_spelling r = 0 ∷ 0 ∷ 0 ∷ 3 ∷ 0x20 ∷ r.code ∷ r.inner ∷ []
 
 pub record IsReply (r : Reply) : Type 0 where
   pub code : r.code ≤ 17
-  pub not_queued : r.code ≡ 13 → (1 ≤ r.inner) × (r.inner ≤ 8)
+  pub not_queued : r.code ≡ 13 → (1 ≤ r.inner) × (r.inner ≤ 9)
   pub other : r.code ≢ 13 → r.inner ≡ 0
 
 -- the grammar: which bytes spell which reply

@@ -53,7 +53,7 @@ pub struct Ask {
 pub struct Precommit {
     /// The number of the validator that precommitted.
     pub sender: u16,
-    /// The tags that stood behind the precommit: 1 to 64.
+    /// The tags that stood behind the precommit: 1 to 128.
     pub tags: Seq<[u8; 32]>,
 }
 
@@ -68,7 +68,7 @@ pub struct Bundle {
     /// The id that the precommits are for.
     pub id: Id,
     pub value: Value,
-    /// At most 64.
+    /// At most 128.
     pub precommits: Seq<Precommit>,
 }
 
@@ -83,7 +83,7 @@ pub enum Body {
     Bundle(Bundle),
 }
 
-/// A body with a tag for each validator: 1 to 64.
+/// A body with a tag for each validator: 1 to 128.
 #[derive(Debug, Drop)]
 pub struct Message {
     pub body: Body,

@@ -67,7 +67,7 @@ fn whole_message(alloc: Global, frame: &[u8]) -> Result<Message, Fault>
 /// The frame is measured before anything in it is read: `Truncated` (1) for fewer than four bytes and
 /// for less content than the length says, `TooLong` (2) for a length above 1,048,576, `BadSpelling`
 /// (3) for bytes after the content. Then come the faults of `read_body`, and behind the body
-/// `Truncated` (1), `TooLong` (2) for a count of tags above 64, and `BadSpelling` (3) for a count of 0
+/// `Truncated` (1), `TooLong` (2) for a count of tags above 128, and `BadSpelling` (3) for a count of 0
 /// and for bytes after the tags; `OutOfMemory` (4).
 pub fn read(alloc: Global, frame: &[u8]) -> Result<Message, Fault>
     // What is read is a message, and spelled so.
@@ -105,7 +105,7 @@ pub fn body_in<'a>(frame: &'a [u8], message: &Message) -> &'a [u8]
 
 #[tactic(auto, unfolding(transactions::specs::Grammar::tags_spelling))]
 fn put_tags(out: &mut Vec<u8>, tags: &[[u8; 32]]) -> Result<(), AllocError>
-    requires { length tags.now ≤ 64 }
+    requires { length tags.now ≤ 128 }
     ensures { OnOk result (out.new.items ≡ out.old.items ++ tags_spelling tags.now) }
 {
     out.push(tags.len() as u8)?;
@@ -117,13 +117,13 @@ fn put_tags(out: &mut Vec<u8>, tags: &[[u8; 32]]) -> Result<(), AllocError>
 
 /// The frame of a body that is spelled already, with these tags.
 ///
-/// A sender spells a body once, makes the tags over its bytes, and hands both here. Between 1 and 64
-/// tags make the frame one that `read` accepts. A body of at most 1,046,527 bytes fits a frame with
-/// 64 tags, and those of `spell_body` are far shorter; so nothing but memory can be refused, which is
+/// A sender spells a body once, makes the tags over its bytes, and hands both here. Between 1 and 128
+/// tags make the frame one that `read` accepts. A body of at most 1,044,479 bytes fits a frame with
+/// 128 tags, and those of `spell_body` are shorter; so nothing but memory can be refused, which is
 /// taken once, of the frame's length.
 pub fn frame_of(alloc: Global, body: &[u8], tags: &[[u8; 32]]) -> Result<Vec<u8>, AllocError>
-    requires few { length tags.now ≤ 64 }
-    requires short { length body.now ≤ 1046527 }
+    requires few { length tags.now ≤ 128 }
+    requires short { length body.now ≤ 1044479 }
     ensures { (message : Message) → body.now ≡ body_spelling message.body → tags.now ≡ message.tags
         → IfOk result (λ frame. frame.items ≡ frame_spelling message) }
 {
@@ -136,12 +136,12 @@ pub fn frame_of(alloc: Global, body: &[u8], tags: &[[u8; 32]]) -> Result<Vec<u8>
 }
 
 /// The length of a frame's content, or the first fault. It needs no look at the frame's limit: a body
-/// has at most 631,312 bytes, and its tags have at most 2,049.
+/// has at most 1,024,720 bytes, and its tags have at most 4,097.
 #[tactic(auto, unfolding(crate::specs::Checking::message_len))]
 fn len_of_message(message: &Message) -> Result<usize, Fault>
     ensures len { result ≡ message_len message.now }
     ensures fits { OnOk result (IsMessage message.now) }
-    ensures small { IfOk result (λ n. n ≤ 633361) }
+    ensures small { IfOk result (λ n. n ≤ 1028817) }
 {
     let body = len_of_body(&message.body)?;
     let tags = len_of_tags(message.tags.as_slice())?;
@@ -163,7 +163,7 @@ fn bytes_of_frame(alloc: Global, message: &Message) -> Result<Vec<u8>, Fault>
 /// The one frame that spells a message, or the first fault: the body's, as `spell_body` has it, and
 /// then the tags'.
 ///
-/// Faults: those of `spell_body`; `TooLong` (2) for more than 64 tags, `BadSpelling` (3) for none;
+/// Faults: those of `spell_body`; `TooLong` (2) for more than 128 tags, `BadSpelling` (3) for none;
 /// `OutOfMemory` (4). Body and tags that have spellings always fit a frame together. Memory is taken
 /// once, of the frame's length.
 pub fn spell(alloc: Global, message: &Message) -> Result<Vec<u8>, Fault>

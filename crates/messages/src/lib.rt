@@ -3,14 +3,15 @@
 //! Numbers are big-endian, and fields stand in order with nothing between them. A message is a body
 //! and the tags behind it. The first byte of a body is its kind.
 //!
-//! - 01, a transaction without its tags, as `transactions` spells it.
+//! - 01 and 02, a transaction without its tags, as `transactions` spells it: within its client's first
+//!   session, and after it.
 //! - 10, a proposal: height, eight bytes; round, four; sender, two; valid round, four, which are 0
 //!   for none and else one more than it; value.
 //! - 11, a prevote, and 12, a precommit: height, eight bytes; round, four; sender, two; then one byte,
 //!   00 for nil, or 01 for a value, whose id follows in 32 bytes.
 //! - 13, an ask: height, eight bytes; sender, two.
 //! - 14, a bundle: height, eight bytes; sender, two; round, four; id, 32; value; the count of its
-//!   precommits, one byte, at most 64, and for each its sender, two bytes, and its tags.
+//!   precommits, one byte, at most 128, and for each its sender, two bytes, and its tags.
 //!
 //! What goes from one party to another is a frame: the length of its content, four bytes, at most
 //! 1,048,576, and that much content. It is measured before anything in it is read. The content is a

@@ -88,17 +88,17 @@ fn len_of_ask(ask: &Ask) -> usize
 fn len_of_precommit(precommit: &Precommit) -> Result<usize, Fault>
     ensures len { result ≡ precommit_len precommit.now }
     ensures fits { OnOk result (IsPrecommit precommit.now) }
-    ensures small { IfOk result (λ n. n ≤ 2051) }
+    ensures small { IfOk result (λ n. n ≤ 4099) }
 {
     let _sender = precommit.sender;
     Ok(2 + len_of_tags(precommit.tags.as_slice())?)
 }
 
 fn len_of_precommits(precommits: &[Precommit]) -> Result<usize, Fault>
-    requires { length precommits.now ≤ 64 }
+    requires { length precommits.now ≤ 128 }
     ensures len { result ≡ precommits_len precommits.now }
     ensures fits { OnOk result (AllByRecursion IsPrecommit precommits.now) }
-    ensures small { IfOk result (λ n. n ≤ 131264) }
+    ensures small { IfOk result (λ n. n ≤ 524672) }
 {
     let mut total = 0usize;
     for precommit in precommits {
@@ -112,7 +112,7 @@ fn len_of_precommits(precommits: &[Precommit]) -> Result<usize, Fault>
 fn len_of_bundle(bundle: &Bundle) -> Result<usize, Fault>
     ensures len { result ≡ bundle_len bundle.now }
     ensures fits { OnOk result (IsBundle bundle.now) }
-    ensures small { IfOk result (λ n. n ≤ 631311) }
+    ensures small { IfOk result (λ n. n ≤ 1024719) }
 {
     let _height = bundle.height;
     let _sender = bundle.sender;

@@ -159,7 +159,11 @@ fn body_behind(alloc: Global, kind: u8, bytes: &[u8]) -> Result<(Body, &[u8]), F
 {
     match kind {
         0x01 => {
-            let (tx, rest) = tx_fields_of(alloc, bytes)?;
+            let (tx, rest) = tx_fields_of(alloc, false, bytes)?;
+            Ok((Body::Tx(tx), rest))
+        }
+        0x02 => {
+            let (tx, rest) = tx_fields_of(alloc, true, bytes)?;
             Ok((Body::Tx(tx), rest))
         }
         0x10 => {

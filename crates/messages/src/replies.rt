@@ -16,7 +16,7 @@ const KIND: u8 = 0x20;
 pub struct Reply {
     /// 0 where it was accepted, else the number of the refusal: 1 to 17.
     pub code: u8,
-    /// With code 13, a transaction that was not queued, why: 1 to 8. With any other code 0.
+    /// With code 13, a transaction that was not queued, why: 1 to 9. With any other code 0.
     pub inner: u8,
 }
 
@@ -35,7 +35,7 @@ fn goes_with(code: u8, inner: u8) -> bool
     ensures { result ≡ goes_with code inner }
 {
     if code == 13 {
-        (1..=8).contains(&inner)
+        (1..=9).contains(&inner)
     } else {
         inner == 0
     }

@@ -84,7 +84,7 @@ fn put_precommit_list(out: &mut Vec<u8>, precommits: &[Precommit]) -> Result<(),
 
 #[tactic(auto, unfolding(crate::specs::Grammar::precommits_spelling))]
 fn put_precommits(out: &mut Vec<u8>, precommits: &[Precommit]) -> Result<(), AllocError>
-    requires few { length precommits.now ≤ 64 }
+    requires few { length precommits.now ≤ 128 }
     requires each { All IsPrecommit precommits.now }
     ensures { OnOk result (out.new.items ≡ out.old.items ++ precommits_spelling precommits.now) }
 {
@@ -163,8 +163,8 @@ pub fn spell_body(alloc: Global, body: &Body) -> Result<Vec<u8>, Fault>
     ensures only { (bytes : List ℕ) → SpellsBody bytes body.now → Gives (λ v. v.items) result (Ok bytes) }
     // Which fault it is.
     ensures exact { Gives (λ v. v.items) result (body_spelled body.now) }
-    // The longest is a bundle of 500,000 bytes of value and 64 precommits with 64 tags each.
-    ensures short { IfOk result (λ bytes. length bytes.items ≤ 631312) }
+    // The longest is a bundle of 500,000 bytes of value and 128 precommits with 128 tags each.
+    ensures short { IfOk result (λ bytes. length bytes.items ≤ 1024720) }
 {
     bytes_of_body(alloc, body)
 }

@@ -20,6 +20,7 @@ pub submit_refused : (cause : Option TxRefusal) (fault : SubmitFault) → IsSubm
 submit_refused cause submits.UnknownClient h = ap (option_map NotQueued) h
 submit_refused cause submits.BadTag h = ap (option_map NotQueued) h
 submit_refused cause submits.OldNumber h = ap (option_map NotQueued) h
+submit_refused cause submits.SessionAhead h = ap (option_map NotQueued) h
 submit_refused cause submits.Gap h = ap (option_map NotQueued) h
 submit_refused cause submits.Closed h = ap (option_map NotQueued) h
 submit_refused cause submits.QueueFull h = ap (option_map NotQueued) h

@@ -62,7 +62,7 @@ stamp_spelled stamps r x i (Some stamp) all lt e =
     let is : stamp.signed.sender ≡ i = eqb-true stamp.signed.sender i (and_parts _ _ f.passes).1 in
     one_precommit IsPrecommit stamp.signed (record { sender = rw is lt; tags = all_there IsStamp stamp stamps all f.there })
 
-kept_spelled : (c : Setting) (p : ℕ) (s : State) (r : ℕ) (x : Id) → All IsStamp s.stamps → 1 ≤ length c.powers → length c.powers ≤ 64 → (i : ℕ) → i < length c.powers → IsOne IsPrecommit (signed_by (context c p) s r x i)
+kept_spelled : (c : Setting) (p : ℕ) (s : State) (r : ℕ) (x : Id) → All IsStamp s.stamps → 1 ≤ length c.powers → length c.powers ≤ 128 → (i : ℕ) → i < length c.powers → IsOne IsPrecommit (signed_by (context c p) s r x i)
 kept_spelled c p s r x all some few i lt =
     cond_both (senders s.votes (is_vote_for r Precommit (Some x)) i) _ [] (IsOne IsPrecommit)
     (λ _. cond_both (i == p) _ _ (IsOne IsPrecommit)
@@ -70,7 +70,7 @@ kept_spelled c p s r x all some few i lt =
     (λ _. stamp_spelled s.stamps r x i (find (is_stamp r x i) s.stamps) all (omega arith) refl))
     (λ _. no_precommit IsPrecommit)
 
-pub certificate_spelled : (c : Setting) (p : ℕ) (s : State) (r : ℕ) (x : Id) → All IsStamp s.stamps → 1 ≤ length c.powers → length c.powers ≤ 64 → (length (certificate (context c p) s r x) ≤ 64) × AllByRecursion IsPrecommit (certificate (context c p) s r x)
+pub certificate_spelled : (c : Setting) (p : ℕ) (s : State) (r : ℕ) (x : Id) → All IsStamp s.stamps → 1 ≤ length c.powers → length c.powers ≤ 128 → (length (certificate (context c p) s r x) ≤ 128) × AllByRecursion IsPrecommit (certificate (context c p) s r x)
 certificate_spelled c p s r x all some few =
     let h = one_each IsPrecommit (signed_by (context c p) s r x) (length c.powers) (kept_spelled c p s r x all some few) in
     (omega (arith, h.0), h.1)
@@ -86,7 +86,7 @@ vouching_spelled : (c : Setting) (p : ℕ) (b : Bundle) → IsBundle b → (i : 
 vouching_spelled c p b h i None e = no_precommit IsPrecommit
 vouching_spelled c p b h i (Some x) e = one_precommit IsPrecommit x (precommit_there IsPrecommit x b.precommits h.each (found_in (is_vouching c p b i) b.precommits x e).there)
 
-pub certified_spelled : (c : Setting) (p : ℕ) (b : Bundle) → IsBundle b → length c.powers ≤ 64 → (length (certified c p b) ≤ 64) × AllByRecursion IsPrecommit (certified c p b)
+pub certified_spelled : (c : Setting) (p : ℕ) (b : Bundle) → IsBundle b → length c.powers ≤ 128 → (length (certified c p b) ≤ 128) × AllByRecursion IsPrecommit (certified c p b)
 unfolding certified
 certified_spelled c p b h few =
     let k = one_each IsPrecommit (λ i. option_to_list (find (is_vouching c p b i) b.precommits)) (length c.powers) (λ i lt. vouching_spelled c p b h i (find (is_vouching c p b i) b.precommits) refl) in

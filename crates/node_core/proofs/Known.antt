@@ -7,7 +7,7 @@ use Rattle.node_core.proofs.Keys.{is_ring_of}
 pub known : (core : Core) → IsSound core → IsRingOf (setting_of core) core.machine.me core.ring
 known core s = is_ring_of core.machine.powers core.machine.me core.ring s.owner s.count s.whole
 
-pub few_setting : (core : Core) → IsSound core → length (setting_of core).powers ≤ 64
+pub few_setting : (core : Core) → IsSound core → length (setting_of core).powers ≤ 128
 unfolding setting
 few_setting core s = s.few
 

@@ -20,10 +20,16 @@ use Rattle.vote_journal.specs.Layout.{IsWhole as IsWholeJournal}
 use Rattle.vote_journal.specs.Laws.{IsLawful}
 use Rattle.vote_journal.specs.Kept.{said, journal_of, IsToldBy, AreReplayable}
 use Rattle.vote_journal.proofs.Kept.{told, lawful_opened, kept_holds}
+use Rattle.vote_journal.specs.Order.{AreLawful}
+use Rattle.vote_journal.proofs.Layouts.{lawful_records}
 use Rattle.vote_journal.proofs.Stops.{one_journal, whole_is_journal}
 use Rattle.node_core.specs.Core.{Stands, IsSaid, IsSound, setting}
 use Rattle.node_core.specs.Opening.{IsRead, running, unfired}
 use Rattle.node_core.proofs.Firings.{act_own}
+
+-- the records of a whole journal are in order
+lawful_read : (powers : List ℕ) (me : ℕ) (bytes : List ℕ) (rs : List Record) → IsWholeJournal powers me bytes rs → AreLawful powers me [] rs
+lawful_read powers me bytes rs whole = subst (AreLawful powers me []) whole.records (lawful_records powers me [] whole.entries whole.lawful)
 
 -- ---- what is read back has a spelling
 
@@ -88,9 +94,9 @@ module _ (powers : List ℕ) (me : ℕ) (bytes : List ℕ) (decisions : List Bun
 
   lawful_at : (ring : Ring) → IsLawful (setting powers me ring) me (opened me journal)
   unfolding setting
-  lawful_at ring = lawful_opened (setting powers me ring) me read.records read.whole.lawful
+  lawful_at ring = lawful_opened (setting powers me ring) me read.records (lawful_read powers me bytes read.records read.whole)
 
-  sound_with : (ring : Ring) (genuine : List Bool) (failures : ℕ) → ring.me ≡ Validator me → ring.count ≡ length powers → me < length powers → IsWhole ring → length powers ≤ 64
+  sound_with : (ring : Ring) (genuine : List Bool) (failures : ℕ) → ring.me ≡ Validator me → ring.count ≡ length powers → me < length powers → IsWhole ring → length powers ≤ 128
       → AreReplayable me decisions own → Agrees (context (setting powers me ring) me) (machine_with genuine)
       → IsSound (unfired (machine_with genuine) ring decisions (bodies_by me own) (running me bytes failures))
   unfolding restart
@@ -126,7 +132,7 @@ module _ (powers : List ℕ) (me : ℕ) (bytes : List ℕ) (decisions : List Bun
       subst (λ (x : Machine). Stands (opened me (reverse rs)) (unfired x ring decisions bodies (running me bytes failures))) (same_machine ring m a is)
       (subst (λ (x : List Body). Stands (opened me (reverse rs)) (unfired (machine_with m.genuine) ring decisions x (running me bytes failures))) (sym said_is) (stands_with ring m.genuine failures rs whole))
 
-  pub back_sound : (ring : Ring) (m : Machine) (bodies : List Body) (failures : ℕ) → ring.me ≡ Validator me → ring.count ≡ length powers → me < length powers → IsWhole ring → length powers ≤ 64
+  pub back_sound : (ring : Ring) (m : Machine) (bodies : List Body) (failures : ℕ) → ring.me ≡ Validator me → ring.count ≡ length powers → me < length powers → IsWhole ring → length powers ≤ 128
       → AreReplayable me decisions own → Agrees (context (setting powers me ring) me) m → m.state ≡ restart me (journal_of decisions own) → bodies ≡ bodies_by me own
       → IsSound (unfired m ring decisions bodies (running me bytes failures))
   back_sound ring m bodies failures owner count number whole few r a is said_is =
@@ -138,7 +144,7 @@ module _ (powers : List ℕ) (me : ℕ) (bytes : List ℕ) (decisions : List Bun
 -- ---- what an opening kept can be replayed
 
 pub replayable : (powers : List ℕ) (me : ℕ) (bytes : List ℕ) (decisions : List Bundle) (own : List OwnMessage) → IsRead powers me bytes decisions own → AreReplayable me decisions own
-replayable powers me bytes decisions own read = (kept_holds me read.records decisions own read.keeps).1 powers read.whole.lawful
+replayable powers me bytes decisions own read = (kept_holds me read.records decisions own read.keeps).1 powers (lawful_read powers me bytes read.records read.whole)
 
 pub placed : (powers : List ℕ) (me : ℕ) (bytes : List ℕ) (decisions : List Bundle) (own : List OwnMessage) → IsRead powers me bytes decisions own → IsInPlace decisions
 placed powers me bytes decisions own read = in_place decisions (replayable powers me bytes decisions own read).heights

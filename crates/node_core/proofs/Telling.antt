@@ -50,6 +50,7 @@ pub submit_other : (e : SubmitFault) → of_submit e ≢ answers.JournalFailed
 submit_other submits.UnknownClient e = cc
 submit_other submits.BadTag e = cc
 submit_other submits.OldNumber e = cc
+submit_other submits.SessionAhead e = cc
 submit_other submits.Gap e = cc
 submit_other submits.Closed e = cc
 submit_other submits.QueueFull e = cc

@@ -115,7 +115,7 @@ pub record IsSound (core : Core) : Type 0 where
   pub count : core.ring.count ≡ length core.machine.powers
   pub me : core.machine.me < length core.machine.powers
   pub whole : IsWhole core.ring
-  pub few : length core.machine.powers ≤ 64
+  pub few : length core.machine.powers ≤ 128
   pub agrees : Agrees (context_of core) core.machine
   pub waiting : (t : Tx) → t ∈ all_waiting core.queues → IsGood (setting_of core) core.machine.me t
   pub stamps : All IsStamp core.machine.state.stamps

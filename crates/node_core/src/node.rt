@@ -86,7 +86,7 @@ impl<S: Store + Drop> NodeCore<S> {
         ensures empty { (result.outgoing ≡ []) × (result.scheduled ≡ []) × (result.fired ≡ 0) }
     {
         let Config { me, powers } = config;
-        // The two counts ensure that there are 2 to 64 validators, of whom the ring has the keys.
+        // The two counts ensure that there are 2 to 128 validators, of whom the ring has the keys.
         let _ = ring.count();
         let _ = powers.count();
         NodeCore {

@@ -148,7 +148,7 @@ impl<S: Store + Drop> NodeCore<S> {
         ensures back { IfErr result (λ e. e.value ≡ opened) }
     {
         let Config { me, powers } = config;
-        // The two counts ensure that there are 2 to 64 validators, of whom the ring has the keys.
+        // The two counts ensure that there are 2 to 128 validators, of whom the ring has the keys.
         let _ = ring.count();
         let _ = powers.count();
         let state = State::new(alloc, powers, me);

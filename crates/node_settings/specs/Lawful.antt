@@ -26,7 +26,7 @@ IsLawfulSending (Lines file) = Unit {0}
 pub record IsLawfulSend (s : SendSettings) : Type 0 where
   pub client : s.client ≤ 1023
   pub several : 2 ≤ s.validators
-  pub few : s.validators ≤ 64
+  pub few : s.validators ≤ 128
   pub first : 1 ≤ s.number
   pub last : s.number ≤ 2 ^ 48
   pub sending : IsLawfulSending s.sending
@@ -34,7 +34,7 @@ pub record IsLawfulSend (s : SendSettings) : Type 0 where
 -- of the parties whose key files are made: as many as a cluster may have
 pub record IsLawfulKeys (s : KeysSettings) : Type 0 where
   pub several : 2 ≤ s.validators
-  pub few : s.validators ≤ 64
+  pub few : s.validators ≤ 128
   pub clients : s.clients ≤ 1024
 
 abbrev pub IsLawful : Invocation → Type 0

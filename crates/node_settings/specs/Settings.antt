@@ -130,7 +130,7 @@ level_of rows = level_or_info (first_of (codes "log") rows)
 
 unfoldable pub run_of : List Row → Result Run SettingsFault
 run_of rows = do
-  me ← number_given 0 63 (codes "id") rows
+  me ← number_given 0 127 (codes "id") rows
   key_file ← given (codes "keys") rows
   journal ← given (codes "journal") rows
   start ← number_given 0 86400000 (codes "start") rows
@@ -146,7 +146,7 @@ run_of rows = do
 
 -- how many validators there are
 unfoldable pub validators_of : List Row → Result ℕ SettingsFault
-validators_of rows = number_given 2 64 (codes "validators") rows
+validators_of rows = number_given 2 128 (codes "validators") rows
 
 -- what is sent: one of `--data`, `--close` and `--file` is there
 abbrev pub sent_of : Option Text → Bool → Option Text → Result Sent SettingsFault

@@ -31,7 +31,7 @@ static RUN: [WordOption; 11] = [
         name: "powers",
         is_required: true,
         value: "P,P,..",
-        help: "The power of each validator, 2 to 64 of them",
+        help: "The power of each validator, 2 to 128 of them",
     },
     WordOption {
         name: "keys",
@@ -100,7 +100,7 @@ static SEND: [WordOption; 7] = [
         name: "validators",
         is_required: true,
         value: "N",
-        help: "How many validators there are, 2 to 64",
+        help: "How many validators there are, 2 to 128",
     },
     WordOption {
         name: "keys",
@@ -139,7 +139,7 @@ static KEYS: [WordOption; 3] = [
         name: "validators",
         is_required: true,
         value: "N",
-        help: "How many validators there are, 2 to 64",
+        help: "How many validators there are, 2 to 128",
     },
     WordOption {
         name: "clients",

@@ -103,7 +103,7 @@ pub enum Sending<'a> {
 pub struct SendSettings<'a> {
     /// The client's number, at most 1,023.
     pub client: u16,
-    /// How many validators there are, 2 to 64.
+    /// How many validators there are, 2 to 128.
     pub validators: u16,
     /// The key file's name.
     pub keys: &'a str,
@@ -118,7 +118,7 @@ pub struct SendSettings<'a> {
 /// The settings of `tmnode keys`.
 #[derive(Debug, Drop)]
 pub struct KeysSettings<'a> {
-    /// How many validators there are, 2 to 64.
+    /// How many validators there are, 2 to 128.
     pub validators: u16,
     /// How many clients there are, at most 1,024.
     pub clients: u16,
@@ -269,11 +269,11 @@ fn cluster<'a>(
     }
 }
 
-/// How many validators there are, 2 to 64.
+/// How many validators there are, 2 to 128.
 #[tactic(auto, unfolding(crate::specs::Settings::validators_of))]
 fn validators_of(found: &ArgMatches<'_>) -> Result<u16, SettingsFault>
     ensures asked { result ≡ validators_of (rows_of (found_of found.now)) }
-    ensures lawful { IfOk result (λ count. (2 ≤ count) × (count ≤ 64)) }
+    ensures lawful { IfOk result (λ count. (2 ≤ count) × (count ≤ 128)) }
 {
     Ok(number(found, "validators", 2, MOST_VALIDATORS as u64)? as u16)
 }

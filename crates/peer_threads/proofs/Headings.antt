@@ -1,7 +1,8 @@
 -- What a message's frame tells at its front.
-use Rattle.std.proofs.Common.{◌≡◌, ℕ, false, ◌^◌, ◌<◌, List, ◌∷◌, ◌++◌, length, Ok, refl, ap, ◌∙◌, append_assoc, arith}
+use Rattle.std.proofs.Common.{◌≡◌, ℕ, Bool, true, false, ◌^◌, ◌<◌, List, ◌∷◌, ◌++◌, length, Ok, Err, refl, ap, ◌∙◌, append_assoc, arith}
 use Rattle.transactions.specs.Fields.{number_bytes, number_at, byte_at}
-use Rattle.transactions.specs.Grammar.{value_spelling, tags_spelling}
+use Rattle.transactions.specs.declared.fault.Fault.TheVariants.{BadKind}
+use Rattle.transactions.specs.Grammar.{kind_byte, is_later, tx_fields_spelling, value_spelling, tags_spelling}
 use Rattle.transactions.proofs.Formats.{u16_format, u32_format, u64_format}
 use Rattle.messages.specs.declared.body.Step.{Step}
 use Rattle.messages.specs.declared.body.Step.TheVariants as steps
@@ -11,7 +12,7 @@ use Rattle.messages.specs.Grammar.{valid_round_code, content_spelling, proposal_
 use Rattle.messages.specs.Framing.{message_spelling, frame_spelling}
 use Rattle.peer_threads.specs.declared.heading.Kind.{Kind}
 use Rattle.peer_threads.specs.declared.heading.Kind.TheVariants.{Proposal, Ask, Bundle}
-use Rattle.peer_threads.specs.Heading.{kind_of, vote_kind, behind_round, sender_at, heading_in, heading_at, heading_of, is_one, is_transaction, HeadingsLaw}
+use Rattle.peer_threads.specs.Heading.{kind_of, vote_kind, behind_round, sender_at, heading_in, heading_at, heading_of, is_of_client, is_transaction, HeadingsLaw}
 
 -- the sender behind a round
 sender_behind : (round sender : ℕ) (text : List ℕ) → round < 256 ^ 4 → sender < 256 ^ 2 → behind_round (number_bytes 4 round ++ (number_bytes 2 sender ++ text)) ≡ Ok (sender, text)
@@ -31,9 +32,19 @@ sender_of_vote : (s : Step) (text : List ℕ) → sender_at (vote_kind s) text �
 sender_of_vote steps.Prevote text = refl
 sender_of_vote steps.Precommit text = refl
 
+-- a transaction, of its client's first session or of a later one, has no heading
+none_told : (later : Bool) (text : List ℕ) → heading_in (kind_byte later ∷ text) ≡ Err BadKind
+unfolding heading_in
+none_told true text = refl
+none_told false text = refl
+
+tx_is_one : (later : Bool) (text : List ℕ) → is_of_client (byte_at (kind_byte later ∷ text)) ≡ true
+tx_is_one true text = refl
+tx_is_one false text = refl
+
 body_told : (b : Body) (rest : List ℕ) → IsBody b → heading_in (body_spelling b ++ rest) ≡ heading_of b
 unfolding heading_in proposal_spelling vote_spelling ask_spelling bundle_spelling bundle_head_spelling
-body_told (kinds.Tx tx) rest h = refl
+body_told (kinds.Tx tx) rest h = none_told (is_later tx.session) (tx_fields_spelling tx ++ rest)
 body_told (kinds.Proposal p) rest h =
     let tail = (number_bytes 4 (valid_round_code p.valid_round) ++ value_spelling p.value) ++ rest in
     let same : (number_bytes 8 p.height ++ (number_bytes 4 p.round ++ (number_bytes 2 p.sender ++ (number_bytes 4 (valid_round_code p.valid_round) ++ value_spelling p.value)))) ++ rest ≡ number_bytes 8 p.height ++ (number_bytes 4 p.round ++ (number_bytes 2 p.sender ++ tail)) = simp (append_assoc) in
@@ -51,12 +62,12 @@ body_told (kinds.Bundle b) rest h =
     let same : ((number_bytes 8 b.height ++ (number_bytes 2 b.sender ++ (number_bytes 4 b.round ++ b.id))) ++ (value_spelling b.value ++ precommits_spelling b.precommits)) ++ rest ≡ number_bytes 8 b.height ++ (number_bytes 2 b.sender ++ tail) = simp (append_assoc) in
     ap (λ (w : List ℕ). heading_in (0x14 ∷ w)) same ∙ told 0x14 b.height b.sender Bundle (number_bytes 2 b.sender ++ tail) tail refl h.height (u16_format.again b.sender tail h.sender)
 
-vote_is_none : (s : Step) (rest : List ℕ) → is_one (byte_at (vote_byte s ∷ rest)) ≡ false
+vote_is_none : (s : Step) (rest : List ℕ) → is_of_client (byte_at (vote_byte s ∷ rest)) ≡ false
 vote_is_none steps.Prevote rest = refl
 vote_is_none steps.Precommit rest = refl
 
-first_byte : (b : Body) (rest : List ℕ) → is_one (byte_at (body_spelling b ++ rest)) ≡ is_transaction b
-first_byte (kinds.Tx tx) rest = refl
+first_byte : (b : Body) (rest : List ℕ) → is_of_client (byte_at (body_spelling b ++ rest)) ≡ is_transaction b
+first_byte (kinds.Tx tx) rest = tx_is_one (is_later tx.session) (tx_fields_spelling tx ++ rest)
 first_byte (kinds.Proposal p) rest = refl
 first_byte (kinds.Vote v) rest = vote_is_none v.step (vote_spelling v ++ rest)
 first_byte (kinds.Ask a) rest = refl

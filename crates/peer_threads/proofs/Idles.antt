@@ -3,7 +3,7 @@ use Rattle.std.proofs.Common.{◌≡◌, ℕ, Bool, true, false, ◌&&◌, ◌==
 use Rattle.std.specs.List.{flat_map}
 use Rattle.std.specs.Result.{result_ok}
 use Rattle.transactions.specs.Fields.{number_bytes, number_at}
-use Rattle.transactions.specs.Grammar.{value_spelling, tx_spelling, tags_spelling}
+use Rattle.transactions.specs.Grammar.{kind_byte, is_later, tx_fields_spelling, value_spelling, tx_spelling, tags_spelling}
 use Rattle.transactions.proofs.Formats.{u16_format, u32_format, u64_format}
 use Rattle.messages.specs.declared.body.Step.{Step}
 use Rattle.messages.specs.declared.body.Step.TheVariants as steps
@@ -34,9 +34,15 @@ unfolding idle_in
 vote_is_none steps.Prevote text = refl
 vote_is_none steps.Precommit text = refl
 
+-- a transaction, of its client's first session or of a later one, is no proposal
+tx_is_none : (later : Bool) (text : List ℕ) → result_ok (idle_in (kind_byte later ∷ text)) ≡ idle_height (kinds.Ask (record { height = 0; sender = 0 }))
+unfolding idle_in
+tx_is_none true text = refl
+tx_is_none false text = refl
+
 body_told : (b : Body) (rest : List ℕ) → IsBody b → result_ok (idle_in (body_spelling b ++ rest)) ≡ idle_height b
 unfolding idle_in
-body_told (kinds.Tx tx) rest h = refl
+body_told (kinds.Tx tx) rest h = tx_is_none (is_later tx.session) (tx_fields_spelling tx ++ rest)
 body_told (kinds.Proposal p) rest h = ap result_ok (rest_of p rest h) ∙ given_as_some (p.round == 0 && length p.value.txs == 0) p.height
 body_told (kinds.Vote v) rest h = vote_is_none v.step (vote_spelling v ++ rest)
 body_told (kinds.Ask a) rest h = refl

@@ -1,5 +1,5 @@
 -- What stands at the front of a frame.
-use Rattle.std.specs.Prelude.{◌≡◌, ℕ, List, Bool, true, false, Result, Ok, Err, ◌==◌, if◌then◌else◌}
+use Rattle.std.specs.Prelude.{◌≡◌, ℕ, List, Bool, true, false, Result, Ok, Err, ◌==◌, ◌||◌, if◌then◌else◌}
 use Rattle.transactions.specs.declared.fault.Fault.{Fault}
 use Rattle.transactions.specs.declared.fault.Fault.TheVariants.{BadKind}
 use Rattle.transactions.specs.Fields.{◌>>=◌, byte_at, number_at, Read}
@@ -66,12 +66,12 @@ heading_of (kinds.Ask a) = Ok (record { kind = Ask; height = a.height; sender = 
 heading_of (kinds.Bundle b) = Ok (record { kind = Bundle; height = b.height; sender = b.sender })
 
 -- whether the kind, which stands behind the length, is 01
-abbrev pub is_one : Result (ℕ × List ℕ) Fault → Bool
-is_one (Ok byte) = byte.0 == 1
-is_one (Err e) = false
+abbrev pub is_of_client : Result (ℕ × List ℕ) Fault → Bool
+is_of_client (Ok byte) = (byte.0 == 1) || (byte.0 == 2)
+is_of_client (Err e) = false
 
 abbrev pub is_transaction_at : Result (ℕ × List ℕ) Fault → Bool
-is_transaction_at (Ok length) = is_one (byte_at length.1)
+is_transaction_at (Ok length) = is_of_client (byte_at length.1)
 is_transaction_at (Err e) = false
 
 abbrev pub is_transaction : Body → Bool

@@ -26,14 +26,14 @@ pub struct Heading {
     pub sender: u16,
 }
 
-/// Whether the frame brings a transaction: its kind, which stands behind its length, is 01.
+/// Whether the frame brings a transaction: its kind, which stands behind its length, is 01 or 02.
 pub fn is_transaction(frame: &[u8]) -> bool
     ensures { result ≡ is_transaction_at (number_at 4 frame.now) }
 {
     let Ok((_, content)) = u32_at(frame) else {
         return false;
     };
-    matches!(u8_at(content), Ok((1, _)))
+    matches!(u8_at(content), Ok((1 | 2, _)))
 }
 
 /// The kind that a byte stands for, or `BadKind`.

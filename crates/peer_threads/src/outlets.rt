@@ -54,7 +54,7 @@ struct Outlet {
     halves: u8,
 }
 
-/// The links that have a thread, at most 128.
+/// The links that have a thread, at most 384: two for each other validator, and the rest for clients.
 #[derive(Drop)]
 pub(crate) struct Outlets {
     alloc: Global,

@@ -41,7 +41,7 @@ pub struct Pace {
 /// sends what its queue holds. What the node releases goes to every link, and a reply to the link that
 /// the transaction came on. At the end what was released by then is sent first. A link that ends,
 /// fails, or names a length above 1,048,576 is closed and logged, and nothing of a frame that isn't
-/// whole is handed in; so is one more than 128.
+/// whole is handed in; so is one more than 384.
 pub fn serve<
     S: Store + Drop + Send,
     J: Node + Send + Sync,

@@ -7,7 +7,7 @@
 
 ghost use Rattle.std.specs.Prelude.{◌≡◌, ◌<◌, ◌≤◌, ◌^◌, ◌*◌, ◌==◌, ℕ, Bool, nat_lt, length, slice_get, slice_index_or, false, IfOk};
 ghost use Rattle.std.specs.List.{list_any};
-ghost use Rattle.powers.specs.Power.{power, total, is_quorum, is_weak, proposer, ArePowers, QuorumsShare, QuorumsShareHonest};
+ghost use Rattle.powers.specs.Power.{power, total, is_quorum, is_weak, first_above, proposer, ArePowers, QuorumsShare, QuorumsShareHonest, TurnsByPower, EqualPowersInTurn};
 ghost use Rattle.powers.specs.Admission.{admitted};
 ghost use Rattle.powers.specs.Numbers.{number_of};
 
@@ -15,7 +15,7 @@ use std::alloc::{AllocError, Global};
 use std::marker::Model;
 
 /// The greatest number of validators.
-pub const MOST_VALIDATORS: usize = 64;
+pub const MOST_VALIDATORS: usize = 128;
 
 /// Why a list of powers is refused: the first cause in this order.
 #[derive(Clone, Copy, Debug, PartialEq, Eq, thiserror::Error)]
@@ -23,8 +23,8 @@ pub enum PowersFault {
     /// 1: the list has no validator.
     #[error("there is no validator")]
     Empty = 1,
-    /// 2: the list has more than 64 validators.
-    #[error("there are more than 64 validators")]
+    /// 2: the list has more than 128 validators.
+    #[error("there are more than 128 validators")]
     TooMany = 2,
     /// 3: a validator has no power.
     #[error("a validator has no power")]
@@ -43,7 +43,7 @@ impl PowersFault {
     }
 }
 
-/// The powers of 2 to 64 validators, none of which is a quorum alone. The validators are numbered
+/// The powers of 2 to 128 validators, none of which is a quorum alone. The validators are numbered
 /// from 0 in the order of the list, and each has a power from 1 to 2^32 - 1.
 #[derive(Debug, Drop)]
 pub struct Powers {
@@ -59,7 +59,7 @@ impl Model for Powers {
 
     ghost view = { λ a. a.each.items };
 
-    ghost invariant = { λ a. ArePowers a.each.items × (a.sum ≡ total a.each.items) × (a.sum < 2 ^ 38) };
+    ghost invariant = { λ a. ArePowers a.each.items × (a.sum ≡ total a.each.items) × (a.sum < 2 ^ 39) };
 }
 
 impl Powers {
@@ -96,7 +96,7 @@ impl Powers {
         })
     }
 
-    /// How many validators there are, from 2 to 64.
+    /// How many validators there are, from 2 to 128.
     pub fn count(&self) -> u16
         ensures count { result ≡ length self.now }
         ensures lawful { ArePowers self.now }
@@ -104,10 +104,10 @@ impl Powers {
         self.each.len() as u16
     }
 
-    /// The power of all validators together, below 2^38.
+    /// The power of all validators together, below 2^39.
     pub fn total(&self) -> u64
         ensures total { result ≡ total self.now }
-        ensures small { result < 2 ^ 38 }
+        ensures small { result < 2 ^ 39 }
     {
         self.sum
     }
@@ -139,20 +139,22 @@ impl Powers {
 
     /// The power of a set of validators, by a mark for each member. Marks past the last validator count nothing.
     pub fn power_of_set(&self, members: &[bool; MOST_VALIDATORS]) -> u64
-        ensures power { (set : ℕ → Bool) → ((i : ℕ) → i < 64 → slice_index_or members.now i false ≡ set i) → result ≡ power self.now set }
+        ensures power { (set : ℕ → Bool) → ((i : ℕ) → i < 128 → slice_index_or members.now i false ≡ set i) → result ≡ power self.now set }
         ensures within { result ≤ total self.now }
     {
         set_power(self.each.as_slice(), members)
     }
 
-    /// The validator that proposes in a round of a height: each in turn, whatever its power
-    /// (`proposer(h, round)` of line 14).
+    /// The validator that proposes in a round of a height (`proposer(h, round)` of line 14): of as many
+    /// rounds or heights in a row as there is power in all, each proposes in as many as it has power
+    /// (`turns_by_power`).
     #[tactic(auto, unfolding(crate::specs::Power::proposer))]
     pub fn proposer(&self, height: u64, round: u32) -> u16
         ensures turn { result ≡ proposer self.now height round }
         ensures within { result < length self.now }
     {
-        ((u128::from(height) + u128::from(round)) % self.each.len() as u128) as u16
+        let turn = (u128::from(height) + u128::from(round)) % u128::from(self.sum);
+        first_above(self.each.as_slice(), turn as u64)
     }
 }
 
@@ -163,7 +165,7 @@ fn has_zero(powers: &[u32]) -> bool
 }
 
 fn has_dominant(powers: &[u32], total: u64) -> bool
-    requires { total < 2 ^ 38 }
+    requires { total < 2 ^ 39 }
     ensures { result ≡ list_any (λ p. nat_lt (2 * total) (3 * p)) powers.now }
 {
     powers.iter().any(|power| 3 * u64::from(*power) > 2 * total)
@@ -176,7 +178,7 @@ fn is_member(members: &[bool], validator: usize) -> bool
 }
 
 fn set_power(powers: &[u32], members: &[bool]) -> u64
-    requires { total powers.now < 2 ^ 38 }
+    requires { total powers.now < 2 ^ 39 }
     ensures power { result ≡ power powers.now (λ v. slice_index_or members.now v false) }
     ensures within { result ≤ total powers.now }
 {
@@ -190,15 +192,30 @@ fn set_power(powers: &[u32], members: &[bool]) -> u64
 }
 
 fn total_of(powers: &[u32]) -> u64
-    requires { length powers.now ≤ 64 }
+    requires { length powers.now ≤ 128 }
     ensures total { result ≡ total powers.now }
-    ensures small { result < 2 ^ 38 }
+    ensures small { result < 2 ^ 39 }
 {
     let mut total = 0u64;
     for power in powers {
         total += u64::from(*power);
     }
     total
+}
+
+/// The first validator whose power and that of those before it are more than this; where the total isn't,
+/// how many validators there are.
+fn first_above(powers: &[u32], mut power: u64) -> u16
+    requires { length powers.now ≤ 128 }
+    ensures { result ≡ first_above powers.now power }
+{
+    for (validator, own) in powers.iter().enumerate() {
+        if power < u64::from(*own) {
+            return validator as u16;
+        }
+        power -= u64::from(*own);
+    }
+    powers.len() as u16
 }
 
 /// Two quorums have a weak quorum in common.
@@ -209,4 +226,15 @@ pub fn quorums_share()
 /// Where less than a third of the power lies, two quorums share a validator that does not lie.
 pub fn quorums_share_honest()
     ensures { QuorumsShareHonest }
+{}
+
+/// Among as many heights or rounds in a row as there is power in all, a validator proposes in as many as
+/// it has power.
+pub fn turns_by_power()
+    ensures { TurnsByPower }
+{}
+
+/// Validators of power 1 propose one after the other.
+pub fn equal_powers_in_turn()
+    ensures { EqualPowersInTurn }
 {}

@@ -6,54 +6,35 @@ use Rattle.std.proofs.lemmas.Bool.{and_parts, and_from, not-true, not_from_false
 use Rattle.std.proofs.lemmas.List.{append-nil, map-append, take_more, take-append-drop}
 use Rattle.std.proofs.lemmas.List.Folds.{list_any-append}
 use Rattle.transactions.specs.Grammar.{IsValue}
-use Rattle.protocol.specs.Values.{Item, Tx, Value, item, items, of, fifo, valid, keeps_limits}
-use Rattle.protocol.specs.Queues.{is_close, is_closed}
-use Rattle.proposal_validity.specs.Standing.{Standing, Standings, standing, left_behind, IsFrontierOf}
-use Rattle.proposal_validity.specs.Course.{left_by, fits, after, all_fit, items_of}
+use Rattle.protocol.specs.declared.standing.Standing.{Standing}
+use Rattle.protocol.specs.Values.{Item, Tx, Value, item, items, of, fresh, fits, left_by, fifo, valid, keeps_limits}
+use Rattle.protocol.specs.Queues.{standing_of}
+use Rattle.proposal_validity.specs.Standing.{Standings, standing, IsFrontierOf}
+use Rattle.proposal_validity.specs.Course.{after, all_fit, items_of}
 use Rattle.proposal_validity.specs.Laws.{follows, ValidLaw, FrontierLaw}
-use Rattle.proposal_validity.proofs.Turns.{of_own, of_other, fifo_more, fifo_middle}
+use Rattle.proposal_validity.proofs.Turns.{left_last, of_own, of_other, fifo_more, fifo_middle}
 
 -- the list keeps the clients' order, and these are the standings that it leaves behind
 record Agrees (d : List Item) (s : ℕ → Standing) : Type 0 where
   order : fifo d ≡ true
-  each : (client : ℕ) → s client ≡ left_behind d client
+  each : (client : ℕ) → s client ≡ standing_of client d
 
 -- ---- one item
 
-or_false : (b c : Bool) → b ≡ false → (b || (c || false)) ≡ c
-or_false b true e = rw e refl
-or_false b false e = rw e refl
+left_own : (d : List Item) (t : Item) (client : ℕ) → (t.client == client) ≡ true → left_by t ≡ standing_of client (d ++ t ∷ [])
+left_own d t client y = rw (of_own client d t [] y) (sym (left_last fresh (of client d) t))
 
-fit_parts : (d : List Item) (t : Item) → fits (left_behind d t.client) t ≡ true → (t.number ≡ suc (length (of t.client d))) × (is_closed t.client d ≡ false)
-fit_parts d t h = let k = and_parts _ _ h in (eqb-true _ _ k.0, not-true _ k.1)
-
-fit_middle : (d : List Item) (t : Item) (e : List Item) → fifo (d ++ t ∷ e) ≡ true → fits (left_behind d t.client) t ≡ true
-fit_middle d t e f = let k = fifo_middle d t e f in and_from _ _ (eq-eqb _ _ k.0) (not_from_false _ k.1)
-
-left_own : (d : List Item) (t : Item) (client : ℕ) → (t.client == client) ≡ true → fits (left_behind d t.client) t ≡ true → left_by t ≡ left_behind (d ++ t ∷ []) client
-left_own d t client y h =
-    let same : t.client ≡ client = eqb-true _ _ y in
-    let k = fit_parts d t h in
-    let number : t.number ≡ suc (length (of client d)) = subst (λ n. t.number ≡ suc (length (of n d))) same k.0 in
-    let unclosed : is_closed client d ≡ false = subst (λ n. is_closed n d ≡ false) same k.1 in
-    let longer : length (of client d ++ t ∷ []) ≡ suc (length (of client d)) = omega (arith, length-append (of client d) (t ∷ [])) in
-    let closes : list_any (λ (u : Item). is_close u.op) (of client d ++ t ∷ []) ≡ is_close t.op = list_any-append (λ (u : Item). is_close u.op) (of client d) (t ∷ []) ∙ or_false (is_closed client d) (is_close t.op) unclosed in
-    rw (of_own client d t [] y) (rw (longer, closes, number, add-one) refl)
-
-left_other : (d : List Item) (t : Item) (client : ℕ) → (t.client == client) ≡ false → left_behind d client ≡ left_behind (d ++ t ∷ []) client
+left_other : (d : List Item) (t : Item) (client : ℕ) → (t.client == client) ≡ false → standing_of client d ≡ standing_of client (d ++ t ∷ [])
 left_other d t client n = rw (of_other client d t n) refl
 
 step : (d : List Item) (t : Item) (s : ℕ → Standing) → Agrees d s → fits (s t.client) t ≡ true → Agrees (d ++ t ∷ []) (λ client. after client (t ∷ []) (s client))
-step d t s a h =
-    let fit : fits (left_behind d t.client) t ≡ true = subst (λ (x : Standing). fits x t ≡ true) (a.each t.client) h in
-    let k = fit_parts d t fit in
-    record {
-      order = fifo_more d t a.order k.0 k.1;
-      each = λ client. elim (cases_Bool (t.client == client)) [
-        | inl y ↦ rw y (left_own d t client y fit)
-        | inr n ↦ rw n (a.each client ∙ left_other d t client n)
-      ];
-    }
+step d t s a h = record {
+  order = fifo_more d t a.order (subst (λ (x : Standing). fits x t ≡ true) (a.each t.client) h);
+  each = λ client. elim (cases_Bool (t.client == client)) [
+    | inl y ↦ rw y (left_own d t client y)
+    | inr n ↦ rw n (a.each client ∙ left_other d t client n)
+  ];
+}
 
 -- ---- a list of items
 
@@ -64,7 +45,7 @@ fifo_all : (d ts : List Item) (s : ℕ → Standing) → Agrees d s → fifo (d 
 fifo_all d [] s a = ap fifo (append-nil d) ∙ a.order
 fifo_all d (t ∷ ts) s a = elim (cases_Bool (fits (s t.client) t)) [
   | inl y ↦ ap fifo (apart d t ts) ∙ fifo_all (d ++ t ∷ []) ts (λ client. after client (t ∷ []) (s client)) (step d t s a y) ∙ rw y refl
-  | inr n ↦ false_from_ne_true _ (λ h. both_ways _ n (subst (λ (x : Standing). fits x t ≡ true) (sym (a.each t.client)) (fit_middle d t ts h))) ∙ rw n refl
+  | inr n ↦ false_from_ne_true _ (λ h. both_ways _ n (subst (λ (x : Standing). fits x t ≡ true) (sym (a.each t.client)) (fifo_middle d t ts h))) ∙ rw n refl
 ]
 
 left_all : (d ts : List Item) (s : ℕ → Standing) → Agrees d s → all_fit s ts ≡ true → Agrees (d ++ ts) (λ client. after client ts (s client))
@@ -76,14 +57,14 @@ left_all d (t ∷ ts) s a h =
 follows_all : (d ts : List Item) (s : ℕ → Standing) → Agrees d s → all_fit s ts ≡ follows d ts
 follows_all d [] s a = refl
 follows_all d (t ∷ ts) s a =
-    let same : fits (s t.client) t ≡ fits (left_behind d t.client) t = ap (λ (x : Standing). fits x t) (a.each t.client) in
+    let same : fits (s t.client) t ≡ fits (standing_of t.client d) t = ap (λ (x : Standing). fits x t) (a.each t.client) in
     elim (cases_Bool (fits (s t.client) t)) [
       | inl y ↦ rw (← same) (rw y (follows_all (d ++ t ∷ []) ts (λ client. after client (t ∷ []) (s client)) (step d t s a y)))
       | inr n ↦ rw (← same) (rw n refl)
     ]
 
 pub valid_law : ValidLaw
-valid_law d ts f = let a : Agrees d (left_behind d) = record { order = f; each = λ client. refl } in fifo_all d ts (left_behind d) a ∙ follows_all d ts (left_behind d) a
+valid_law d ts f = let a : Agrees d (λ client. standing_of client d) = record { order = f; each = λ client. refl } in fifo_all d ts (λ client. standing_of client d) a ∙ follows_all d ts (λ client. standing_of client d) a
 
 -- ---- a walk over the transactions
 

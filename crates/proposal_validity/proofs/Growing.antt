@@ -4,9 +4,10 @@ use Rattle.std.specs.Prelude.{◌==◌}
 use Rattle.std.proofs.lemmas.Bool.{cases_Bool, eqb-true, eqb-false}
 use Rattle.std.proofs.lemmas.List.{take_all, get_or-set_same, get_or-set_other}
 use Rattle.std.proofs.Math.Seq.{take-append_seam}
-use Rattle.protocol.specs.Values.{Tx, item}
-use Rattle.proposal_validity.specs.Standing.{Standing, Standings, fresh, standing}
-use Rattle.proposal_validity.specs.Course.{left_by, after, items_of}
+use Rattle.protocol.specs.declared.standing.Standing.{Standing}
+use Rattle.protocol.specs.Values.{Tx, fresh, item, left_by}
+use Rattle.proposal_validity.specs.Standing.{Standings, standing}
+use Rattle.proposal_validity.specs.Course.{after, items_of}
 use Rattle.proposal_validity.proofs.Follows.{after_more}
 
 more_fresh : (f : Standings) (k i : ℕ) → get_or (f ++ replicate k fresh) i fresh ≡ get_or f i fresh

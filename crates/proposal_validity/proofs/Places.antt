@@ -3,9 +3,9 @@ use Rattle.std.proofs.Common.{◌≡◌, ℕ, zero, suc, ◌+◌, ◌<◌, inl, 
 use Rattle.std.specs.Prelude.{◌==◌}
 use Rattle.std.proofs.lemmas.Bool.{cases_Bool, eqb-true, eqb-false}
 use Rattle.std.proofs.lemmas.List.{get_or_default, get_or-set_same, get_or-set_other}
-use Rattle.protocol.specs.Values.{Tx, item}
-use Rattle.proposal_validity.specs.Standing.{Standing}
-use Rattle.proposal_validity.specs.Course.{left_by, after, items_of}
+use Rattle.protocol.specs.declared.standing.Standing.{Standing}
+use Rattle.protocol.specs.Values.{Tx, item, left_by}
+use Rattle.proposal_validity.specs.Course.{after, items_of}
 use Rattle.proposal_validity.proofs.Follows.{after_more}
 
 -- of the first i transactions the client's last one stands there, or it has none

@@ -1,79 +1,42 @@
 -- When one more item keeps the clients' order, and which item stands in the middle of a list that does.
-use Rattle.std.proofs.Common.{◌≡◌, ℕ, suc, ◌+◌, ◌⊎◌, inl, inr, Bool, true, false, not, List, [], ◌∷◌, ◌++◌, length, refl, sym, ◌∙◌, subst, eqb-true, eq-eqb, arith}
+use Rattle.std.proofs.Common.{◌≡◌, ℕ, ◌⊎◌, inl, inr, Bool, true, false, List, [], ◌∷◌, ◌++◌, refl, sym, ◌∙◌, ap, subst, eqb-true, eq-eqb}
 use Rattle.std.specs.Prelude.{◌==◌}
-use Rattle.std.specs.List.{list_all, list_any}
-use Rattle.std.proofs.lemmas.Bool.{and_parts, and_from, or_parts, or_from, not-true, not_from_false, cases_Bool}
+use Rattle.std.specs.List.{list_all}
+use Rattle.std.proofs.lemmas.Bool.{and_parts, and_from, cases_Bool}
 use Rattle.std.proofs.lemmas.List.{append-nil}
 use Rattle.std.proofs.lemmas.List.Elements.{filter-append}
-use Rattle.protocol.specs.Values.{Op, Bytes, Close, Item, of, ends, in_turn, fifo}
-use Rattle.protocol.specs.Queues.{is_close, is_closed}
+use Rattle.protocol.specs.declared.standing.Standing.{Standing}
+use Rattle.protocol.specs.Values.{Item, of, fresh, fits, left_by, left_after, in_turn, fifo}
+use Rattle.protocol.specs.Queues.{standing_of}
+use Rattle.protocol.proofs.Numbers.{turn_push}
 
 -- ---- the items of one client
 
-abbrev any_close : List Item → Bool
-any_close ts = list_any (λ (t : Item). is_close t.op) ts
+pub left_last : (s : Standing) (l : List Item) (t : Item) → left_after s (l ++ t ∷ []) ≡ left_by t
+left_last s [] t = refl
+left_last s (x ∷ l) t = left_last (left_by x) l t
 
-ends_before : (op : Op) (l : List Item) (t : Item) (m : List Item) → ends op (l ++ t ∷ m) ≡ not (is_close op)
-ends_before (Bytes b) l t m = refl
-ends_before Close [] t m = refl
-ends_before Close (x ∷ l) t m = refl
+in_turn_middle : (s : Standing) (l : List Item) (t : Item) (m : List Item) → in_turn s (l ++ t ∷ m) ≡ true → fits (left_after s l) t ≡ true
+in_turn_middle s [] t m h = (and_parts (fits s t) (in_turn (left_by t) m) h).0
+in_turn_middle s (x ∷ l) t m h = in_turn_middle (left_by x) l t m (and_parts (fits s x) (in_turn (left_by x) (l ++ t ∷ m)) h).1
 
-ends_last : (op : Op) → ends op [] ≡ true
-ends_last (Bytes b) = refl
-ends_last Close = refl
-
-ends_sooner : (op : Op) (l m : List Item) → ends op (l ++ m) ≡ true → ends op l ≡ true
-ends_sooner (Bytes b) l m h = refl
-ends_sooner Close [] m h = refl
-ends_sooner Close (x ∷ l) m h = h
-
-record Parts (n : ℕ) (x : Item) (l : List Item) : Type 0 where
-  number : x.number ≡ n
-  last : ends x.op l ≡ true
-  rest : in_turn (suc n) l ≡ true
-
-parts : (n : ℕ) (x : Item) (l : List Item) → in_turn n (x ∷ l) ≡ true → Parts n x l
-parts n x l h =
-    let k = and_parts _ _ h in
-    let a = and_parts _ _ k.0 in
-    record { number = eqb-true _ _ a.0; last = a.1; rest = k.1 }
-
-joined : (n : ℕ) (x : Item) (l : List Item) → x.number ≡ n → ends x.op l ≡ true → in_turn (suc n) l ≡ true → in_turn n (x ∷ l) ≡ true
-joined n x l e last rest = and_from _ _ (and_from _ _ (eq-eqb _ _ e) last) rest
-
-in_turn_middle : (n : ℕ) (l : List Item) (t : Item) (m : List Item) → in_turn n (l ++ t ∷ m) ≡ true → (t.number ≡ n + length l) × (any_close l ≡ false)
-in_turn_middle n [] t m h = let p = parts n t m h in (omega arith, refl)
-in_turn_middle n (x ∷ l) t m h =
-    let p = parts n x (l ++ t ∷ m) h in
-    let r = in_turn_middle (suc n) l t m p.rest in
-    (omega (arith, r.0), or_from _ _ (not-true _ (sym (ends_before x.op l t m) ∙ p.last)) r.1)
-
-in_turn_more : (n : ℕ) (l : List Item) (t : Item) → in_turn n l ≡ true → t.number ≡ n + length l → any_close l ≡ false → in_turn n (l ++ t ∷ []) ≡ true
-in_turn_more n [] t h e c = joined n t [] (omega arith) (ends_last t.op) refl
-in_turn_more n (x ∷ l) t h e c =
-    let p = parts n x l h in
-    let b = or_parts _ _ c in
-    joined n x (l ++ t ∷ []) p.number (ends_before x.op l t [] ∙ not_from_false _ b.0) (in_turn_more (suc n) l t p.rest (omega arith) b.1)
-
-in_turn_beginning : (n : ℕ) (l m : List Item) → in_turn n (l ++ m) ≡ true → in_turn n l ≡ true
-in_turn_beginning n [] m h = refl
-in_turn_beginning n (x ∷ l) m h =
-    let p = parts n x (l ++ m) h in
-    joined n x l p.number (ends_sooner x.op l m p.last) (in_turn_beginning (suc n) l m p.rest)
+in_turn_beginning : (s : Standing) (l m : List Item) → in_turn s (l ++ m) ≡ true → in_turn s l ≡ true
+in_turn_beginning s [] m h = refl
+in_turn_beginning s (x ∷ l) m h = let k = and_parts (fits s x) (in_turn (left_by x) (l ++ m)) h in and_from _ _ k.0 (in_turn_beginning (left_by x) l m k.1)
 
 -- ---- every client
 
-from_own : (d e : List Item) (client : ℕ) → list_all (λ (t : Item). in_turn 1 (of t.client e)) d ≡ true → (in_turn 1 (of client e) ≡ true) ⊎ (of client d ≡ [])
+from_own : (d e : List Item) (client : ℕ) → list_all (λ (t : Item). in_turn fresh (of t.client e)) d ≡ true → (in_turn fresh (of client e) ≡ true) ⊎ (of client d ≡ [])
 from_own [] e client h = inr refl
 from_own (t ∷ d) e client h =
     let k = and_parts _ _ h in
     elim (cases_Bool (t.client == client)) [
-      | inl y ↦ inl (subst (λ n. in_turn 1 (of n e) ≡ true) (eqb-true _ _ y) k.0)
+      | inl y ↦ inl (subst (λ n. in_turn fresh (of n e) ≡ true) (eqb-true _ _ y) k.0)
       | inr n ↦ elim (from_own d e client k.1) [ inl z ↦ inl z | inr z ↦ inr (rw n z) ]
     ]
 
 -- the items of each client, also of one that has none, are in turn
-pub every_client : (d : List Item) → fifo d ≡ true → (client : ℕ) → in_turn 1 (of client d) ≡ true
+pub every_client : (d : List Item) → fifo d ≡ true → (client : ℕ) → in_turn fresh (of client d) ≡ true
 unfolding fifo
 every_client d f client = elim (from_own d d client f) [ inl k ↦ k | inr k ↦ rw k refl ]
 
@@ -81,9 +44,9 @@ all_pass : (test : Item → Bool) (d : List Item) → ((t : Item) → test t ≡
 all_pass test [] h = refl
 all_pass test (t ∷ d) h = and_from _ _ (h t) (all_pass test d h)
 
-pub from_clients : (d : List Item) → ((client : ℕ) → in_turn 1 (of client d) ≡ true) → fifo d ≡ true
+pub from_clients : (d : List Item) → ((client : ℕ) → in_turn fresh (of client d) ≡ true) → fifo d ≡ true
 unfolding fifo
-from_clients d h = all_pass (λ (t : Item). in_turn 1 (of t.client d)) d (λ t. h t.client)
+from_clients d h = all_pass (λ (t : Item). in_turn fresh (of t.client d)) d (λ t. h t.client)
 
 pub of_append : (client : ℕ) (d e : List Item) → of client (d ++ e) ≡ of client d ++ of client e
 of_append client d e = filter-append (λ (t : Item). t.client == client) d e
@@ -95,25 +58,21 @@ pub of_other : (client : ℕ) (d : List Item) (t : Item) → (t.client == client
 of_other client d t n = of_append client d (t ∷ []) ∙ rw n (append-nil (of client d))
 
 -- one more item
-pub fifo_more : (d : List Item) (t : Item) → fifo d ≡ true → t.number ≡ suc (length (of t.client d)) → is_closed t.client d ≡ false → fifo (d ++ t ∷ []) ≡ true
-fifo_more d t f e c = from_clients (d ++ t ∷ []) each
+pub fifo_more : (d : List Item) (t : Item) → fifo d ≡ true → fits (standing_of t.client d) t ≡ true → fifo (d ++ t ∷ []) ≡ true
+fifo_more d t f h = from_clients (d ++ t ∷ []) each
   where
-    each : (client : ℕ) → in_turn 1 (of client (d ++ t ∷ [])) ≡ true
+    each : (client : ℕ) → in_turn fresh (of client (d ++ t ∷ [])) ≡ true
     each client = elim (cases_Bool (t.client == client)) [
-      | inl y ↦ (let same : t.client ≡ client = eqb-true _ _ y in
-          rw (of_own client d t [] y) (in_turn_more 1 (of client d) t (every_client d f client)
-          (subst (λ n. t.number ≡ 1 + length (of n d)) same (let k : t.number ≡ 1 + length (of t.client d) = omega arith in k))
-          (subst (λ n. is_closed n d ≡ false) same c)))
+      | inl y ↦ rw (of_own client d t [] y) (turn_push fresh (of client d) t (every_client d f client) (subst (λ n. fits (standing_of n d) t ≡ true) (eqb-true _ _ y) h))
       | inr n ↦ rw (of_other client d t n) (every_client d f client)
     ]
 
 -- an item in the middle
-pub fifo_middle : (d : List Item) (t : Item) (e : List Item) → fifo (d ++ t ∷ e) ≡ true → (t.number ≡ suc (length (of t.client d))) × (is_closed t.client d ≡ false)
+pub fifo_middle : (d : List Item) (t : Item) (e : List Item) → fifo (d ++ t ∷ e) ≡ true → fits (standing_of t.client d) t ≡ true
 fifo_middle d t e f =
     let own = of_own t.client d t e (eq-eqb _ _ refl) in
-    let k = in_turn_middle 1 (of t.client d) t (of t.client e) (subst (λ l. in_turn 1 l ≡ true) own (every_client (d ++ t ∷ e) f t.client)) in
-    (omega (arith, k.0), k.1)
+    in_turn_middle fresh (of t.client d) t (of t.client e) (subst (λ l. in_turn fresh l ≡ true) own (every_client (d ++ t ∷ e) f t.client))
 
 -- a beginning of a list that keeps the clients' order keeps it
 pub fifo_beginning : (d e : List Item) → fifo (d ++ e) ≡ true → fifo d ≡ true
-fifo_beginning d e f = from_clients d (λ client. in_turn_beginning 1 (of client d) (of client e) (subst (λ l. in_turn 1 l ≡ true) (of_append client d e) (every_client (d ++ e) f client)))
+fifo_beginning d e f = from_clients d (λ client. in_turn_beginning fresh (of client d) (of client e) (subst (λ l. in_turn fresh l ≡ true) (of_append client d e) (every_client (d ++ e) f client)))

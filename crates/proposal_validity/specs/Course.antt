@@ -1,16 +1,7 @@
 -- How standings change along a list of items.
-use Rattle.std.specs.Prelude.{ℕ, ◌+◌, Bool, true, cond, not, ◌&&◌, List, [], ◌∷◌, map, ◌==◌}
-use Rattle.protocol.specs.Values.{Item, Tx, item}
-use Rattle.protocol.specs.Queues.{is_close}
-use Rattle.proposal_validity.specs.Standing.{Standing}
-
--- the standing of a client after its own item
-abbrev pub left_by : Item → Standing
-left_by t = record { next = t.number + 1; closed = is_close t.op }
-
--- the item is its client's next
-abbrev pub fits : Standing → Item → Bool
-fits s t = (t.number == s.next) && not s.closed
+use Rattle.std.specs.Prelude.{ℕ, Bool, true, cond, ◌&&◌, List, [], ◌∷◌, map, ◌==◌}
+use Rattle.protocol.specs.declared.standing.Standing.{Standing}
+use Rattle.protocol.specs.Values.{Item, Tx, item, left_by, fits}
 
 -- a client's standing after these items
 abbrev pub after : ℕ → List Item → Standing → Standing

@@ -1,26 +1,27 @@
 //! Which value may be delivered next.
 //!
-//! A client numbers its transactions 1, 2, .. and may close, after which it sends none. A delivered
-//! list keeps the clients' order if each client's transactions stand in it in that order. What has to
-//! be remembered of such a list is a frontier: each client's next number, and whether it closed.
+//! A client numbers the transactions of a session 1, 2, .. and may close it; after that it may go on in the
+//! next session, from 1 again. Its sessions are 0, 1, .. A delivered list keeps the clients' order if each
+//! client's transactions stand in it in that order. What has to be remembered of such a list is a
+//! frontier: each client's last session and number, and whether the session is closed.
 #![tactic(auto)]
 
-ghost use Rattle.std.specs.Prelude.{◌≡◌, ◌≤◌, ◌+◌, ◌^◌, ◌++◌, ℕ, [], List, All, IfOk, OnErr, OnOk, length, true};
+ghost use Rattle.std.specs.Prelude.{◌≡◌, ◌≤◌, ◌+◌, ◌^◌, ◌++◌, ℕ, suc, [], List, All, IfOk, OnErr, OnOk, length, true};
 ghost use Rattle.transactions.specs.Grammar.{IsTx, IsValue};
 ghost use Rattle.protocol.specs.Values.{Item, item, items, valid};
-ghost use Rattle.proposal_validity.specs.Standing.{Standing, standing, IsFrontierOf, IsStanding};
+ghost use Rattle.proposal_validity.specs.Standing.{standing, IsFrontierOf, IsStanding};
 ghost use Rattle.proposal_validity.specs.Course.{all_fit, items_of};
 ghost use Rattle.proposal_validity.specs.Laws.{FrontierLaw, ValidLaw};
 
 mod standing;
 
-use protocol::MOST_CLIENTS;
-use standing::{Standing, grow, pass, past_last};
+use protocol::{MOST_CLIENTS, Standing};
+use standing::{grow, pass, past_last};
 use std::alloc::{AllocError, Global};
 use std::marker::Model;
 use transactions::{Tx, Value};
 
-/// For each client the number of its next transaction, and whether it has closed.
+/// For each client its session, the number of its last transaction, and whether the session is closed.
 ///
 /// It stands for the delivered list that left it behind, and answers without it. It takes memory for
 /// the clients up to the highest that was ever delivered.
@@ -50,15 +51,22 @@ impl Frontier {
         }
     }
 
-    /// The number of the client's next transaction, 1 to 2^48 + 1: 1 for a client that has none.
-    pub fn next(&self, client: u16) -> u64
-        ensures next { result ≡ (standing self.now client).next }
-        ensures small { result ≤ 2 ^ 48 + 1 }
+    /// The session of the client's last transaction: 0 for a client that has none.
+    pub fn session(&self, client: u16) -> u32
+        ensures { result ≡ (standing self.now client).session }
     {
-        self.standing(client).next
+        self.standing(client).session
     }
 
-    /// Whether the client's close is delivered.
+    /// The number that follows the client's last one in its session, 1 to 2^48 + 1: 1 for a client that has none.
+    pub fn next(&self, client: u16) -> u64
+        ensures next { result ≡ suc (standing self.now client).last }
+        ensures small { result ≤ 2 ^ 48 + 1 }
+    {
+        self.standing(client).last + 1
+    }
+
+    /// Whether the client's session is closed.
     pub fn is_closed(&self, client: u16) -> bool
         ensures { result ≡ (standing self.now client).closed }
     {
@@ -102,8 +110,9 @@ impl Frontier {
         })
     }
 
+    /// Where the client stands.
     #[tactic(auto, unfolding(crate::specs::Standing::standing))]
-    fn standing(&self, client: u16) -> Standing
+    pub fn standing(&self, client: u16) -> Standing
         ensures standing { result ≡ standing self.now client }
         ensures small { IsStanding result }
     {

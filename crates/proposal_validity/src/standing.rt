@@ -1,48 +1,13 @@
-//! What is known of one client, and how transactions change it.
+//! How transactions change what is known of clients.
 
-ghost use Rattle.std.specs.Prelude.{◌≡◌, ◌≤◌, ◌<◌, ◌+◌, ◌^◌, ℕ, All, OnErr, OnOk, length};
+ghost use Rattle.std.specs.Prelude.{◌≡◌, ◌≤◌, ◌<◌, ℕ, All, OnErr, OnOk, length};
 ghost use Rattle.transactions.specs.Grammar.{IsTx};
-ghost use Rattle.protocol.specs.Values.{item};
 ghost use Rattle.proposal_validity.specs.Standing.{standing, IsStanding};
-ghost use Rattle.proposal_validity.specs.Course.{left_by, fits, after, items_of};
+ghost use Rattle.proposal_validity.specs.Course.{after, items_of};
 
+use protocol::Standing;
 use std::alloc::AllocError;
-use transactions::{Op, Tx};
-
-/// What is known of a client.
-#[derive(Clone, Copy, Debug, PartialEq, Eq)]
-pub struct Standing {
-    /// The number of its next transaction.
-    pub next: u64,
-    /// Whether its close is delivered.
-    pub closed: bool,
-}
-
-impl Standing {
-    /// A client of which nothing is delivered.
-    pub const FRESH: Standing = Standing {
-        next: 1,
-        closed: false,
-    };
-
-    /// A client whose last transaction is this one.
-    pub fn left_by(tx: &Tx) -> Standing
-        requires { tx.now.number ≤ 2 ^ 48 }
-        ensures { result ≡ left_by (item tx.now) }
-    {
-        Standing {
-            next: tx.number + 1,
-            closed: matches!(tx.op, Op::Close),
-        }
-    }
-
-    /// Whether the transaction is the client's next.
-    pub fn admits(self, tx: &Tx) -> bool
-        ensures { result ≡ fits self (item tx.now) }
-    {
-        tx.number == self.next && !self.closed
-    }
-}
+use transactions::Tx;
 
 /// The least number above each client's.
 pub fn past_last(txs: &[Tx]) -> usize

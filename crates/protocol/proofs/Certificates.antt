@@ -15,7 +15,7 @@ use Rattle.protocol.specs.Tally.{senders, is_vote_for}
 use Rattle.protocol.specs.State.{State, Node, ValueAt, Stamp, Rule, Start, PrevoteFresh, PrevoteAgain, AwaitPrevotes, Lock, PrecommitNil, AwaitPrecommits, Decide, DecideByBundle, SkipRound, TimedOut}
 use Rattle.protocol.specs.Rules.{holds, saved, keeping, keeping_own, released_by, starts, proposal_of, times_out, certificate, signed_by, is_stamp, changed}
 use Rattle.protocol.specs.Restart.{restart, opened, own_since, votes_in}
-use Rattle.protocol.specs.Queues.{pick, is_closed}
+use Rattle.protocol.specs.Queues.{pick}
 use Rattle.protocol.specs.Refusals.{context, bundle_senders, named_senders, is_vouching, certified}
 use Rattle.protocol.specs.Arrivals.{taken_in, firing, kept_message, stamp_of}
 use Rattle.protocol.specs.World.{World, Event, Sends, Comes, Fires, Asks, Resends, Restarts, happens, run, beginning, cut_record, moved}
@@ -300,7 +300,7 @@ with_certified : (c : Setting) (nodes : ℕ → Node) (p : ℕ) (n : Node) → A
 with_certified c nodes p n a t q = cond_both (q == p) n (nodes q) (Certified c q) (λ e. subst (λ i. Certified c i n) (sym (eqb-true q p e)) t) (λ _. a q)
 
 happens_certified : (c : Setting) (w : World) (e : Event) → AllCertified c w.nodes → AllCertified c (happens c w e).nodes
-happens_certified c w (Sends client op) a = cond_both (is_closed client (w.sent client)) _ _ (λ (v : World). AllCertified c v.nodes) (λ _. a) (λ _. a)
+happens_certified c w (Sends client op) a = a
 happens_certified c w (Comes p bytes) a = come_cases c p (w.nodes p) (message_of bytes) (λ o. AllCertified c (moved w p o).nodes) (with_certified c w.nodes p (w.nodes p) a (a p))
     (λ m b _ _ t. with_certified c w.nodes p (taken_in (w.nodes p) m b).node a (record { keeps = taken_stamped c p (w.nodes p).state m b t (a p).keeps; certified = (a p).certified }))
     (λ m b _ _ h. with_certified c w.nodes p (firing c p (w.nodes p) (DecideByBundle b)).node a (fired_certified c p (w.nodes p) (DecideByBundle b) (a p) h))

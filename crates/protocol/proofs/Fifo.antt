@@ -4,13 +4,13 @@ use Rattle.std.specs.Prelude.{◌==◌}
 use Rattle.std.specs.List.{list_all}
 use Rattle.std.proofs.lemmas.Bool.{cond_both, and_parts, cases_Bool}
 use Rattle.powers.specs.Power.{proposer}
-use Rattle.protocol.specs.Values.{Value, Item, items, of, in_turn, fifo, valid}
+use Rattle.protocol.specs.Values.{Value, Item, items, of, fresh, in_turn, fifo, valid}
 use Rattle.protocol.specs.Tags.{Setting}
 use Rattle.protocol.specs.Messages.{Step, Propose, Prevote, Precommit, step_eq, Record, Own, Decided}
 use Rattle.protocol.specs.State.{State, Node, ValueAt, Rule, Start, PrevoteFresh, PrevoteAgain, AwaitPrevotes, Lock, PrecommitNil, AwaitPrecommits, Decide, DecideByBundle, SkipRound, TimedOut}
 use Rattle.protocol.specs.Rules.{holds, saved, starts, proposal_of, times_out}
 use Rattle.protocol.specs.Restart.{delivered_of, opened}
-use Rattle.protocol.specs.Queues.{pick, is_closed}
+use Rattle.protocol.specs.Queues.{pick}
 use Rattle.protocol.specs.Refusals.{context}
 use Rattle.protocol.specs.Arrivals.{taken_in, firing}
 use Rattle.protocol.specs.World.{World, Event, Sends, Comes, Fires, Asks, Resends, Restarts, happens, run, beginning, cut_record, delivered, moved}
@@ -71,7 +71,7 @@ fired_fifo : (c : Setting) (p : ℕ) (n : Node) (k : Rule) → IsTied n → hold
 fired_fifo c p n k t h f = more_fifo n.state n.journal (saved (context c p) (pick n.queues) n.state k) t (saved_valid c p (pick n.queues) n.state k h) f
 
 happens_fifo : (c : Setting) (w : World) (e : Event) → AllTied w.nodes → AllFifo w.nodes → AllFifo (happens c w e).nodes
-happens_fifo c w (Sends client op) t a = cond_both (is_closed client (w.sent client)) _ _ (λ (v : World). AllFifo v.nodes) (λ _. a) (λ _. a)
+happens_fifo c w (Sends client op) t a = a
 happens_fifo c w (Comes p bytes) t a = come_cases c p (w.nodes p) (message_of bytes) (λ o. AllFifo (moved w p o).nodes) (with_fifo w.nodes p (w.nodes p) a (a p))
     (λ m b _ _ _. with_fifo w.nodes p (taken_in (w.nodes p) m b).node a (a p))
     (λ m b _ _ h. with_fifo w.nodes p (firing c p (w.nodes p) (DecideByBundle b)).node a (fired_fifo c p (w.nodes p) (DecideByBundle b) (t p) h (a p)))
@@ -91,16 +91,16 @@ unfolding fifo
 beginning_fifo c p = refl
 
 -- from the items that stand to every client
-turn_of : (d e : List Item) (client : ℕ) → list_all (λ (t : Item). in_turn 1 (of t.client e)) d ≡ true → (in_turn 1 (of client e) ≡ true) ⊎ (of client d ≡ [])
+turn_of : (d e : List Item) (client : ℕ) → list_all (λ (t : Item). in_turn fresh (of t.client e)) d ≡ true → (in_turn fresh (of client e) ≡ true) ⊎ (of client d ≡ [])
 turn_of [] e client h = inr refl
 turn_of (t ∷ d) e client h =
     let k = and_parts _ _ h in
     elim (cases_Bool (t.client == client)) [
-      | inl y ↦ inl (subst (λ n. in_turn 1 (of n e) ≡ true) (eqb-true _ _ y) k.0)
+      | inl y ↦ inl (subst (λ n. in_turn fresh (of n e) ≡ true) (eqb-true _ _ y) k.0)
       | inr n ↦ elim (turn_of d e client k.1) [ inl z ↦ inl z | inr z ↦ inr (rw n z) ]
     ]
 
-every_client : (d : List Item) → fifo d ≡ true → (client : ℕ) → in_turn 1 (of client d) ≡ true
+every_client : (d : List Item) → fifo d ≡ true → (client : ℕ) → in_turn fresh (of client d) ≡ true
 unfolding fifo
 every_client d f client = elim (turn_of d d client f) [ inl k ↦ k | inr k ↦ rw k refl ]
 

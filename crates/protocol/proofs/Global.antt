@@ -9,7 +9,7 @@ use Rattle.protocol.specs.Messages.{◌∈◌, Precommit, precommit, Record, Own
 use Rattle.protocol.specs.State.{Rule, Start, PrevoteFresh, PrevoteAgain, AwaitPrevotes, Lock, PrecommitNil, AwaitPrecommits, Decide, DecideByBundle, SkipRound, TimedOut, Node}
 use Rattle.protocol.specs.Rules.{holds, saved, changed}
 use Rattle.protocol.specs.Restart.{restart, opened, own_since, votes_in}
-use Rattle.protocol.specs.Queues.{pick, is_closed}
+use Rattle.protocol.specs.Queues.{pick}
 use Rattle.protocol.specs.Refusals.{context, bundle_senders}
 use Rattle.protocol.specs.Arrivals.{taken_in, firing, bundles_of, kept_message, nothing, replies}
 use Rattle.protocol.specs.World.{World, Event, Sends, Comes, Fires, Asks, Resends, Restarts, happens, run, beginning, with_node, cut_record, moved, Cut}
@@ -197,7 +197,7 @@ module _ (c : Setting) (h : Honesty) where
   fires_sound w s p ok k e u = moved_sound w p (firing c p (w.nodes p) k).node (firing c p (w.nodes p) k).out s (with_tied w.nodes p (firing c p (w.nodes p) k).node s.tied (fired_tied c p (w.nodes p) k (s.tied p) e)) (fired_moves w s p ok k e u)
 
   pub happens_sound : (w : World) (e : Event) → Sound w → AtCorrect c h (at_validator e) → EventUnforged c h w e → Sound (happens c w e)
-  happens_sound w (Sends client op) s ok u = cond_both (is_closed client (w.sent client)) _ _ Sound (λ _. s) (λ _. record { tied = s.tied; backed = s.backed; kept = s.kept; released = s.released })
+  happens_sound w (Sends client op) s ok u = record { tied = s.tied; backed = s.backed; kept = s.kept; released = s.released }
   happens_sound w (Comes p bytes) s ok u = come_cases c p (w.nodes p) (message_of bytes) (λ o. Sound (moved w p o)) (stays_sound w s p ok)
       (λ m b em eb t.
       let g = comes_genuine c h w p (message_of bytes) m b em eb u in

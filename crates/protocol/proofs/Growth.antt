@@ -9,7 +9,7 @@ use Rattle.protocol.specs.Messages.{◌∈◌, Record, Own, Decided}
 use Rattle.protocol.specs.State.{DecideByBundle, Rule, Node}
 use Rattle.protocol.specs.Rules.{saved}
 use Rattle.protocol.specs.Restart.{opened}
-use Rattle.protocol.specs.Queues.{pick, is_closed}
+use Rattle.protocol.specs.Queues.{pick}
 use Rattle.protocol.specs.Refusals.{context}
 use Rattle.protocol.specs.Arrivals.{taken_in, firing}
 use Rattle.protocol.specs.World.{World, Event, Sends, Comes, Fires, Asks, Resends, Restarts, happens, run, cut_record, next_item, moved}
@@ -34,7 +34,7 @@ pub fired_longer : (c : Setting) (p : ℕ) (n : Node) (k : Rule) → Longer n.jo
 fired_longer c p n k = record { more = option_to_list (saved (context c p) (pick n.queues) n.state k); is = refl }
 
 pub happens_longer : (c : Setting) (w : World) (e : Event) (q : ℕ) → Longer (w.nodes q).journal ((happens c w e).nodes q).journal
-happens_longer c w (Sends client op) q = cond_both (is_closed client (w.sent client)) _ _ (λ (v : World). Longer (w.nodes q).journal (v.nodes q).journal) (λ _. same_long (w.nodes q).journal) (λ _. same_long (w.nodes q).journal)
+happens_longer c w (Sends client op) q = same_long (w.nodes q).journal
 happens_longer c w (Comes p bytes) q = come_cases c p (w.nodes p) (message_of bytes) (λ o. Longer (w.nodes q).journal ((moved w p o).nodes q).journal) (longer_at p q w.nodes (w.nodes p) (same_long (w.nodes p).journal))
     (λ m b _ _ _. longer_at p q w.nodes (taken_in (w.nodes p) m b).node (same_long (w.nodes p).journal))
     (λ m b _ _ _. longer_at p q w.nodes (firing c p (w.nodes p) (DecideByBundle b)).node (fired_longer c p (w.nodes p) (DecideByBundle b)))
@@ -70,9 +70,8 @@ marks_stay old new l m k = subst (λ j. m ∈ marks_of j) (sym l.is) (marks_stay
 
 -- a sent item stays sent
 pub happens_sent : (c : Setting) (w : World) (e : Event) (client : ℕ) (t : Item) → t ∈ w.sent client → t ∈ (happens c w e).sent client
-happens_sent c w (Sends k op) client t i = cond_both (is_closed k (w.sent k)) _ _ (λ (v : World). t ∈ v.sent client) (λ _. i)
-    (λ _. cond_both (client == k) (w.sent k ++ next_item k op (w.sent k) ∷ []) (w.sent client) (λ l. t ∈ l)
-    (λ e. in_left t (w.sent k) _ (subst (λ n. t ∈ w.sent n) (eqb-true client k e) i)) (λ _. i))
+happens_sent c w (Sends k op) client t i = cond_both (client == k) (w.sent k ++ next_item k op (w.sent k) ∷ []) (w.sent client) (λ l. t ∈ l)
+    (λ e. in_left t (w.sent k) _ (subst (λ n. t ∈ w.sent n) (eqb-true client k e) i)) (λ _. i)
 happens_sent c w (Comes p bytes) client t i = i
 happens_sent c w (Fires p k) client t i = i
 happens_sent c w (Asks p) client t i = i

@@ -10,7 +10,7 @@ use Rattle.protocol.specs.Messages.{Step, Propose, Prevote, Precommit, step_numb
 use Rattle.protocol.specs.State.{State, Node, ValueAt, Rule, Start, PrevoteFresh, PrevoteAgain, AwaitPrevotes, Lock, PrecommitNil, AwaitPrecommits, Decide, DecideByBundle, SkipRound, TimedOut, Timeout}
 use Rattle.protocol.specs.Rules.{holds, holds_timed, saved, changed, keeping, keeping_own, released_by, started, starts, proposal_of, decided, at_step, times_out, certificate, content_if}
 use Rattle.protocol.specs.Restart.{restart, opened, height_of, delivered_of, lock_of, lock_by, last_place}
-use Rattle.protocol.specs.Queues.{pick, is_closed}
+use Rattle.protocol.specs.Queues.{pick}
 use Rattle.protocol.specs.Refusals.{context}
 use Rattle.protocol.specs.Arrivals.{firing, taken_in, kept_message}
 use Rattle.protocol.specs.World.{World, Event, Sends, Comes, Fires, Asks, Resends, Restarts, happens, run, beginning, cut_record, moved, Cut}
@@ -176,7 +176,7 @@ cut_grows : (c : Setting) (p : ℕ) (n : Node) (cut : Option Cut) → IsTied n �
 cut_grows c p n cut t = cut_cases c p n cut (λ rs. Grows (rs ++ n.journal)) t.grows (λ k e _. (fired_tied c p n k t e).grows)
 
 pub happens_tied : (c : Setting) (w : World) (e : Event) → AllTied w.nodes → AllTied (happens c w e).nodes
-happens_tied c w (Sends client op) a = cond_both (is_closed client (w.sent client)) _ _ (λ (v : World). AllTied v.nodes) (λ _. a) (λ _. a)
+happens_tied c w (Sends client op) a = a
 happens_tied c w (Comes p bytes) a = come_cases c p (w.nodes p) (message_of bytes) (λ o. AllTied (moved w p o).nodes) (with_tied w.nodes p (w.nodes p) a (a p))
     (λ m b _ _ _. with_tied w.nodes p (taken_in (w.nodes p) m b).node a (kept_tied (w.nodes p).state (w.nodes p).journal m b (a p)))
     (λ m b _ _ h. with_tied w.nodes p (firing c p (w.nodes p) (DecideByBundle b)).node a (fired_tied c p (w.nodes p) (DecideByBundle b) (a p) h))

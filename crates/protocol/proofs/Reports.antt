@@ -12,7 +12,6 @@ use Rattle.protocol.specs.State.{Node, Rule, TimedOut}
 use Rattle.protocol.specs.Restart.{restart, opened, own_since}
 use Rattle.protocol.specs.Refusals.{Refusal, refusal_of, refusal_number}
 use Rattle.protocol.specs.Calls.{timeout_answer}
-use Rattle.protocol.specs.Queues.{is_closed}
 use Rattle.protocol.specs.Arrivals.{Outcome, arrival}
 use Rattle.protocol.specs.World.{World, Event, Sends, Comes, Fires, Asks, Resends, Restarts, happens, run, beginning, tried, cut_record}
 use Rattle.protocol.specs.Premises.{at_validator}
@@ -78,7 +77,7 @@ joined_journals (Decided b ∷ new) old = ap (λ l. l ++ decision_of b ∷ []) (
 -- ---- bodies
 
 event_bodies : (read : List ℕ → Result Message Fault) (c : Setting) (w : World) (e : Event) → (happens c w e).released ≡ flat_map body_in (tells read c w e) ++ w.released
-event_bodies read c w (Sends client op) = cond_both (is_closed client (w.sent client)) _ _ (λ (v : World). v.released ≡ w.released) (λ _. refl) (λ _. refl)
+event_bodies read c w (Sends client op) = refl
 event_bodies read c w (Comes p bytes) = ap (λ l. l ++ w.released) (sym (told_bodies _ (arrival c p (w.nodes p) bytes)))
 event_bodies read c w (Fires p k) = ap (λ l. l ++ w.released) (sym (told_bodies _ (tried c p (w.nodes p) k)))
 event_bodies read c w (Asks p) = refl
@@ -124,9 +123,7 @@ told_alone r o = ap (flat_map decision_in) (append-nil (told_of r o)) ∙ told_d
 
 event_decisions : (read : List ℕ → Result Message Fault) (c : Setting) (n : ℕ) (w : World) (e : Event) (p : ℕ)
     → decisions_in ((happens c w e).nodes p).journal ≡ decisions_in (w.nodes p).journal ++ decisions p (noted n (at_validator e) (both read c w e))
-event_decisions read c n w (Sends client op) p =
-    cond_both (is_closed client (w.sent client)) _ _ (λ (v : World). decisions_in (v.nodes p).journal ≡ decisions_in (w.nodes p).journal) (λ _. refl) (λ _. refl)
-    ∙ sym (append-nil (decisions_in (w.nodes p).journal))
+event_decisions read c n w (Sends client op) p = sym (append-nil (decisions_in (w.nodes p).journal))
 event_decisions read c n w (Comes q bytes) p =
     let o = arrival c q (w.nodes q) bytes in
     at_moved p q n w.nodes o.node (option_to_list o.wrote) _ (arrival_saves c q (w.nodes q) bytes) (told_alone (refusal_of c q (w.nodes q) (read bytes)) o)

@@ -2,7 +2,7 @@
 use Rattle.std.proofs.Common.{◌≡◌, ℕ, zero, suc, ◌<◌, ◌⊎◌, inl, inr, true, List, [], ◌∷◌, refl, sym, ap, subst, arith, Some, None}
 use Rattle.powers.specs.Power.{FewLie}
 use Rattle.powers.proofs.Quorums.{quorums_share_honest}
-use Rattle.protocol.specs.Values.{Id, Value, Item, item, items, id, of}
+use Rattle.protocol.specs.Values.{Id, Value, Item, item, items, id, fresh, of}
 use Rattle.protocol.specs.Tags.{Setting}
 use Rattle.protocol.specs.Messages.{◌∈◌, Propose, Prevote, Precommit, Act, Proposing, Prevoting, Precommitting, Record, Own, Decided, Bundle}
 use Rattle.protocol.specs.Restart.{delivered_of}
@@ -17,7 +17,7 @@ use Rattle.protocol.proofs.Global.{Sound, run_sound, beginning_sound, lawful}
 use Rattle.protocol.proofs.Known.{Sent, FromClients, Fresh, Before, IsVouched, RecordVouched}
 use Rattle.protocol.proofs.Sources.{AllKnown, run_known, beginning_known}
 use Rattle.protocol.proofs.Fifo.{fifo_law}
-use Rattle.protocol.proofs.Numbers.{begins_sent, run_numbered, in_of}
+use Rattle.protocol.proofs.Numbers.{begins_sent, run_in_turn, in_of}
 
 module _ (c : Setting) (h : Honesty) (seen : Value → Type 0) where
   vouched_mark : (i : ℕ) (marks : Marks c h) (sent : Sent c h seen) (height round : ℕ) (x : Id) (j : List Record) → ((r : Record) → r ∈ j → RecordVouched c h seen i marks sent r) → mark Prevote height round (Some x) ∈ marks_of j → Fresh c h seen sent x ⊎ Before c h seen marks height round x
@@ -78,7 +78,7 @@ sent_law c h events few unforged distinct p ok client honest =
     let seen : Value → Type 0 = Occurs c h events in
     let s : Sound c h w = run_sound c h (beginning c) events (beginning_sound c h) unforged in
     let k : AllKnown c h seen w = run_known c h seen (beginning c) events (beginning_sound c h) (beginning_known c h seen) unforged (λ e i v m. inl (e, i, m)) (λ q okq r i v m. inr (q, okq, (r, i, m))) in
-    begins_sent 1 (of client (delivered w p)) (w.sent client) (fifo_law c events p client) (run_numbered c (beginning c) events (λ k. tt) client)
+    begins_sent fresh (of client (delivered w p)) (w.sent client) (fifo_law c events p client) (run_in_turn c (beginning c) events (λ k. refl) client)
     (λ t i. let f = in_of client t (delivered w p) i in
     subst (λ n. t ∈ w.sent n) f.1 (delivered_sent c h seen w.sent (w.nodes p).journal
     (λ b m. decided_sent c h seen few w s k distinct p ok b m (inr (p, ok, (Decided b, m, refl)))) t f.0 (subst (λ n. h.clients n ≡ true) (sym f.1) honest)))

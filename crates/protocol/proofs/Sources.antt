@@ -12,7 +12,7 @@ use Rattle.protocol.specs.Messages.{◌∈◌, Record, Own, Decided, Body, OfTx,
 use Rattle.protocol.specs.State.{Node, Rule, DecideByBundle}
 use Rattle.protocol.specs.Rules.{holds, saved}
 use Rattle.protocol.specs.Restart.{restart, opened, own_since, proposals_in}
-use Rattle.protocol.specs.Queues.{pick, is_closed}
+use Rattle.protocol.specs.Queues.{pick}
 use Rattle.protocol.specs.Refusals.{context, tagged_tx}
 use Rattle.protocol.specs.Arrivals.{arrival, firing, taken_in}
 use Rattle.protocol.specs.World.{World, Event, Sends, Comes, Fires, Asks, Resends, Restarts, happens, run, beginning, cut_record, moved, tried}
@@ -117,8 +117,7 @@ module _ (c : Setting) (h : Honesty) (seen : Value → Type 0) where
     moved_to e p n k q ok = at_moved (marks_in c h (happens c w e).nodes) (happens c w e).sent w.nodes p n q (carried e p n k) (carried e q (w.nodes q) (known q ok))
 
     pub happens_known : (e : Event) → AtCorrect c h (at_validator e) → EventUnforged c h w e → ((v : Value) → EventHas v e → seen v) → JournalsSeen (happens c w e) → AllKnown (happens c w e)
-    happens_known (Sends client op) ok u sn js q okq = cond_both (is_closed client (w.sent client)) _ _ (λ (v : World). NodeKnown c h seen q (marks_in c h (happens c w (Sends client op)).nodes) (happens c w (Sends client op)).sent (v.nodes q))
-        (λ _. carried (Sends client op) q (w.nodes q) (known q okq)) (λ _. carried (Sends client op) q (w.nodes q) (known q okq))
+    happens_known (Sends client op) ok u sn js q okq = carried (Sends client op) q (w.nodes q) (known q okq)
     happens_known (Comes p bytes) ok u sn js q okq = come_cases c p (w.nodes p) (message_of bytes)
         (λ o. JournalSeen o.node.journal → NodeKnown c h seen q (marks_in c h (happens c w (Comes p bytes)).nodes) (happens c w (Comes p bytes)).sent ((moved w p o).nodes q))
         (λ _. moved_to (Comes p bytes) p (w.nodes p) (known p ok) q okq)

@@ -9,7 +9,7 @@ use Rattle.std.specs.List.{AllByRecursion}
 use Rattle.sha2.proofs.Facts256.{length-sha256}
 use Rattle.authenticators.specs.Tags.{hmac, is_right}
 use Rattle.transactions.specs.Fields.{number_bytes}
-use Rattle.transactions.specs.Grammar.{tx_body_spelling, tx_fields_spelling, op_spelling, value_spelling, tags_spelling, IsOp, IsTxBody, AreTags}
+use Rattle.transactions.specs.Grammar.{tx_body_spelling, tx_fields_spelling, session_spelling, op_spelling, value_spelling, tags_spelling, IsOp, IsTxBody, AreTags}
 use Rattle.transactions.specs.declared.tx.Op.{Op}
 use Rattle.transactions.specs.declared.tx.Op.TheVariants.{Bytes, Close}
 use Rattle.transactions.specs.declared.tx.Tx.{Tx}
@@ -27,15 +27,28 @@ op_short : (op : Op) → IsOp op → length (op_spelling op) ≤ 1027
 op_short (Bytes data_bytes) h = omega (arith, length-append (number_bytes 2 (length data_bytes)) data_bytes, length-number_bytes 2 (length data_bytes))
 op_short Close h = omega arith
 
-tx_short : (t : Tx) → IsTxBody t → length (tx_body_spelling t) ≤ 1038
+session_short : (session : ℕ) → length (session_spelling session) ≤ 4
+session_short zero = omega arith
+session_short (suc before) = omega (arith, length-number_bytes 4 (suc before))
+
+tx_short : (t : Tx) → IsTxBody t → length (tx_body_spelling t) ≤ 1042
 unfolding tx_fields_spelling
-tx_short t h = omega (arith, op_short t.op h.op, length-append (number_bytes 2 t.client) (number_bytes 8 t.number ++ op_spelling t.op), length-append (number_bytes 8 t.number) (op_spelling t.op), length-number_bytes 2 t.client, length-number_bytes 8 t.number)
+tx_short t h = omega (
+  arith,
+  op_short t.op h.op,
+  length-append (number_bytes 2 t.client) (session_spelling t.session ++ (number_bytes 8 t.number ++ op_spelling t.op)),
+  length-append (session_spelling t.session) (number_bytes 8 t.number ++ op_spelling t.op),
+  length-append (number_bytes 8 t.number) (op_spelling t.op),
+  length-number_bytes 2 t.client,
+  session_short t.session,
+  length-number_bytes 8 t.number,
+)
 
 tags_joined : (tags : List (List ℕ)) → AllByRecursion (λ tag. length tag ≡ 32) tags → length (flat_map (λ tag. tag) tags) ≡ 32 * length tags
 tags_joined [] each = refl
 tags_joined (tag ∷ tags) each = omega (arith, length-append tag (flat_map (λ t. t) tags), tags_joined tags each.1, each.0)
 
-tags_short : (tags : List (List ℕ)) → AreTags tags → length (tags_spelling tags) ≤ 2049
+tags_short : (tags : List (List ℕ)) → AreTags tags → length (tags_spelling tags) ≤ 4097
 unfolding tags_spelling
 tags_short tags h = omega (arith, tags_joined tags h.each, h.few)
 
@@ -80,15 +93,15 @@ ask_short : (a : Ask) → length (ask_spelling a) ≤ 10
 unfolding ask_spelling
 ask_short a = omega (arith, length-append (number_bytes 8 a.height) (number_bytes 2 a.sender), length-number_bytes 8 a.height, length-number_bytes 2 a.sender)
 
-precommit_short : (s : Signed) → IsPrecommit s → length (precommit_spelling s) ≤ 2051
+precommit_short : (s : Signed) → IsPrecommit s → length (precommit_spelling s) ≤ 4099
 unfolding precommit_spelling
 precommit_short s h = omega (arith, tags_short s.tags h.tags, length-append (number_bytes 2 s.sender) (tags_spelling s.tags), length-number_bytes 2 s.sender)
 
-precommits_joined : (ss : List Signed) → AllByRecursion IsPrecommit ss → length (flat_map precommit_spelling ss) ≤ 2051 * length ss
+precommits_joined : (ss : List Signed) → AllByRecursion IsPrecommit ss → length (flat_map precommit_spelling ss) ≤ 4099 * length ss
 precommits_joined [] each = omega arith
 precommits_joined (s ∷ ss) each = omega (arith, length-append (precommit_spelling s) (flat_map precommit_spelling ss), precommit_short s each.0, precommits_joined ss each.1)
 
-precommits_short : (ss : List Signed) → length ss ≤ 64 → AllByRecursion IsPrecommit ss → length (precommits_spelling ss) ≤ 131265
+precommits_short : (ss : List Signed) → length ss ≤ 128 → AllByRecursion IsPrecommit ss → length (precommits_spelling ss) ≤ 524673
 unfolding precommits_spelling
 precommits_short ss few each = omega (arith, precommits_joined ss each, few)
 
@@ -105,7 +118,7 @@ head_short b h = omega (
   length-number_bytes 4 b.round,
 )
 
-bundle_short : (b : Bundle) → IsBundle b → length (bundle_spelling b) ≤ 631311
+bundle_short : (b : Bundle) → IsBundle b → length (bundle_spelling b) ≤ 1024719
 unfolding bundle_spelling
 bundle_short b h = omega (
   arith,
@@ -116,7 +129,7 @@ bundle_short b h = omega (
   length-append (value_spelling b.value) (precommits_spelling b.precommits),
 )
 
-body_short : (b : Body) → IsBody b → length (body_spelling b) ≤ 631312
+body_short : (b : Body) → IsBody b → length (body_spelling b) ≤ 1024720
 body_short (OfTx t) h = omega (arith, tx_short t h.0)
 body_short (OfProposal q) h = omega (arith, proposal_short q h)
 body_short (OfVote v) h = omega (arith, vote_short v h)
@@ -154,14 +167,14 @@ module _ (f : ℕ → List ℕ) where
         | inr e ↦ parts ∙ get_or_append_left front (f n ∷ []) [] q (omega arith) ∙ tag_at n q (omega arith)
       ]
 
-pub tagged_tags : (c : Setting) (b : Body) → 1 ≤ length c.powers → length c.powers ≤ 64 → AreTags (tagged c b).tags
+pub tagged_tags : (c : Setting) (b : Body) → 1 ≤ length c.powers → length c.powers ≤ 128 → AreTags (tagged c b).tags
 unfolding tagged
 tagged_tags c b one few =
     let f : ℕ → List ℕ = λ q. hmac (c.key (sender_of b) q) (body_spelling b) in
     let size : length (map f (below (length c.powers))) ≡ length c.powers = length-tags f (length c.powers) in
     record { some = omega arith; few = omega arith; each = each_long f (λ q. length-hmac _ _) (below (length c.powers)) }
 
-is_message : (c : Setting) (b : Body) → 1 ≤ length c.powers → length c.powers ≤ 64 → IsBody b → IsMessage (tagged c b)
+is_message : (c : Setting) (b : Body) → 1 ≤ length c.powers → length c.powers ≤ 128 → IsBody b → IsMessage (tagged c b)
 unfolding tagged message_spelling
 is_message c b one few h =
     let tags = tagged_tags c b one few in

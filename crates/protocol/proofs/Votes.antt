@@ -9,7 +9,7 @@ use Rattle.protocol.specs.Messages.{◌∈◌, Prevote, step_number, step_of, st
 use Rattle.protocol.specs.State.{Node, Rule, DecideByBundle}
 use Rattle.protocol.specs.Rules.{saved, released_by}
 use Rattle.protocol.specs.Restart.{opened, own_since, votes_in}
-use Rattle.protocol.specs.Queues.{pick, is_closed}
+use Rattle.protocol.specs.Queues.{pick}
 use Rattle.protocol.specs.Refusals.{context}
 use Rattle.protocol.specs.Arrivals.{taken_in, firing, bundles_of, replies}
 use Rattle.protocol.specs.World.{World, Event, Sends, Comes, Fires, Asks, Resends, Restarts, happens, run, beginning, with_node, cut_record, moved}
@@ -126,7 +126,7 @@ fires_released : (c : Setting) (w : World) (p : ℕ) (k : Rule) → ReleasedSave
 fires_released c w p k s = with_released w p (firing c p (w.nodes p) k).node (firing c p (w.nodes p) k).out (fired_longer c p (w.nodes p) k) (fired_held p (saved (context c p) (pick (w.nodes p).queues) (w.nodes p).state k) (w.nodes p).journal) s
 
 happens_released : (c : Setting) (w : World) (e : Event) → ReleasedSaved w → ReleasedSaved (happens c w e)
-happens_released c w (Sends client op) s = cond_both (is_closed client (w.sent client)) _ _ ReleasedSaved (λ _. s) (λ _. s)
+happens_released c w (Sends client op) s = s
 happens_released c w (Comes p bytes) s = come_cases c p (w.nodes p) (message_of bytes) (λ o. ReleasedSaved (moved w p o)) (with_released w p (w.nodes p) [] (same_long (w.nodes p).journal) (λ v i. absurd i) s)
     (λ m b _ _ _. with_released w p (taken_in (w.nodes p) m b).node (replies (w.nodes p) b) (same_long (w.nodes p).journal) (replies_held p (w.nodes p) b) s)
     (λ m b _ _ _. fires_released c w p (DecideByBundle b) s)

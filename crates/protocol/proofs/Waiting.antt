@@ -2,9 +2,9 @@
 use Rattle.std.proofs.Common.{◌≡◌, ℕ, zero, suc, ◌⊎◌, inl, inr, List, [], ◌∷◌, ◌++◌, length, sym, subst, map, take, drop, filter, flat_map}
 use Rattle.std.specs.Prelude.{◌==◌}
 use Rattle.std.proofs.lemmas.Bool.{cond_both}
-use Rattle.protocol.specs.Values.{Tx, Item, keeps_limits}
+use Rattle.protocol.specs.Values.{Tx, Item, item, Standing, fits, left_by, keeps_limits}
 use Rattle.protocol.specs.Messages.{◌∈◌}
-use Rattle.protocol.specs.Queues.{Queue, pick, queued, all_waiting, turns, longest, drop_delivered, still_waiting}
+use Rattle.protocol.specs.Queues.{Queue, pick, queued, all_waiting, turns, longest, drop_delivered, still_waiting, going_on, is_above, standing_of}
 use Rattle.protocol.proofs.Membership.{in_append, in_left, in_right, in_map, in_flat_map, flat_map_in, in_filter, in_take, in_drop}
 
 in_turns : (n : ℕ) (t : Tx) (qs : List (List Tx)) → t ∈ turns n qs → (q : List Tx) × (q ∈ qs) × (t ∈ q)
@@ -38,9 +38,13 @@ queued_in u t (q ∷ qs) k = cond_both (q.client == u.client) (record q { waitin
       | inr l ↦ (elim (queued_in u t qs l) [ inl m ↦ inl m | inr m ↦ inr (in_right t q.waiting (all_waiting qs) m) ])
     ]) k
 
+kept_in : (s : Standing) (t : Tx) (ts : List Tx) → t ∈ going_on s ts → t ∈ ts
+kept_in s t [] k = absurd k
+kept_in s t (u ∷ ts) k = cond_both (fits s (item u)) (u ∷ going_on (left_by (item u)) ts) [] (λ l. t ∈ l → t ∈ (u ∷ ts)) (λ _ i. elim i [ inl e ↦ inl e | inr m ↦ inr (kept_in (left_by (item u)) t ts m) ]) (λ _ i. absurd i) k
+
 pub dropped_in : (d : List Item) (t : Tx) (qs : List Queue) → t ∈ all_waiting (drop_delivered d qs) → t ∈ all_waiting qs
 dropped_in d t [] k = absurd k
-dropped_in d t (q ∷ qs) k = elim (in_append t (filter (still_waiting d) q.waiting) (all_waiting (drop_delivered d qs)) k) [
-  | inl l ↦ in_left t q.waiting (all_waiting qs) (in_filter (still_waiting d) t q.waiting l)
+dropped_in d t (q ∷ qs) k = elim (in_append t (still_waiting (standing_of q.client d) q.waiting) (all_waiting (drop_delivered d qs)) k) [
+  | inl l ↦ in_left t q.waiting (all_waiting qs) (in_filter (is_above (standing_of q.client d)) t q.waiting (kept_in (standing_of q.client d) t (filter (is_above (standing_of q.client d)) q.waiting) l))
   | inr l ↦ in_right t q.waiting (all_waiting qs) (dropped_in d t qs l)
 ]

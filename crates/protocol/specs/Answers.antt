@@ -22,6 +22,7 @@ submit_cause submits.Gap = Some causes.Gap
 submit_cause submits.Closed = Some causes.Closed
 submit_cause submits.QueueFull = Some causes.QueueFull
 submit_cause submits.TooLong = Some causes.TxTooLong
+submit_cause submits.SessionAhead = Some causes.SessionAhead
 submit_cause submits.OutOfMemory = None
 
 abbrev pub judge_cause : JudgeFault → Option BundleRefusal

@@ -44,6 +44,7 @@ frame receiver body tag = frame_spelling (record { body = body; tags = tags_to r
 abbrev pub hello : Tx
 hello = record {
   client = 5;
+  session = 0;
   number = 1;
   op = Bytes (104 ∷ 105 ∷ []);
   tags = digest 0x417f83c59a0963022207b0fbf72d940859d7c2a101d522cff97e63cdb92f20f4
@@ -177,9 +178,12 @@ locked = record (restart 3 []) { begun = true; round = 3; lock = Some (record { 
 abbrev pub Holds : Type 0
 Holds = (saved (context four 3) empty locked (PrevoteAgain 1 greeting) ≡ Some (Own 0 3 (Prevoting None))) × (saved (context four 3) empty locked (PrevoteAgain 2 greeting) ≡ Some (Own 0 3 (Prevoting (Some (id greeting)))))
 
--- Among the delivered items the numbers go on, and nothing follows a close.
+-- Among the delivered items the numbers go on, and after a close those of the next session alone.
 abbrev pub Orders : Type 0
-Orders = (valid [] greeting ≡ true) × (valid (item hello ∷ []) greeting ≡ false) × (valid (item hello ∷ []) (record { txs = record hello { number = 2; op = Close } ∷ record hello { number = 3 } ∷ [] }) ≡ false)
+Orders = (valid [] greeting ≡ true) × (valid (item hello ∷ []) greeting ≡ false)
+    × (valid (item hello ∷ []) (record { txs = record hello { number = 2; op = Close } ∷ record hello { number = 3 } ∷ [] }) ≡ false)
+    × (valid (item hello ∷ []) (record { txs = record hello { number = 2; op = Close } ∷ record hello { session = 1 } ∷ [] }) ≡ true)
+    × (valid (item hello ∷ []) (record { txs = record hello { session = 1 } ∷ [] }) ≡ false)
 
 -- Timeouts alone lead validator 3 to round 3, where it proposes.
 abbrev pub waiting : List Event
@@ -243,9 +247,9 @@ Picks = (pick asked.queues ≡ greeting) × ((firing four 0 asked (DecideByBundl
 abbrev pub Answers : Type 0
 Answers = replies (opened 0 (Decided greeted ∷ [])) (OfAsk (record { height = 0; sender = 1 })) ≡ OfBundle greeted ∷ []
 
--- A client's first item is sent. Own messages are sent again, the oldest first, also the one whose save a stop cut.
+-- A client's first item is sent, and after its close the first of the next session. Own messages are sent again, the oldest first, also the one whose save a stop cut.
 abbrev pub Sent : Type 0
-Sent = ((run four (beginning four) (Sends 5 Close ∷ [])).sent 5 ≡ record { client = 5; number = 1; op = Close } ∷ [])
+Sent = ((run four (beginning four) (Sends 5 Close ∷ Sends 5 Close ∷ [])).sent 5 ≡ record { client = 5; session = 0; number = 1; op = Close } ∷ record { client = 5; session = 1; number = 1; op = Close } ∷ [])
     × ((run four (beginning four) (Restarts 0 (Some (InFiring Start)) ∷ Resends 0 ∷ [])).released ≡ proposal 0 None empty ∷ [])
     × (own_since 0 (Own 0 0 (Prevoting None) ∷ Own 0 0 (Proposing None empty) ∷ []) ≡ proposal 0 None empty ∷ OfVote (prevote 0 0 0 None) ∷ [])
 

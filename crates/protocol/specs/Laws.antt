@@ -5,7 +5,7 @@ use Rattle.powers.specs.Power.{FewLie, IsQuorum}
 use Rattle.transactions.specs.declared.fault.Fault.{Fault}
 use Rattle.messages.specs.Grammar.{body_spelling, IsBody}
 use Rattle.messages.specs.Framing.{message_of, frame_spelling, IsMessage, SpellsFrame}
-use Rattle.protocol.specs.Values.{Id, Value, id, Item, of, in_turn}
+use Rattle.protocol.specs.Values.{Id, Value, id, Item, of, fresh, in_turn}
 use Rattle.protocol.specs.Tags.{Setting, right}
 use Rattle.protocol.specs.Messages.{◌∈◌, Body, sender_of, tagged, Message, Bundle, Vote, OfVote, prevote, precommit, Step, Precommit, Precommitting, step_number, step_of, Record, Own, Decided}
 use Rattle.protocol.specs.Restart.{height_of, delivered_of, lock_of, last_place}
@@ -86,17 +86,17 @@ SentLaw = (c : Setting) (h : Honesty) (events : List Event) → FewLie c.powers 
     → (p : ℕ) → IsCorrect c h p → (client : ℕ) → h.clients client ≡ true → Begins (of client (delivered (run c (beginning c) events) p)) ((run c (beginning c) events).sent client)
 
 abbrev pub FifoLaw : Type 0
-FifoLaw = (c : Setting) (events : List Event) (p client : ℕ) → in_turn 1 (of client (delivered (run c (beginning c) events) p)) ≡ true
+FifoLaw = (c : Setting) (events : List Event) (p client : ℕ) → in_turn fresh (of client (delivered (run c (beginning c) events) p)) ≡ true
 
 -- Whatever bytes liars with less than a third of the power send, whatever is lost, repeated or reordered, whichever timeouts fire and validators restart:
--- of two correct validators' delivered lists one begins the other; in each, a client's transactions are its numbers from one, each once, nothing after its close;
+-- of two correct validators' delivered lists one begins the other; in each, a session's transactions are its numbers from one, each once, nothing after its close, and a client's sessions stand in order;
 -- and a correct client's begin what it sent.
 abbrev pub BeginsLaw : Type 0
 BeginsLaw = (c : Setting) (h : Honesty) (early late : List Event) → FewLie c.powers h.liars → Unforged c h (beginning c) (early ++ late) → Distinct c h (early ++ late)
     → (p : ℕ) → IsCorrect c h p →
     Begins (delivered (run c (beginning c) early) p) (delivered (run c (beginning c) (early ++ late)) p)
     × ((q : ℕ) → IsCorrect c h q → Comparable (delivered (run c (beginning c) early) p) (delivered (run c (beginning c) (early ++ late)) q))
-    × ((client : ℕ) → in_turn 1 (of client (delivered (run c (beginning c) (early ++ late)) p)) ≡ true)
+    × ((client : ℕ) → in_turn fresh (of client (delivered (run c (beginning c) (early ++ late)) p)) ≡ true)
     × ((client : ℕ) → h.clients client ≡ true → Begins (of client (delivered (run c (beginning c) (early ++ late)) p)) ((run c (beginning c) (early ++ late)).sent client))
 
 -- Each decision's id is its value's, and its certificate is a quorum: of the senders that it names, and, for a validator, of those whose tags in it are right for this one.
@@ -188,9 +188,9 @@ ReportLaw = (read : List ℕ → Result Message Fault) (c : Setting) (events : L
     × ((p : ℕ) → decisions p (unreported c (beginning c) events) ≡ [] → decisions_in ((run c (beginning c) events).nodes p).journal ≡ decisions p (report read c (beginning c) events))
     × RefusalsTold read c
 
--- A body whose fields are in range is a message with its tags, for 1 to 64 validators: its frame is read again, and each receiver finds its tag right.
+-- A body whose fields are in range is a message with its tags, for 1 to 128 validators: its frame is read again, and each receiver finds its tag right.
 abbrev pub TaggedLaw : Type 0
-TaggedLaw = (c : Setting) (b : Body) → 1 ≤ length c.powers → length c.powers ≤ 64 → IsBody b →
+TaggedLaw = (c : Setting) (b : Body) → 1 ≤ length c.powers → length c.powers ≤ 128 → IsBody b →
     IsMessage (tagged c b)
     × (message_of (frame_spelling (tagged c b)) ≡ Ok (tagged c b))
     × ((q : ℕ) → q < length c.powers → right c q (sender_of b) (body_spelling b) (tagged c b).tags ≡ true)

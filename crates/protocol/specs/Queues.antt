@@ -1,7 +1,6 @@
 -- The clients' queues at a validator.
-use Rattle.std.specs.Prelude.{ℕ, zero, suc, Bool, true, false, cond, not, ◌&&◌, List, [], ◌∷◌, ◌++◌, map, length, ◌==◌, nat_lt, filter, flat_map, take, drop}
-use Rattle.std.specs.List.{list_any}
-use Rattle.protocol.specs.Values.{Tx, Op, Bytes, Close, Value, Item, keeps_limits, of}
+use Rattle.std.specs.Prelude.{ℕ, zero, suc, Bool, true, false, cond, ◌&&◌, ◌||◌, List, [], ◌∷◌, ◌++◌, map, length, ◌==◌, nat_lt, filter, flat_map, take, drop}
+use Rattle.protocol.specs.Values.{Tx, Value, Item, item, Standing, fresh, fits, left_by, left_after, keeps_limits, of}
 pub use Rattle.protocol.specs.State.{Queue}
 
 -- one transaction of each queue in turn, again and again, this many times
@@ -20,13 +19,9 @@ all_waiting queues = flat_map (λ (q : Queue). q.waiting) queues
 unfoldable pub pick : List Queue → Value
 pick queues = record { txs = longest 256 (turns (length (all_waiting queues)) (map (λ (q : Queue). q.waiting) queues)) }
 
-abbrev pub is_close : Op → Bool
-is_close Close = true
-is_close (Bytes b) = false
-
--- the client's close stands in the list
-abbrev pub is_closed : ℕ → List Item → Bool
-is_closed client d = list_any (λ (t : Item). is_close t.op) (of client d)
+-- where the client stands after this list
+abbrev pub standing_of : ℕ → List Item → Standing
+standing_of client d = left_after fresh (of client d)
 
 abbrev pub waiting_of : ℕ → List Queue → List Tx
 waiting_of client queues = flat_map (λ (q : Queue). q.waiting) (filter (λ (q : Queue). q.client == client) queues)
@@ -36,9 +31,18 @@ abbrev pub queued : Tx → List Queue → List Queue
 queued t [] = record { client = t.client; waiting = t ∷ [] } ∷ []
 queued t (q ∷ qs) = cond (q.client == t.client) (record q { waiting = q.waiting ++ t ∷ [] } ∷ qs) (q ∷ queued t qs)
 
--- what is delivered, and what a closed client has waiting, is dropped
-abbrev pub still_waiting : List Item → Tx → Bool
-still_waiting d t = nat_lt (length (of t.client d)) t.number && not (is_closed t.client d)
+-- session and number are above those that the client left
+abbrev pub is_above : Standing → Tx → Bool
+is_above s t = nat_lt s.session t.session || ((t.session == s.session) && nat_lt s.last t.number)
+
+-- up to the first that isn't the next after those before it
+abbrev pub going_on : Standing → List Tx → List Tx
+going_on s [] = []
+going_on s (t ∷ ts) = cond (fits s (item t)) (t ∷ going_on (left_by (item t)) ts) []
+
+-- of what waits, what is above the last that is delivered, as far as it goes on from there
+abbrev pub still_waiting : Standing → List Tx → List Tx
+still_waiting s waiting = going_on s (filter (is_above s) waiting)
 
 abbrev pub drop_delivered : List Item → List Queue → List Queue
-drop_delivered d queues = map (λ (q : Queue). record q { waiting = filter (still_waiting d) q.waiting }) queues
+drop_delivered d queues = map (λ (q : Queue). record q { waiting = still_waiting (standing_of q.client d) q.waiting }) queues

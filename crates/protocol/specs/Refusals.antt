@@ -7,11 +7,11 @@ use Rattle.transactions.specs.declared.fault.Fault.TheVariants as faults
 use Rattle.messages.specs.Grammar.{body_spelling}
 use Rattle.messages.specs.Framing.{message_of}
 use Rattle.powers.specs.Power.{power, is_quorum, proposer}
-use Rattle.protocol.specs.Values.{Tx, Op, Bytes, Close, Item, item, id, valid, of}
+use Rattle.protocol.specs.Values.{Tx, Op, Bytes, Close, Item, item, id, valid, Standing, is_close, fits, left_after}
 use Rattle.protocol.specs.Tags.{Setting, Party, Validator, Client, right, tx_is_right, genuine}
 use Rattle.protocol.specs.Messages.{precommit, Signed, Proposal, Vote, Ask, Bundle, Body, OfTx, OfProposal, OfVote, OfAsk, OfBundle, Message, proposal_eq, vote_eq, sender_of, tagged, below}
 use Rattle.protocol.specs.State.{Context, State, Queue, Node}
-use Rattle.protocol.specs.Queues.{is_closed, waiting_of}
+use Rattle.protocol.specs.Queues.{standing_of, is_above, waiting_of}
 
 -- ---- what a validator knows
 
@@ -48,6 +48,7 @@ pub data TxRefusal : Type 0 where
   Closed : TxRefusal
   QueueFull : TxRefusal
   TxTooLong : TxRefusal
+  SessionAhead : TxRefusal
 
 -- why a bundle decides nothing
 pub data BundleRefusal : Type 0 where
@@ -122,9 +123,21 @@ vote_causes p s v = (not (v.height == s.height) ↪ OtherHeight)
 abbrev pub ask_causes : State → Ask → List (Cause Refusal)
 ask_causes s a = (not (nat_lt a.height s.height) ↪ OtherHeight) ∷ []
 
--- the number that the client's next transaction has
-abbrev pub wanted : List Item → List Queue → ℕ → ℕ
-wanted d queues client = suc (length (of client d) + length (waiting_of client queues))
+-- where the client stands after what is delivered and what waits
+abbrev pub reached : List Item → List Queue → ℕ → Standing
+reached d queues client = left_after (standing_of client d) (map item (waiting_of client queues))
+
+-- It isn't above the client's last delivered one, or one of its session with its number or a higher one waits.
+abbrev pub is_old : List Item → List Queue → Tx → Bool
+is_old d queues t = not (is_above (standing_of t.client d) t) || list_any (λ (u : Tx). (u.session == t.session) && nat_le t.number u.number) (waiting_of t.client queues)
+
+-- The close of its session is delivered, or waits.
+abbrev pub is_closed : List Item → List Queue → Tx → Bool
+is_closed d queues t = ((t.session == (standing_of t.client d).session) && (standing_of t.client d).closed) || list_any (λ (u : Tx). (u.session == t.session) && is_close u.op) (waiting_of t.client queues)
+
+-- It is neither of the session that the client reached nor, where that one is closed, of the next.
+abbrev pub is_ahead : Standing → Tx → Bool
+is_ahead s t = not ((t.session == s.session) || (s.closed && (t.session == suc s.session)))
 
 abbrev pub is_long : Op → Bool
 is_long (Bytes b) = nat_lt 1024 (length b)
@@ -134,9 +147,10 @@ abbrev pub tx_causes : Setting → ℕ → List Item → List Queue → Tx → L
 tx_causes c p d queues t = (is_long t.op ↪ TxTooLong)
     ∷ (not (c.clients t.client) ↪ UnknownClient)
     ∷ (not (tx_is_right c p t) ↪ BadTxTag)
-    ∷ (nat_lt t.number (wanted d queues t.client) ↪ OldNumber)
-    ∷ (is_closed t.client (d ++ map item (waiting_of t.client queues)) ↪ Closed)
-    ∷ (nat_lt (wanted d queues t.client) t.number ↪ Gap)
+    ∷ (is_old d queues t ↪ OldNumber)
+    ∷ (is_closed d queues t ↪ Closed)
+    ∷ (is_ahead (reached d queues t.client) t ↪ SessionAhead)
+    ∷ (not (fits (reached d queues t.client) (item t)) ↪ Gap)
     ∷ (nat_le 64 (length (waiting_of t.client queues)) ↪ QueueFull) ∷ []
 
 -- those that the bundle names
@@ -193,6 +207,7 @@ tx_number Gap = 4
 tx_number Closed = 5
 tx_number QueueFull = 6
 tx_number TxTooLong = 7
+tx_number SessionAhead = 9
 
 abbrev pub bundle_number : BundleRefusal → ℕ
 bundle_number NoQuorum = 1

@@ -1,12 +1,11 @@
 -- The world: every validator's node, over every list of events.
-use Rattle.std.specs.Prelude.{ℕ, suc, Bool, true, false, not, ◌&&◌, cond, Option, Some, None, List, [], ◌∷◌, ◌++◌, length, ◌==◌, option_to_list}
-use Rattle.protocol.specs.Values.{Op, Item}
+use Rattle.std.specs.Prelude.{ℕ, Bool, true, false, not, ◌&&◌, cond, Option, Some, None, List, [], ◌∷◌, ◌++◌, ◌==◌, option_to_list}
+use Rattle.protocol.specs.Values.{Op, Item, fresh, session_wanted, number_wanted, left_after}
 use Rattle.protocol.specs.Tags.{Setting}
 use Rattle.protocol.specs.Messages.{Body, OfAsk, Record}
 use Rattle.protocol.specs.State.{Node, Rule, DecideByBundle}
 use Rattle.protocol.specs.Rules.{holds}
 use Rattle.protocol.specs.Restart.{opened, own_since, delivered_of}
-use Rattle.protocol.specs.Queues.{is_closed}
 use Rattle.protocol.specs.Refusals.{context}
 use Rattle.protocol.specs.Arrivals.{Outcome, nothing, arrival, firing}
 
@@ -24,7 +23,7 @@ pub data Cut : Type 0 where
   InFiring : Rule → Cut
 
 pub data Event : Type 0 where
-  Sends : ℕ → Op → Event  -- a client sends its next number
+  Sends : ℕ → Op → Event  -- a client sends its next item
   Comes : ℕ → List ℕ → Event  -- any bytes come to a validator
   Fires : ℕ → Rule → Event  -- a rule, also a timeout's
   Asks : ℕ → Event
@@ -51,12 +50,12 @@ cut_record c p n None = []
 cut_record c p n (Some (InArrival bytes)) = option_to_list (arrival c p n bytes).wrote
 cut_record c p n (Some (InFiring k)) = option_to_list (tried c p n k).wrote
 
+-- what a client sends after these: the next number of its session, or, after its close, number 1 of the next session
 abbrev pub next_item : ℕ → Op → List Item → Item
-next_item client op items = record { client = client; number = suc (length items); op = op }
+next_item client op items = record { client = client; session = session_wanted (left_after fresh items); number = number_wanted (left_after fresh items); op = op }
 
--- a client sends nothing after its close
 abbrev pub sending : World → ℕ → Op → World
-sending w client op = cond (is_closed client (w.sent client)) w (record w { sent = λ k. cond (k == client) (w.sent client ++ next_item client op (w.sent client) ∷ []) (w.sent k) })
+sending w client op = record w { sent = λ k. cond (k == client) (w.sent client ++ next_item client op (w.sent client) ∷ []) (w.sent k) }
 
 -- What is refused, and a rule that doesn't hold, changes nothing. Bytes that aren't taken in for want of memory are no event.
 abbrev pub happens : Setting → World → Event → World

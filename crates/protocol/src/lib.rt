@@ -7,6 +7,7 @@
 mod limits;
 mod records;
 mod refusal;
+mod standing;
 mod types;
 
 ghost use Rattle.protocol.specs.Examples.{WorkedCases, WorkedRuns};
@@ -21,6 +22,7 @@ pub use limits::{
 };
 pub use records::{Act, OwnMessage, Record};
 pub use refusal::{JudgeFault, Refusal, SubmitFault};
+pub use standing::Standing;
 pub use types::{Stamp, Step, Timeout, ValueAt};
 
 /// Within a height a validator's own messages grow in round and step, over restarts too, and what it released is in
@@ -58,7 +60,8 @@ pub fn sent_law()
     ensures { SentLaw }
 {}
 
-/// In every validator's delivered list each client's numbers are 1, 2, .., and nothing follows its close.
+/// In every validator's delivered list a session's transactions are its numbers from one, each once, with nothing after
+/// its close, and a client's sessions stand in order.
 pub fn fifo_law()
     ensures { FifoLaw }
 {}
@@ -106,8 +109,8 @@ pub fn timeout_law()
     ensures { TimeoutLaw }
 {}
 
-/// A body whose fields are in range is, with its tags, a message whose frame is read again, and each of up to 64
-/// receivers finds its own tag right. The longest content, a bundle's with 64 precommits, has at most 633,361 bytes of
+/// A body whose fields are in range is, with its tags, a message whose frame is read again, and each of up to 128
+/// receivers finds its own tag right. The longest content, a bundle's with 128 precommits, has at most 1,028,817 bytes of
 /// the 1,048,576 that a frame may have.
 pub fn tagged_law()
     ensures { TaggedLaw }

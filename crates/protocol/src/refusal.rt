@@ -7,7 +7,7 @@ use std::alloc::{AllocError, AllocFailed};
 use thiserror::Error;
 use transactions::Fault;
 
-/// Why a transaction is not queued: the first cause in the order 7, 1, 2, 3, 5, 4, 6. A number is the one that clients of
+/// Why a transaction is not queued: the first cause in the order 7, 1, 2, 3, 5, 9, 4, 6. A number is the one that clients of
 /// a node see.
 #[derive(Clone, Copy, Debug, PartialEq, Eq, Error)]
 pub enum SubmitFault {
@@ -17,14 +17,15 @@ pub enum SubmitFault {
     /// 2: there are more or fewer tags than validators, or the one for this validator is not right.
     #[error("a tag is wrong")]
     BadTag = 2,
-    /// 3: the number is below the wanted one: it is delivered or queued.
+    /// 3: its session is below that of the client's last delivered one, or one of its session with its number or a
+    /// higher one is delivered or queued.
     #[error("the number is delivered or queued")]
     OldNumber = 3,
-    /// 4: the number is above the wanted one.
+    /// 4: the number is not the next one of its session.
     #[error("a number before it is missing")]
     Gap = 4,
-    /// 5: the client's close is delivered or queued.
-    #[error("the client has closed")]
+    /// 5: a close of its session is delivered or queued.
+    #[error("the session is closed")]
     Closed = 5,
     /// 6: 64 transactions of the client are waiting.
     #[error("too many transactions of the client are waiting")]
@@ -36,6 +37,9 @@ pub enum SubmitFault {
     /// `OutOfMemory`.
     #[error("out of memory")]
     OutOfMemory = 8,
+    /// 9: its session is neither the last one of what is delivered or queued nor, where that one is closed, the next.
+    #[error("a session before it is not closed")]
+    SessionAhead = 9,
 }
 
 /// Why a bundle decides nothing: the first cause in the order 2, 1, 3, 4.
@@ -145,7 +149,7 @@ impl Refusal {
         }
     }
 
-    /// The number of the inner fault: 1 to 7 for a transaction, 1 to 4 for a bundle, else 0.
+    /// The number of the inner fault: 1 to 7 or 9 for a transaction, 1 to 4 for a bundle, else 0.
     pub fn inner(&self) -> u8
         ensures { result ≡ (numbers_of self.now).1 }
     {

@@ -72,7 +72,7 @@ impl State {
 
 /// The place of each validator's first stamp of this round and id. Senders past the last validator are passed over.
 fn first_stamps(stamps: &[Stamp], round: u32, id: Id) -> FirstStamps
-    ensures { (i : ℕ) → i < 64 → slice_index_or result i None ≡ position_from (is_stamp round id i) 0 stamps.now }
+    ensures { (i : ℕ) → i < 128 → slice_index_or result i None ≡ position_from (is_stamp round id i) 0 stamps.now }
 {
     let mut firsts = [None; MOST_VALIDATORS];
     for place in 0..stamps.len() {
@@ -86,7 +86,7 @@ fn first_stamps(stamps: &[Stamp], round: u32, id: Id) -> FirstStamps
 
 /// Notes a stamp's place, where its sender has none yet.
 fn note(firsts: &mut FirstStamps, sender: u16, place: usize)
-    ensures { (i : ℕ) → i < 64 → slice_index_or firsts.new i None ≡ noted sender place i (slice_index_or firsts.old i None) }
+    ensures { (i : ℕ) → i < 128 → slice_index_or firsts.new i None ≡ noted sender place i (slice_index_or firsts.old i None) }
 {
     let sender = usize::from(sender);
     if sender < MOST_VALIDATORS && firsts[sender].is_none() {

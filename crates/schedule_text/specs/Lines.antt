@@ -27,6 +27,7 @@ sender cast word = option_and_then (λ number. unless (is_correct cast number) n
 -- what comes to no liar, and what no correct validator sends
 abbrev pub allows : Cast → Event → Bool
 allows cast (events.Send client op) = true
+allows cast (events.Open client) = true
 allows cast (events.Deliver number p) = not (is_liar cast p)
 allows cast events.Pass = true
 allows cast (events.Timeout p t) = not (is_liar cast p)

@@ -6,7 +6,7 @@ ghost use Rattle.std.specs.Char.{is_ascii_uppercase};
 ghost use Rattle.schedule_text.specs.Names.{is_name};
 
 use crate::fault::LineFault;
-use crate::numbers::{list_in, number_in, number_in_u16};
+use crate::numbers::{list_in, number_in, number_in_u16, number_in_u32};
 use crate::words::words_between;
 use protocol::MOST_DATA;
 use std::alloc::Global;
@@ -96,16 +96,33 @@ fn item_in(alloc: Global, word: &[u8]) -> Result<Item, LineFault> {
 
 /// The item of these words.
 fn item_of(alloc: Global, words: &[&[u8]]) -> Result<Item, LineFault> {
-    let [client, number, op] = words else {
+    let [sender, number, op] = words else {
         return Err(LineFault::BadLine);
     };
-    let client = number_in_u16(client).ok_or(LineFault::BadLine)?;
+    let (client, session) = sender_in(sender).ok_or(LineFault::BadLine)?;
     let number = number_in(number).ok_or(LineFault::BadLine)?;
     let op = match *op {
         b"close" => Op::Close,
         bytes => sent_in(alloc, bytes)?,
     };
-    Ok(Item { client, number, op })
+    Ok(Item {
+        client,
+        session,
+        number,
+        op,
+    })
+}
+
+/// `C`, or `C.S` of a session after its first.
+fn sender_in(word: &[u8]) -> Option<(u16, u32)> {
+    let Some(dot) = word.iter().position(|byte| *byte == b'.') else {
+        return Some((number_in_u16(word)?, 0));
+    };
+    let session = number_in_u32(&word[dot + 1..])?;
+    if session == 0 {
+        return None;
+    }
+    Some((number_in_u16(&word[..dot])?, session))
 }
 
 /// The bytes that a client sends.

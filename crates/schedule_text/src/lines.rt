@@ -63,6 +63,8 @@ impl Forms<'_> {
             self.fail(words)
         } else if is_word(kind, "close") {
             close_line(words)
+        } else if is_word(kind, "open") {
+            open_line(words)
         } else {
             self.asked(kind, words)
         }
@@ -308,6 +310,16 @@ fn close_line(words: &[&[u8]]) -> Option<Event>
         return None;
     };
     Some(Event::Send(count_in(client)?, Op::Close))
+}
+
+/// `open C`
+fn open_line(words: &[&[u8]]) -> Option<Event>
+    ensures { (cast : Cast) → IfSome result (λ event. allows cast event ≡ true) }
+{
+    let [client] = words else {
+        return None;
+    };
+    Some(Event::Open(count_in(client)?))
 }
 
 /// `-` for no bytes, or how many.

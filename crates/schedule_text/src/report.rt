@@ -148,8 +148,22 @@ fn write_bundle<W: fmt::Write>(
 }
 
 fn write_tx<W: fmt::Write>(tx: &Tx, f: &mut fmt::Formatter<W>) -> fmt::Result {
-    let (client, number, op) = (tx.client, tx.number, OpText(&tx.op));
-    write!(f, "c{client} tx {number} {op}")
+    let (sender, number, op) = (Sender(tx.client, tx.session), tx.number, OpText(&tx.op));
+    write!(f, "c{sender} tx {number} {op}")
+}
+
+/// A client, and its session where it isn't the first.
+#[derive(Clone, Copy)]
+struct Sender(u16, u32);
+
+impl fmt::Display for Sender {
+    fn fmt<W: fmt::Write>(&self, f: &mut fmt::Formatter<W>) -> fmt::Result {
+        let (client, session) = (self.0, self.1);
+        match session {
+            0 => write!(f, "{client}"),
+            _ => write!(f, "{client}.{session}"),
+        }
+    }
 }
 
 /// A round: -1 for none.
@@ -228,6 +242,7 @@ impl fmt::Display for EndLine<'_> {
 }
 
 fn write_item<W: fmt::Write>(item: &Item, f: &mut fmt::Formatter<W>) -> fmt::Result {
-    let (client, number, op) = (item.client, item.number, OpText(&item.op));
-    write!(f, " {client}:{number}:{op}")
+    let (sender, number) = (Sender(item.client, item.session), item.number);
+    let op = OpText(&item.op);
+    write!(f, " {sender}:{number}:{op}")
 }

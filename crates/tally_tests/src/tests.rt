@@ -182,8 +182,8 @@ impl Dice {
             4..7 => 1,
             7..10 => 2,
             10..13 => 3,
-            13 => 63,
-            14 => 64,
+            13 => 127,
+            14 => 128,
             _ => 1000,
         }
     }
@@ -419,21 +419,36 @@ fn numbers_of_faults(rt: HostRuntime) {
     assert_eq!(rt; TallyFault::OutOfMemory.number(), 3);
 }
 
+/// Validators 0 and 64 of 128, and others of the second half of the masks, are apart.
+#[test]
+fn both_halves_of_the_masks(rt: HostRuntime) -> Result<(), Fail> {
+    let powers = Powers::new(vec![in rt.alloc(); 1; 128]?)?;
+    let mut tally = Tally::new(rt.alloc(), powers, 1);
+    for (power, sender) in [(1, 64), (2, 0), (3, 63), (4, 127)] {
+        assert!(rt; !tally.has_voted(sender, 0, Step::Prevote, Some(A)));
+        assert_eq!(rt; tally.add(prevote(0, sender, Some(A))), Ok(()));
+        assert_eq!(rt; tally.power_for(0, Step::Prevote, Some(A)), power);
+        assert_eq!(rt; tally.power_any(0, Step::Prevote), power);
+        assert_eq!(rt; tally.power_above(0), power);
+    }
+    Ok(())
+}
+
 #[test]
 fn the_last_validator(rt: HostRuntime) -> Result<(), Fail> {
-    let powers = Powers::new(vec![in rt.alloc(); 1; 64]?)?;
+    let powers = Powers::new(vec![in rt.alloc(); 1; 128]?)?;
     let mut tally = Tally::new(rt.alloc(), powers, 1);
-    for sender in [63u16, 0, 64, 128] {
+    for sender in [127u16, 0, 64, 128] {
         assert_eq!(rt; tally.add(prevote(0, sender, Some(A))), Ok(()));
         assert_eq!(rt;
             tally.add(prevote(0, sender, Some(A))),
             Err(TallyFault::Repeat)
         );
     }
-    assert_eq!(rt; tally.power_for(0, Step::Prevote, Some(A)), 2);
+    assert_eq!(rt; tally.power_for(0, Step::Prevote, Some(A)), 3);
     assert_eq!(rt; tally.power_for(0, Step::Precommit, Some(A)), 0);
     assert!(rt; tally.has_voted(128, 0, Step::Prevote, Some(A)));
-    assert!(rt; !tally.has_voted(62, 0, Step::Prevote, Some(A)));
+    assert!(rt; !tally.has_voted(126, 0, Step::Prevote, Some(A)));
     Ok(())
 }
 

@@ -30,12 +30,12 @@ op_eq_decides (Bytes x) Close = (λ e. absurd cc, λ e. absurd cc)
 op_eq_decides Close (Bytes y) = (λ e. absurd cc, λ e. absurd cc)
 op_eq_decides Close Close = (λ e. refl, λ e. refl)
 
-tx_same : (a b : Tx) → a.client ≡ b.client → a.number ≡ b.number → a.op ≡ b.op → a.tags ≡ b.tags → a ≡ b
-tx_same a b ec en eo et = rw (ec, en, eo, et) refl
+tx_same : (a b : Tx) → a.client ≡ b.client → a.session ≡ b.session → a.number ≡ b.number → a.op ≡ b.op → a.tags ≡ b.tags → a ≡ b
+tx_same a b ec es en eo et = rw (ec, es, en, eo, et) refl
 
 pub tx_eq_decides : (a b : Tx) → Decides (tx_eq a b) (a ≡ b)
-tx_eq_decides a b = Decides-like _ (λ h. tx_same a b h.0.0.0 h.0.0.1 h.0.1 h.1) (λ e. (((ap (λ (t : Tx). t.client) e, ap (λ (t : Tx). t.number) e), ap (λ (t : Tx). t.op) e), ap (λ (t : Tx). t.tags) e))
-    (Decides-and _ _ (Decides-and _ _ (Decides-and _ _ (Decides-eqb a.client b.client) (Decides-eqb a.number b.number)) (op_eq_decides a.op b.op)) (lists_eq_decides bytes_eq bytes_eq-Decides a.tags b.tags))
+tx_eq_decides a b = Decides-like _ (λ h. tx_same a b h.0.0.0.0 h.0.0.0.1 h.0.0.1 h.0.1 h.1) (λ e. ((((ap (λ (t : Tx). t.client) e, ap (λ (t : Tx). t.session) e), ap (λ (t : Tx). t.number) e), ap (λ (t : Tx). t.op) e), ap (λ (t : Tx). t.tags) e))
+    (Decides-and _ _ (Decides-and _ _ (Decides-and _ _ (Decides-and _ _ (Decides-eqb a.client b.client) (Decides-eqb a.session b.session)) (Decides-eqb a.number b.number)) (op_eq_decides a.op b.op)) (lists_eq_decides bytes_eq bytes_eq-Decides a.tags b.tags))
 
 pub value_eq_decides : (a b : Value) → Decides (value_eq a b) (a ≡ b)
 value_eq_decides a b = Decides-like _ (λ h. rw h refl) (λ e. ap (λ (v : Value). v.txs) e) (lists_eq_decides tx_eq tx_eq_decides a.txs b.txs)
@@ -49,8 +49,8 @@ derived_op Close (Bytes y) = (λ e. absurd cc, λ e. absurd cc)
 derived_op Close Close = (λ e. refl, λ e. refl)
 
 derived_tx : (a b : Tx) → Decides (tx_impl.eq-value.it a b) (a ≡ b)
-derived_tx a b = Decides-like _ (λ h. tx_same a b h.0 h.1.0 h.1.1.0 h.1.1.1) (λ e. (ap (λ (t : Tx). t.client) e, (ap (λ (t : Tx). t.number) e, (ap (λ (t : Tx). t.op) e, ap (λ (t : Tx). t.tags) e))))
-    (Decides-and _ _ (Decides-eqb a.client b.client) (Decides-and _ _ (Decides-eqb a.number b.number) (Decides-and _ _ (derived_op a.op b.op) (pointwise_decides (pointwise_decides Decides-eqb) a.tags b.tags))))
+derived_tx a b = Decides-like _ (λ h. tx_same a b h.0 h.1.0 h.1.1.0 h.1.1.1.0 h.1.1.1.1) (λ e. (ap (λ (t : Tx). t.client) e, (ap (λ (t : Tx). t.session) e, (ap (λ (t : Tx). t.number) e, (ap (λ (t : Tx). t.op) e, ap (λ (t : Tx). t.tags) e)))))
+    (Decides-and _ _ (Decides-eqb a.client b.client) (Decides-and _ _ (Decides-eqb a.session b.session) (Decides-and _ _ (Decides-eqb a.number b.number) (Decides-and _ _ (derived_op a.op b.op) (pointwise_decides (pointwise_decides Decides-eqb) a.tags b.tags)))))
 
 derived_value : (a b : Value) → Decides (pointwise (λ x y. tx_impl.eq-value.it x y) a.txs b.txs) (a ≡ b)
 derived_value a b = Decides-like _ (λ h. rw h refl) (λ e. ap (λ (v : Value). v.txs) e) (pointwise_decides derived_tx a.txs b.txs)

@@ -8,7 +8,7 @@ use Rattle.byteorder.specs.Endian.{big_number, big_bytes}
 use Rattle.byteorder.specs.Numbers.{big_number-reads_back, big_from-lt, length-bytes_high_first}
 use Rattle.transactions.specs.declared.fault.Fault.{Fault}
 use Rattle.transactions.specs.declared.fault.Fault.TheVariants.{Truncated, TooLong, BadSpelling}
-use Rattle.transactions.specs.Fields.{◌>>=◌, ◌>>◌, ask, Read, number_bytes, byte_at, number_at, bytes_at, mark_at, ranged, limited}
+use Rattle.transactions.specs.Fields.{◌>>=◌, ◌>>◌, ask, Read, number_bytes, byte_at, number_at, bytes_at, ranged, limited}
 
 abbrev pub IsBytes : List ℕ → Type 0
 IsBytes bytes = (i : ℕ) → get_or bytes i 0 < 256
@@ -173,18 +173,6 @@ u32_format = number_format 4 back_4
 
 pub u64_format : IsFormat (λ x. x < 256 ^ 8) (λ x. number_bytes 8 x) (number_at 8)
 u64_format = number_format 8 back_8
-
-pub mark_format : (c : ℕ) → IsFormat (λ (u : Unit {0}). Unit {0}) (λ _. c ∷ []) (mark_at c)
-unfolding mark_at
-mark_format c = record {
-  takes = λ bytes x fits e.
-      let a = bind_ok (byte_at bytes) (λ y. ask (eqb y.0 c) BadSpelling >> Ok (tt, y.1)) x e in
-      let b = ask_ok (eqb a.0.0 c) BadSpelling (Ok (tt, a.0.1)) x a.2 in
-      let t = byte_format.takes bytes a.0 fits a.1 in
-      let same : Takes bytes (c ∷ []) a.0.1 = subst (λ (n : ℕ). Takes bytes (n ∷ []) a.0.1) (eqb-true _ _ b.0) t.0 in
-      subst (λ (y : Unit {0} × List ℕ). Takes bytes (c ∷ []) y.1 × Unit {0}) (ok_is (tt, a.0.1) x b.1) (same, tt);
-  again = λ u rest h. rw (eq-eqb c c refl) refl;
-}
 
 pub ranged_format : {F : ℕ → Type 0} {s : ℕ → List ℕ} {read : List ℕ → Read ℕ} (low high : ℕ) → IsFormat F s read → IsFormat (λ n. F n × ((low ≤ n) × (n ≤ high))) s (λ bytes. ranged low high (read bytes))
 unfolding ranged

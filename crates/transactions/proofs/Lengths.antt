@@ -1,5 +1,5 @@
 -- What has a length has a spelling, of that length.
-use Rattle.std.proofs.Common.{◌≡◌, ℕ, ◌+◌, ◌*◌, ◌<◌, ◌≤◌, true, leb, List, [], ◌∷◌, ◌++◌, length, All, drop, get_or, Result, Ok, Err, refl, sym, ap, ◌∙◌, arith, length-append}
+use Rattle.std.proofs.Common.{◌≡◌, ℕ, zero, suc, ◌+◌, ◌*◌, ◌<◌, ◌≤◌, true, leb, List, [], ◌∷◌, ◌++◌, length, All, drop, get_or, Result, Ok, Err, refl, sym, ap, ◌∙◌, arith, length-append}
 use Rattle.std.specs.Prelude.{IfOk, OnOk}
 use Rattle.std.specs.Global.{Vec}
 use Rattle.std.specs.List.{flat_map, AllByRecursion}
@@ -14,8 +14,8 @@ use Rattle.transactions.specs.declared.tx.Op.TheVariants.{Bytes, Close}
 use Rattle.transactions.specs.declared.tx.Tx.{Tx}
 use Rattle.transactions.specs.declared.tx.Value.{Value}
 use Rattle.transactions.specs.Fields.{◌>>=◌, ◌>>◌, ask, Fails, Gives}
-use Rattle.transactions.specs.Grammar.{op_spelling, tx_fields_spelling, tx_body_spelling, tags_spelling, tx_spelling, value_spelling, IsOp, AreTags, IsTxBody, IsTx, IsValue, SpellsTx, SpellsValue}
-use Rattle.transactions.specs.Checking.{op_len, tx_body_len, tags_len, tx_len, txs_len, value_len, tx_spelled, value_spelled}
+use Rattle.transactions.specs.Grammar.{op_spelling, session_spelling, tx_fields_spelling, tx_body_spelling, tags_spelling, tx_spelling, value_spelling, IsOp, AreTags, IsTxBody, IsTx, IsValue, SpellsTx, SpellsValue}
+use Rattle.transactions.specs.Checking.{op_len, session_len, tx_body_len, tags_len, tx_len, txs_len, value_len, tx_spelled, value_spelled}
 use Rattle.transactions.proofs.Formats.{length-number_bytes, bind_ok, ask_ok, ok_is}
 
 -- ---- what fits has a length, which is that of its spelling
@@ -25,14 +25,26 @@ unfolding op_len
 op_has_length (Bytes contents) h = rw (le-leb _ _ h) (ap (λ (n : ℕ). Ok n) (omega (arith, length-append (number_bytes 2 (length contents)) contents, length-number_bytes 2 (length contents))))
 op_has_length Close h = refl
 
-body_length : (tx : Tx) → length (tx_body_spelling tx) ≡ 11 + length (op_spelling tx.op)
+pub session_length : (session : ℕ) → length (session_spelling session) ≡ session_len session
+session_length zero = refl
+session_length (suc before) = length-number_bytes 4 (suc before)
+
+body_length : (tx : Tx) → length (tx_body_spelling tx) ≡ 11 + session_len tx.session + length (op_spelling tx.op)
 unfolding tx_fields_spelling
-body_length tx = omega (arith, length-number_bytes 2 tx.client, length-number_bytes 8 tx.number, length-append (number_bytes 2 tx.client) (number_bytes 8 tx.number ++ op_spelling tx.op), length-append (number_bytes 8 tx.number) (op_spelling tx.op))
+body_length tx = omega (
+  arith,
+  length-number_bytes 2 tx.client,
+  session_length tx.session,
+  length-number_bytes 8 tx.number,
+  length-append (number_bytes 2 tx.client) (session_spelling tx.session ++ (number_bytes 8 tx.number ++ op_spelling tx.op)),
+  length-append (session_spelling tx.session) (number_bytes 8 tx.number ++ op_spelling tx.op),
+  length-append (number_bytes 8 tx.number) (op_spelling tx.op),
+)
 
 pub tx_body_has_length : (tx : Tx) → IsTxBody tx → tx_body_len tx ≡ Ok (length (tx_body_spelling tx))
 unfolding tx_body_len
 tx_body_has_length tx h =
-    let e : tx_body_len tx ≡ Ok (11 + length (op_spelling tx.op)) = rw (le-leb _ _ h.client, and_from _ _ (le-leb _ _ h.first) (le-leb _ _ h.last), op_has_length tx.op h.op) refl in
+    let e : tx_body_len tx ≡ Ok (11 + session_len tx.session + length (op_spelling tx.op)) = rw (le-leb _ _ h.client, and_from _ _ (le-leb _ _ h.first) (le-leb _ _ h.last), op_has_length tx.op h.op) refl in
     e ∙ ap (λ (n : ℕ). Ok n) (sym (body_length tx))
 
 tags_length : (tags : List (List ℕ)) → AllByRecursion (λ tag. length tag ≡ 32) tags → length (flat_map (λ tag. tag) tags) ≡ 32 * length tags

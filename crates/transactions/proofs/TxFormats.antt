@@ -1,5 +1,5 @@
 -- The formats of transactions and values.
-use Rattle.std.proofs.Common.{◌≡◌, ℕ, zero, suc, ◌-◌, ◌^◌, ◌≤◌, Bool, true, eqb, List, [], ◌∷◌, ◌++◌, length, Result, Ok, Err, refl, sym, ap, subst, ◌∙◌, append_assoc, arith, length-append}
+use Rattle.std.proofs.Common.{◌≡◌, ℕ, zero, suc, ◌-◌, ◌^◌, ◌<◌, ◌≤◌, Bool, true, false, eqb, List, [], ◌∷◌, ◌++◌, length, Result, Ok, Err, refl, sym, ap, subst, ◌∙◌, append_assoc, arith, length-append}
 use Rattle.std.specs.List.{flat_map, AllByRecursion}
 use Rattle.std.specs.Prelude.{IfOk}
 use Rattle.std.proofs.lemmas.Bool.{le-leb, leb-true, eqb-true}
@@ -12,10 +12,10 @@ use Rattle.transactions.specs.declared.fault.Fault.{Fault}
 use Rattle.transactions.specs.declared.fault.Fault.TheVariants.{BadSpelling}
 use Rattle.transactions.specs.declared.tx.Tx.{Tx}
 use Rattle.transactions.specs.declared.tx.Value.{Value}
-use Rattle.transactions.specs.Fields.{◌>>=◌, ◌>>◌, ask, Read, byte_at, number_at, mark_at, limited, repeat, whole, Gives}
-use Rattle.transactions.specs.Grammar.{op_spelling, tx_fields_spelling, tx_body_spelling, tags_spelling, tx_spelling, value_spelling, IsValue, IsOp, AreTags, IsTxBody, IsTx}
-use Rattle.transactions.specs.Reading.{data_at, op_after, op_at, tx_fields_at, tx_body_at, tag_count_at, tags_at, tx_at, is_within, value_at}
-use Rattle.transactions.proofs.Formats.{length-number_bytes, IsBytes, IsFormat, Takes, Takes-then, bind_ok, ask_ok, ok_is, fits_as, spelled_as, built, field, field_that_fits, byte_format, bytes_format, u16_format, u64_format, mark_format, ranged_format, limited_format}
+use Rattle.transactions.specs.Fields.{◌>>=◌, ◌>>◌, ask, Read, byte_at, number_at, limited, repeat, whole, Gives}
+use Rattle.transactions.specs.Grammar.{op_spelling, is_later, kind_byte, tx_kind, session_spelling, tx_fields_spelling, tx_body_spelling, tags_spelling, tx_spelling, value_spelling, IsValue, IsOp, AreTags, IsTxBody, IsTx}
+use Rattle.transactions.specs.Reading.{data_at, op_after, op_at, session_at, kind_after, tx_kind_at, tx_fields_at, tx_body_at, tag_count_at, tags_at, tx_at, is_within, value_at}
+use Rattle.transactions.proofs.Formats.{length-number_bytes, IsBytes, IsFormat, Takes, Takes-then, bind_ok, ask_ok, ok_is, fits_as, spelled_as, built, field, field_that_fits, byte_format, bytes_format, u16_format, u32_format, u64_format, ranged_format, limited_format}
 
 data_format : IsFormat (λ xs. length xs ≤ 1024) (λ xs. number_bytes 2 (length xs) ++ xs) data_at
 unfolding data_at
@@ -51,34 +51,82 @@ op_format = record {
   again = op_again;
 }
 
-tx_eq : (client number : ℕ) (op : Op) (t : Tx) → op ≡ t.op → number ≡ t.number → client ≡ t.client → t.tags ≡ [] → record { client = client; number = number; op = op; tags = [] } ≡ t
-tx_eq client number op t eo en ec et = rw (eo, en, ec, ← et) refl
+-- ---- sessions and kinds
+
+later_spelled : (session : ℕ) → 1 ≤ session → (number_bytes 4 session ≡ session_spelling session) × (is_later session ≡ true)
+later_spelled zero h = absurd (omega arith)
+later_spelled (suc before) h = (refl, refl)
+
+later_some : (session : ℕ) → is_later session ≡ true → 1 ≤ session
+later_some zero h = absurd cc
+later_some (suc before) h = omega arith
+
+first_again : (session : ℕ) (rest : List ℕ) → is_later session ≡ false → session_at false (session_spelling session ++ rest) ≡ Ok (session, rest)
+first_again zero rest h = refl
+first_again (suc before) rest h = absurd cc
+
+session_format : (later : Bool) → IsFormat (λ session. (session < 2 ^ 32) × (is_later session ≡ later)) session_spelling (session_at later)
+session_format false = record {
+  takes = λ bytes x fits e. subst (λ (y : ℕ × List ℕ). Takes bytes (session_spelling y.0) y.1 × ((y.0 < 2 ^ 32) × (is_later y.0 ≡ false))) (ok_is (0, bytes) x e) (record { parts = refl; rest_fits = fits }, (omega arith, refl));
+  again = λ session rest h. first_again session rest h.1;
+}
+session_format true =
+    let f = ranged_format 1 4294967295 u32_format in record {
+      takes = λ bytes x fits e.
+          let t = f.takes bytes x fits e in
+          let s = later_spelled x.0 t.1.1.0 in
+          (subst (λ (text : List ℕ). Takes bytes text x.1) s.0 t.0, (omega (arith, t.1.1.1), s.1));
+      again = λ session rest h.
+          let some = later_some session h.1 in
+          subst (λ (text : List ℕ). session_at true (text ++ rest) ≡ Ok (session, rest)) (later_spelled session some).0 (f.again session rest (omega (arith, h.0), (some, omega (arith, h.0))));
+    }
+
+kind_after_takes : (kind : ℕ) (bytes : List ℕ) (x : Bool × List ℕ) → IsBytes bytes → kind_after kind bytes ≡ Ok x → Takes (kind ∷ bytes) (kind_byte x.0 ∷ []) x.1
+kind_after_takes zero bytes x fits e = absurd cc
+kind_after_takes (suc zero) bytes x fits e = subst (λ (y : Bool × List ℕ). Takes (1 ∷ bytes) (kind_byte y.0 ∷ []) y.1) (ok_is (false, bytes) x e) (record { parts = refl; rest_fits = fits })
+kind_after_takes (suc (suc zero)) bytes x fits e = subst (λ (y : Bool × List ℕ). Takes (2 ∷ bytes) (kind_byte y.0 ∷ []) y.1) (ok_is (true, bytes) x e) (record { parts = refl; rest_fits = fits })
+kind_after_takes (suc (suc (suc n))) bytes x fits e = absurd cc
+
+kind_again : (later : Bool) (rest : List ℕ) → tx_kind_at (kind_byte later ∷ rest) ≡ Ok (later, rest)
+unfolding tx_kind_at
+kind_again false rest = refl
+kind_again true rest = refl
+
+kind_format : IsFormat (λ (later : Bool). Unit {0}) (λ later. kind_byte later ∷ []) tx_kind_at
+unfolding tx_kind_at
+kind_format = record {
+  takes = λ bytes x fits e.
+      let a = bind_ok (byte_at bytes) (λ kind. kind_after kind.0 kind.1) x e in
+      let t = byte_format.takes bytes a.0 fits a.1 in
+      let u = kind_after_takes a.0.0 a.0.1 x t.0.rest_fits a.2 in
+      (record { parts = t.0.parts ∙ u.parts; rest_fits = u.rest_fits }, tt);
+  again = λ later rest h. kind_again later rest;
+}
+
+tx_eq : (client session number : ℕ) (op : Op) (t : Tx) → op ≡ t.op → number ≡ t.number → session ≡ t.session → client ≡ t.client → t.tags ≡ [] → record { client = client; session = session; number = number; op = op; tags = [] } ≡ t
+tx_eq client session number op t eo en es ec et = rw (eo, en, es, ec, ← et) refl
 
 -- the fields of a transaction behind its kind; its tags stand apart
-pub tx_fields_format : IsFormat (λ t. IsTxBody t × (t.tags ≡ [])) tx_fields_spelling tx_fields_at
+pub tx_fields_format : (later : Bool) → IsFormat (λ t. (IsTxBody t × (t.tags ≡ [])) × (is_later t.session ≡ later)) tx_fields_spelling (tx_fields_at later)
 unfolding tx_fields_at tx_fields_spelling
-tx_fields_format =
+tx_fields_format later =
     let fields = field {C = λ (t : Tx). t.tags ≡ []} (λ (t : Tx). t.client) (ranged_format 0 1023 u16_format) λ client.
+    field (λ (t : Tx). t.session) (session_format later) λ session.
     field (λ (t : Tx). t.number) (ranged_format 1 (2 ^ 48) u64_format) λ number.
     field (λ (t : Tx). t.op) op_format λ op.
-    built (record { client = client; number = number; op = op; tags = [] }) _ (refl, (refl, (refl, refl))) (λ t h. tx_eq client number op t h.0 h.1.0 h.1.1.0 h.1.1.1) in
-    let same : (t : Tx) → number_bytes 2 t.client ++ (number_bytes 8 t.number ++ (op_spelling t.op ++ [])) ≡ tx_fields_spelling t =
-    λ t. ap (λ (w : List ℕ). number_bytes 2 t.client ++ (number_bytes 8 t.number ++ w)) (append-nil (op_spelling t.op)) in
+    built (record { client = client; session = session; number = number; op = op; tags = [] }) _ (refl, (refl, (refl, (refl, refl)))) (λ t h. tx_eq client session number op t h.0 h.1.0 h.1.1.0 h.1.1.1.0 h.1.1.1.1) in
+    let same : (t : Tx) → number_bytes 2 t.client ++ (session_spelling t.session ++ (number_bytes 8 t.number ++ (op_spelling t.op ++ []))) ≡ tx_fields_spelling t =
+    λ t. ap (λ (w : List ℕ). number_bytes 2 t.client ++ (session_spelling t.session ++ (number_bytes 8 t.number ++ w))) (append-nil (op_spelling t.op)) in
     fits_as _ (spelled_as tx_fields_spelling fields same)
-    (λ t h. (record { client = h.1.0.1.1; first = h.1.1.0.1.0; last = h.1.1.0.1.1; op = h.1.1.1.0 }, h.0))
-    (λ t h. (h.1, (((omega (arith, h.0.client), (omega arith, h.0.client)), (((omega (arith, h.0.last), (h.0.first, h.0.last)), (h.0.op, tt)))))))
+    (λ t h. ((record { client = h.1.0.1.1; session = h.1.1.0.0; first = h.1.1.1.0.1.0; last = h.1.1.1.0.1.1; op = h.1.1.1.1.0 }, h.0), h.1.1.0.1))
+    (λ t h. (h.0.1, (((omega (arith, h.0.0.client), (omega arith, h.0.0.client)), ((h.0.0.session, h.1), ((omega (arith, h.0.0.last), (h.0.0.first, h.0.0.last)), (h.0.0.op, tt)))))))
 
 -- the body of a transaction
 pub tx_body_format : IsFormat (λ t. IsTxBody t × (t.tags ≡ [])) tx_body_spelling tx_body_at
 unfolding tx_body_at
-tx_body_format = record {
-  takes = λ bytes x fits e.
-      let a = bind_ok (mark_at 1 bytes) (λ kind. tx_fields_at kind.1) x e in
-      let t = (mark_format 1).takes bytes a.0 fits a.1 in
-      let u = tx_fields_format.takes a.0.1 x t.0.rest_fits a.2 in
-      (Takes-then bytes (1 ∷ []) a.0.1 (tx_fields_spelling x.0) x.1 t.0 u.0, u.1);
-  again = λ x rest h. let first = (mark_format 1).again tt (tx_fields_spelling x ++ rest) tt in rw first (tx_fields_format.again x rest h);
-}
+tx_body_format = fits_as _ (field {C = λ _. Unit {0}} (λ (t : Tx). is_later t.session) kind_format
+    λ later. fits_as (λ t. ((later ≡ is_later t.session) × Unit {0}) × (IsTxBody t × (t.tags ≡ []))) (tx_fields_format later) (λ t h. ((sym h.1, tt), h.0)) (λ t h. (h.1, sym h.0.0)))
+    (λ t h. h.1.1) (λ t h. (tt, (tt, h)))
 
 -- ---- many of one format
 
@@ -120,26 +168,26 @@ repeat_format {A = A} {s = s} {read = read} n f = record {
 pub tags_format : IsFormat AreTags tags_spelling tags_at
 unfolding tags_at tag_count_at tags_spelling
 tags_format =
-    fits_as _ (field {C = λ _. Unit {0}} (λ (tags : List (List ℕ)). length tags) (ranged_format 1 64 (limited_format 64 byte_format)) λ count.
+    fits_as _ (field {C = λ _. Unit {0}} (λ (tags : List (List ℕ)). length tags) (ranged_format 1 128 (limited_format 128 byte_format)) λ count.
     fits_as (λ tags. ((count ≡ length tags) × Unit {0}) × AllByRecursion (λ (tag : List ℕ). length tag ≡ 32) tags) (repeat_format count (bytes_format 32)) (λ tags h. ((h.0, tt), h.1)) (λ tags h. (h.0.0, h.1)))
     (λ tags h. record { some = h.1.0.1.0; few = h.1.0.1.1; each = h.1.1 })
     (λ tags h. (tt, (((omega (arith, h.few), h.few), (h.some, h.few)), h.each)))
 
 -- a transaction with other tags
 abbrev with_tags : List (List ℕ) → Tx → Tx
-with_tags tags t = record { client = t.client; number = t.number; op = t.op; tags = tags }
+with_tags tags t = record { client = t.client; session = t.session; number = t.number; op = t.op; tags = tags }
 
 pub tx_format : IsFormat IsTx tx_spelling tx_at
 unfolding tx_at tx_spelling tx_fields_spelling
 tx_format =
     let fields = field_that_fits {C = λ (t : Tx). Unit {0}} (with_tags []) tx_body_format λ body body_fits.
     field (λ (t : Tx). t.tags) tags_format λ tags.
-    built (record { client = body.client; number = body.number; op = body.op; tags = tags }) _ (refl, (rw (← body_fits.1) refl, tt))
+    built (record { client = body.client; session = body.session; number = body.number; op = body.op; tags = tags }) _ (refl, (rw (← body_fits.1) refl, tt))
     (λ t h. rw (h.1.0, h.0) refl) in
     let same : (t : Tx) → tx_body_spelling t ++ (tags_spelling t.tags ++ []) ≡ tx_spelling t = λ t. ap (λ (w : List ℕ). tx_body_spelling t ++ w) (append-nil (tags_spelling t.tags)) in
     fits_as _ (spelled_as tx_spelling fields same)
-    (λ t h. record { body = record { client = h.1.0.0.client; first = h.1.0.0.first; last = h.1.0.0.last; op = h.1.0.0.op }; tags = h.1.1.0 })
-    (λ t h. (tt, ((record { client = h.body.client; first = h.body.first; last = h.body.last; op = h.body.op }, refl), (h.tags, tt))))
+    (λ t h. record { body = record { client = h.1.0.0.client; session = h.1.0.0.session; first = h.1.0.0.first; last = h.1.0.0.last; op = h.1.0.0.op }; tags = h.1.1.0 })
+    (λ t h. (tt, ((record { client = h.body.client; session = h.body.session; first = h.body.first; last = h.body.last; op = h.body.op }, refl), (h.tags, tt))))
 
 -- ---- values
 

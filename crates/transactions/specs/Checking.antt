@@ -1,5 +1,5 @@
 -- The length of a spelling, or the first fault, in the order of the fields.
-use Rattle.std.specs.Prelude.{ℕ, ◌+◌, ◌*◌, ◌^◌, List, [], ◌∷◌, length, ◌&&◌, Result, Ok, nat_le}
+use Rattle.std.specs.Prelude.{ℕ, zero, suc, ◌+◌, ◌*◌, ◌^◌, List, [], ◌∷◌, length, ◌&&◌, Result, Ok, nat_le}
 use Rattle.sha2.specs.Sha256.{sha256}
 use Rattle.transactions.specs.declared.fault.Fault.{Fault}
 use Rattle.transactions.specs.declared.fault.Fault.TheVariants.{TooLong, BadSpelling}
@@ -16,16 +16,21 @@ op_len (Bytes contents) = do
   Ok (3 + length contents)
 op_len Close = Ok 1
 
+-- nothing for a client's first session
+abbrev pub session_len : ℕ → ℕ
+session_len zero = 0
+session_len (suc before) = 4
+
 unfoldable pub tx_body_len : Tx → Result ℕ Fault
 tx_body_len tx = do
   ask (nat_le tx.client 1023) BadSpelling
   ask (nat_le 1 tx.number && nat_le tx.number (2 ^ 48)) BadSpelling
   op ← op_len tx.op
-  Ok (11 + op)
+  Ok (11 + session_len tx.session + op)
 
 unfoldable pub tags_len : List (List ℕ) → Result ℕ Fault
 tags_len tags = do
-  ask (nat_le (length tags) 64) TooLong
+  ask (nat_le (length tags) 128) TooLong
   ask (nat_le 1 (length tags)) BadSpelling
   Ok (1 + 32 * length tags)
 

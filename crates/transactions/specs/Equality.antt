@@ -19,7 +19,7 @@ op_eq (Bytes a) Close = false
 op_eq Close (Bytes b) = false
 
 abbrev pub tx_eq : Tx → Tx → Bool
-tx_eq t u = (t.client == u.client) && (t.number == u.number) && op_eq t.op u.op && lists_eq bytes_eq t.tags u.tags
+tx_eq t u = (t.client == u.client) && (t.session == u.session) && (t.number == u.number) && op_eq t.op u.op && lists_eq bytes_eq t.tags u.tags
 
 abbrev pub value_eq : Value → Value → Bool
 value_eq v w = lists_eq tx_eq v.txs w.txs

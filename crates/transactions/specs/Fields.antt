@@ -55,13 +55,6 @@ number_at n bytes = if nat_lt (length bytes) n then Err Truncated else Ok (big_n
 abbrev pub bytes_at : ℕ → List ℕ → Read (List ℕ)
 bytes_at n bytes = if nat_lt (length bytes) n then Err Truncated else Ok (take n bytes, drop n bytes)
 
--- a byte that is this one
-unfoldable pub mark_at : ℕ → List ℕ → Read (Unit {0})
-mark_at wanted bytes = do
-  mark ← byte_at bytes
-  ask (mark.0 == wanted) BadSpelling
-  Ok (tt, mark.1)
-
 -- a number in this range
 unfoldable pub ranged : ℕ → ℕ → Read ℕ → Read ℕ
 ranged low high read = do

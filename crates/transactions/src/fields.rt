@@ -5,7 +5,7 @@
 
 ghost use Rattle.std.specs.Prelude.{◌≡◌};
 ghost use Rattle.std.specs.Result.{result_map_both};
-ghost use Rattle.transactions.specs.Fields.{byte_at, number_at, mark_at, bytes_at};
+ghost use Rattle.transactions.specs.Fields.{byte_at, number_at, bytes_at};
 
 use crate::fault::Fault;
 use byteorder::{BigEndian, ByteOrder};
@@ -71,16 +71,4 @@ pub fn array_at(bytes: &[u8]) -> Result<([u8; 32], &[u8]), Fault>
     let mut array = [0u8; 32];
     array.copy_from_slice(front);
     Ok((array, rest))
-}
-
-/// A byte that has to be this one: another is `BadSpelling` (3).
-#[tactic(auto, unfolding(crate::specs::Fields::mark_at))]
-pub(crate) fn mark_of(wanted: u8, bytes: &[u8]) -> Result<((), &[u8]), Fault>
-    ensures { result_map_both (λ x. (x.0, x.1.now)) (λ fault. fault) result ≡ mark_at wanted bytes.now }
-{
-    let (mark, rest) = u8_at(bytes)?;
-    if mark != wanted {
-        return Err(Fault::BadSpelling);
-    }
-    Ok(((), rest))
 }

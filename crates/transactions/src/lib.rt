@@ -2,11 +2,12 @@
 //!
 //! Numbers are big-endian, and fields stand in order with nothing between them.
 //!
-//! - The body of a transaction: its kind, one byte 01; the client, two bytes, at most 1,023; the
-//!   number, eight bytes, from 1 to 2^48; what is asked for, one byte: 00 for bytes, whose length
+//! - The body of a transaction: its kind, one byte, 01 within the client's first session and 02
+//!   after it; the client, two bytes, at most 1,023; behind kind 02 the session, four bytes, from 1;
+//!   the number, eight bytes, from 1 to 2^48; what is asked for, one byte: 00 for bytes, whose length
 //!   follows in two bytes, at most 1,024, and then they themselves; or 01 for a close.
-//! - Tags: their count, one byte, from 1 to 64, and 32 bytes for each.
-//! - A transaction: its body, then its tags; at most 3,087 bytes.
+//! - Tags: their count, one byte, from 1 to 128, and 32 bytes for each.
+//! - A transaction: its body, then its tags; at most 5,139 bytes.
 //! - A value: the count of its transactions, two bytes, at most 256, and the transactions; at most
 //!   500,000 bytes in all.
 //!

@@ -9,11 +9,11 @@ pub const LAST_NUMBER: u64 = 1 << 48;
 /// The most bytes that a transaction asks to have delivered.
 pub const MOST_DATA: usize = 1_024;
 
-/// The most bytes of a transaction without its tags: its kind, client, number, what is asked for, a length, and the data.
-pub const LONGEST_TX_BODY: usize = 1 + 2 + 8 + 1 + 2 + MOST_DATA;
+/// The most bytes of a transaction without its tags: its kind, client, session, number, what is asked for, a length, and the data.
+pub const LONGEST_TX_BODY: usize = 1 + 2 + 4 + 8 + 1 + 2 + MOST_DATA;
 
 /// The most tags of a message or a transaction: one for each validator.
-pub const MOST_TAGS: usize = 64;
+pub const MOST_TAGS: usize = 128;
 
 /// The most transactions of a value.
 pub const MOST_TXS: usize = 256;

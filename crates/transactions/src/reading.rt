@@ -9,10 +9,10 @@ ghost use Rattle.transactions.specs.Fields.{Gives, Tells, number_at, bytes_at, l
 ghost use Rattle.transactions.specs.declared.tx.Tx.{Tx};
 ghost use Rattle.transactions.specs.declared.tx.Value.{Value};
 ghost use Rattle.transactions.specs.Grammar.{SpellsTx, SpellsValue};
-ghost use Rattle.transactions.specs.Reading.{data_at, client_at, tx_number_at, op_at, tx_body_at, tx_fields_at, tag_count_at, tags_at, tx_at, is_within, value_at, tx_of, value_of};
+ghost use Rattle.transactions.specs.Reading.{data_at, client_at, session_at, tx_number_at, tx_kind_at, op_at, tx_body_at, tx_fields_at, tag_count_at, tags_at, tx_at, is_within, value_at, tx_of, value_of};
 
 use crate::fault::Fault;
-use crate::fields::{array_at, mark_of, slice_at, u8_at, u16_at, u64_at};
+use crate::fields::{array_at, slice_at, u8_at, u16_at, u32_at, u64_at};
 use crate::limits::{LAST_CLIENT, LAST_NUMBER, MOST_DATA, MOST_TAGS, MOST_TXS, MOST_VALUE_BYTES};
 use crate::sequence::{Seq, Shared};
 use crate::tx::{Op, Tx, Value};
@@ -69,25 +69,42 @@ fn number_of(bytes: &[u8]) -> Result<(u64, &[u8]), Fault>
     Ok((number, rest))
 }
 
-/// A transaction without its tags, behind the byte of its kind.
+/// The session of a transaction: 0, or that of a later session, which is told.
+#[tactic(auto, unfolding(crate::specs::Fields::ranged))]
+fn session_of(later: bool, bytes: &[u8]) -> Result<(u32, &[u8]), Fault>
+    ensures { result_map_both (λ x. (x.0, x.1.now)) (λ fault. fault) result ≡ session_at later bytes.now }
+{
+    if !later {
+        return Ok((0, bytes));
+    }
+    let (session, rest) = u32_at(bytes)?;
+    if session == 0 {
+        return Err(Fault::BadSpelling);
+    }
+    Ok((session, rest))
+}
+
+/// A transaction without its tags, behind the byte of its kind, by which it is of a session after its client's first or not.
 ///
 /// Faults: `Truncated` (1); `TooLong` (2) for a length above 1,024; `BadSpelling` (3) for a client
-/// above 1,023, a number of 0 or above 2^48, and an operation other than 00 and 01; `OutOfMemory`
+/// above 1,023, a later session of 0, a number of 0 or above 2^48, and an operation other than 00 and 01; `OutOfMemory`
 /// (4).
 #[tactic(auto, unfolding(crate::specs::Reading::tx_fields_at))]
-pub fn tx_fields_of(alloc: Global, bytes: &[u8]) -> Result<(Tx, &[u8]), Fault>
+pub fn tx_fields_of(alloc: Global, later: bool, bytes: &[u8]) -> Result<(Tx, &[u8]), Fault>
     // Which fault it is.
-    ensures exact { Gives (λ x. (x.0, x.1.now)) result (tx_fields_at bytes.now) }
+    ensures exact { Gives (λ x. (x.0, x.1.now)) result (tx_fields_at later bytes.now) }
     // No fault is hidden by want of memory, which is taken last.
-    ensures told { Tells result (tx_fields_at bytes.now) }
+    ensures told { Tells result (tx_fields_at later bytes.now) }
 {
     let (client, rest) = client_of(bytes)?;
+    let (session, rest) = session_of(later, rest)?;
     let (number, rest) = number_of(rest)?;
     let (op, rest) = op_of(alloc, rest)?;
     let tags = Seq::new(alloc);
     Ok((
         Tx {
             client,
+            session,
             number,
             op,
             tags,
@@ -96,14 +113,27 @@ pub fn tx_fields_of(alloc: Global, bytes: &[u8]) -> Result<(Tx, &[u8]), Fault>
     ))
 }
 
+/// Whether a transaction is of a session after its client's first: its kind is 01 or 02.
+#[tactic(auto, unfolding(crate::specs::Reading::tx_kind_at))]
+fn kind_of(bytes: &[u8]) -> Result<(bool, &[u8]), Fault>
+    ensures { result_map_both (λ x. (x.0, x.1.now)) (λ fault. fault) result ≡ tx_kind_at bytes.now }
+{
+    let (kind, rest) = u8_at(bytes)?;
+    match kind {
+        1 => Ok((false, rest)),
+        2 => Ok((true, rest)),
+        _ => Err(Fault::BadSpelling),
+    }
+}
+
 /// A transaction without its tags.
 #[tactic(auto, unfolding(crate::specs::Reading::tx_body_at))]
 fn tx_body_of(alloc: Global, bytes: &[u8]) -> Result<(Tx, &[u8]), Fault>
     ensures exact { Gives (λ x. (x.0, x.1.now)) result (tx_body_at bytes.now) }
     ensures told { Tells result (tx_body_at bytes.now) }
 {
-    let (_, rest) = mark_of(1, bytes)?;
-    tx_fields_of(alloc, rest)
+    let (later, rest) = kind_of(bytes)?;
+    tx_fields_of(alloc, later, rest)
 }
 
 #[tactic(auto, unfolding(crate::specs::Reading::tag_count_at, crate::specs::Fields::limited, crate::specs::Fields::ranged))]
@@ -139,7 +169,7 @@ fn tag_list_of(alloc: Global, count: u8, bytes: &[u8]) -> Result<(Vec<[u8; 32]>,
 
 /// The tags behind a body.
 ///
-/// Faults: `Truncated` (1); `TooLong` (2) for a count above 64; `BadSpelling` (3) for a count of 0;
+/// Faults: `Truncated` (1); `TooLong` (2) for a count above 128; `BadSpelling` (3) for a count of 0;
 /// `OutOfMemory` (4).
 #[tactic(auto, unfolding(crate::specs::Reading::tags_at))]
 pub fn tags_of(alloc: Global, bytes: &[u8]) -> Result<(Seq<[u8; 32]>, &[u8]), Fault>
@@ -163,6 +193,7 @@ fn tx_front(alloc: Global, bytes: &[u8]) -> Result<(Tx, &[u8]), Fault>
     let (tags, rest) = tags_of(alloc, rest)?;
     let Tx {
         client,
+        session,
         number,
         op,
         tags: _,
@@ -170,6 +201,7 @@ fn tx_front(alloc: Global, bytes: &[u8]) -> Result<(Tx, &[u8]), Fault>
     Ok((
         Tx {
             client,
+            session,
             number,
             op,
             tags,
@@ -197,7 +229,7 @@ fn txs_of(alloc: Global, count: u16, len: usize, bytes: &[u8]) -> Result<(Vec<Tx
 /// A value.
 ///
 /// Faults: those of its transactions, in their order; `BadSpelling` (3) for a transaction whose kind
-/// isn't 01; `TooLong` (2) for more than 256 transactions, and, told after the transaction that
+/// is neither 01 nor 02; `TooLong` (2) for more than 256 transactions, and, told after the transaction that
 /// passes the limit, for more than 500,000 bytes.
 #[tactic(auto, unfolding(crate::specs::Reading::value_at, crate::specs::Fields::limited))]
 pub fn value_front(alloc: Global, bytes: &[u8]) -> Result<(Value, &[u8]), Fault>

@@ -14,7 +14,7 @@ pub type Id = [u8; 32];
 pub enum Op {
     /// At most 1,024 bytes, whose meaning is the client's.
     Bytes(Seq<u8>),
-    /// The client's last transaction: nothing of the client follows it.
+    /// The last transaction of a client's session: only a later session follows it.
     Close,
 }
 
@@ -23,10 +23,12 @@ pub enum Op {
 pub struct Tx {
     /// The client's number, at most 1,023.
     pub client: u16,
-    /// The place among the client's transactions, from 1 to 2^48.
+    /// The client's session: 0, and one more after each close.
+    pub session: u32,
+    /// The place among the session's transactions, from 1 to 2^48.
     pub number: u64,
     pub op: Op,
-    /// Tag p is for validator p: 1 to 64 tags, or none where they stand apart.
+    /// Tag p is for validator p: 1 to 128 tags, or none where they stand apart.
     pub tags: Seq<[u8; 32]>,
 }
 
@@ -42,7 +44,9 @@ pub struct Value {
 pub struct Item {
     /// The client's number, at most 1,023.
     pub client: u16,
-    /// The place among the client's transactions, from 1 to 2^48.
+    /// The client's session: 0, and one more after each close.
+    pub session: u32,
+    /// The place among the session's transactions, from 1 to 2^48.
     pub number: u64,
     pub op: Op,
 }
@@ -60,6 +64,7 @@ impl Duplicate for Tx {
     fn copy(&self, alloc: Global) -> Result<Tx, AllocError> {
         Ok(Tx {
             client: self.client,
+            session: self.session,
             number: self.number,
             op: self.op.copy(alloc)?,
             tags: self.tags.copy(alloc)?,
@@ -71,6 +76,7 @@ impl Duplicate for Item {
     fn copy(&self, alloc: Global) -> Result<Item, AllocError> {
         Ok(Item {
             client: self.client,
+            session: self.session,
             number: self.number,
             op: self.op.copy(alloc)?,
         })

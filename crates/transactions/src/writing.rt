@@ -5,8 +5,8 @@
 //! may then hold a part of it.
 
 ghost use Rattle.std.specs.Prelude.{◌≡◌, ◌≤◌, ◌++◌, All, List, ℕ, length, OnOk, IfOk, Ok};
-ghost use Rattle.transactions.specs.Grammar.{op_spelling, tx_body_spelling, tags_spelling, tx_spelling, IsOp, AreTags, IsTxBody, IsTx, IsValue, SpellsTx, SpellsValue, value_spelling};
-ghost use Rattle.transactions.specs.Checking.{op_len, tx_body_len, tags_len, tx_len, txs_len, value_len, tx_spelled, value_spelled, value_named};
+ghost use Rattle.transactions.specs.Grammar.{op_spelling, session_spelling, tx_body_spelling, tags_spelling, tx_spelling, IsOp, AreTags, IsTxBody, IsTx, IsValue, SpellsTx, SpellsValue, value_spelling};
+ghost use Rattle.transactions.specs.Checking.{op_len, session_len, tx_body_len, tags_len, tx_len, txs_len, value_len, tx_spelled, value_spelled, value_named};
 ghost use Rattle.std.specs.List.{AllByRecursion, flat_map};
 ghost use Rattle.transactions.specs.Fields.{Gives, number_bytes};
 ghost use Rattle.sha2.specs.Sha256.{sha256};
@@ -36,7 +36,15 @@ fn len_of_op(op: &Op) -> Result<usize, Fault>
     }
 }
 
-/// The length of a transaction without its tags: 12 to 1,038 bytes.
+/// The length of a session: it isn't told of a client's first.
+fn len_of_session(session: u32) -> usize
+    ensures len { result ≡ session_len session }
+    ensures small { result ≤ 4 }
+{
+    if session == 0 { 0 } else { 4 }
+}
+
+/// The length of a transaction without its tags: 12 to 1,042 bytes.
 ///
 /// Faults: `BadSpelling` (3) for a client above 1,023 and for a number of 0 or above 2^48; `TooLong`
 /// (2) for more than 1,024 bytes.
@@ -44,7 +52,7 @@ fn len_of_op(op: &Op) -> Result<usize, Fault>
 pub fn len_of_tx_body(tx: &Tx) -> Result<usize, Fault>
     ensures len { result ≡ tx_body_len tx.now }
     ensures fits { OnOk result (IsTxBody tx.now) }
-    ensures small { IfOk result (λ n. n ≤ 1038) }
+    ensures small { IfOk result (λ n. n ≤ 1042) }
 {
     if tx.client > LAST_CLIENT {
         return Err(Fault::BadSpelling);
@@ -52,17 +60,17 @@ pub fn len_of_tx_body(tx: &Tx) -> Result<usize, Fault>
     if tx.number == 0 || tx.number > LAST_NUMBER {
         return Err(Fault::BadSpelling);
     }
-    Ok(11 + len_of_op(&tx.op)?)
+    Ok(11 + len_of_session(tx.session) + len_of_op(&tx.op)?)
 }
 
-/// The length of tags and their count: 33 to 2,049 bytes.
+/// The length of tags and their count: 33 to 4,097 bytes.
 ///
-/// Faults: `TooLong` (2) for more than 64, `BadSpelling` (3) for none.
+/// Faults: `TooLong` (2) for more than 128, `BadSpelling` (3) for none.
 #[tactic(auto, unfolding(crate::specs::Checking::tags_len))]
 pub fn len_of_tags(tags: &[[u8; 32]]) -> Result<usize, Fault>
     ensures len { result ≡ tags_len tags.now }
     ensures fits { OnOk result (AreTags tags.now) }
-    ensures small { IfOk result (λ n. n ≤ 2049) }
+    ensures small { IfOk result (λ n. n ≤ 4097) }
 {
     if tags.len() > MOST_TAGS {
         return Err(Fault::TooLong);
@@ -76,7 +84,7 @@ pub fn len_of_tags(tags: &[[u8; 32]]) -> Result<usize, Fault>
 #[tactic(auto, unfolding(crate::specs::Checking::tx_len))]
 fn len_of_tx(tx: &Tx) -> Result<usize, Fault>
     ensures len { result ≡ tx_len tx.now }
-    ensures small { IfOk result (λ n. n ≤ 3087) }
+    ensures small { IfOk result (λ n. n ≤ 5139) }
     ensures fits { OnOk result (IsTx tx.now) }
 {
     let body = len_of_tx_body(tx)?;
@@ -160,14 +168,25 @@ fn put_op(out: &mut Vec<u8>, op: &Op) -> Result<(), AllocError>
     }
 }
 
+/// A session, but for a client's first.
+fn put_session(out: &mut Vec<u8>, session: u32) -> Result<(), AllocError>
+    ensures { OnOk result (out.new.items ≡ out.old.items ++ session_spelling session) }
+{
+    if session == 0 {
+        return Ok(());
+    }
+    put_u32(out, session)
+}
+
 /// A transaction without its tags, its kind included.
 #[tactic(auto, unfolding(crate::specs::Grammar::tx_fields_spelling))]
 pub fn put_tx_body(out: &mut Vec<u8>, tx: &Tx) -> Result<(), AllocError>
     requires { IsTxBody tx.now }
     ensures { OnOk result (out.new.items ≡ out.old.items ++ tx_body_spelling tx.now) }
 {
-    out.push(1)?;
+    out.push(if tx.session == 0 { 1 } else { 2 })?;
     put_u16(out, tx.client)?;
+    put_session(out, tx.session)?;
     put_u64(out, tx.number)?;
     put_op(out, &tx.op)
 }
@@ -175,7 +194,7 @@ pub fn put_tx_body(out: &mut Vec<u8>, tx: &Tx) -> Result<(), AllocError>
 /// Tags, behind their count.
 #[tactic(auto, unfolding(crate::specs::Grammar::tags_spelling))]
 pub fn put_tags(out: &mut Vec<u8>, tags: &Seq<[u8; 32]>) -> Result<(), AllocError>
-    requires { length tags.now ≤ 64 }
+    requires { length tags.now ≤ 128 }
     ensures { OnOk result (out.new.items ≡ out.old.items ++ tags_spelling tags.now) }
 {
     out.push(tags.len() as u8)?;
@@ -236,7 +255,7 @@ fn bytes_of_value(alloc: Global, value: &Value) -> Result<Vec<u8>, Fault>
 
 /// The one spelling of a transaction, or the first fault in the order of its fields.
 ///
-/// Faults: `TooLong` (2) for more than 1,024 bytes or 64 tags; `BadSpelling` (3) for a client above
+/// Faults: `TooLong` (2) for more than 1,024 bytes or 128 tags; `BadSpelling` (3) for a client above
 /// 1,023, a number of 0 or above 2^48, and no tags; `OutOfMemory` (4). Memory is taken once, of the
 /// spelling's length.
 pub fn spell_tx(alloc: Global, tx: &Tx) -> Result<Vec<u8>, Fault>

@@ -13,6 +13,9 @@ const EMPTY_ID: [u8; 32] = [
 /// The body of client 7's transaction 1, which asks for the byte `a`.
 const ONE_BYTE: [u8; 15] = [1, 0, 7, 0, 0, 0, 0, 0, 0, 0, 1, 0, 0, 1, b'a'];
 
+/// The body of client 7's transaction 1 of session 1, which asks for the byte `b`.
+const LATER: [u8; 19] = [2, 0, 7, 0, 0, 0, 1, 0, 0, 0, 0, 0, 0, 0, 1, 0, 0, 1, b'b'];
+
 /// The body of client 7's transaction 2, which is a close.
 const CLOSE: [u8; 12] = [1, 0, 7, 0, 0, 0, 0, 0, 0, 0, 2, 1];
 
@@ -35,7 +38,7 @@ fn nines(alloc: Global, count: usize) -> Result<Seq<[u8; 32]>, AllocError> {
     Ok(tags)
 }
 
-/// A transaction with this many bytes and tags.
+/// A transaction of the last session with this many bytes and tags.
 fn sized(alloc: Global, bytes: usize, tags: usize) -> Result<Tx, AllocError> {
     let mut contents = Seq::new(alloc);
     for _ in 0..bytes {
@@ -43,6 +46,7 @@ fn sized(alloc: Global, bytes: usize, tags: usize) -> Result<Tx, AllocError> {
     }
     Ok(Tx {
         client: 1023,
+        session: 0xffff_ffff,
         number: 0x1_0000_0000_0000,
         op: Op::Bytes(contents),
         tags: nines(alloc, tags)?,
@@ -215,6 +219,7 @@ fn copy_of_the_empty_value(rt: HostRuntime) {
 /// Whether this is client 7's transaction 1, which asks for the byte `a`, with one tag, of nines.
 fn is_one_byte(tx: &Tx) -> bool {
     tx.client == 7
+        && tx.session == 0
         && tx.number == 1
         && matches!(&tx.op, Op::Bytes(contents) if contents.as_slice() == b"a".as_slice())
         && tx.tags.as_slice() == [[9u8; 32]].as_slice()
@@ -234,9 +239,28 @@ fn transaction_of_one_byte(rt: HostRuntime) {
     );
 }
 
+/// Whether this is client 7's transaction 1 of session 1, which asks for the byte `b`, with one tag, of nines.
+fn is_later(tx: &Tx) -> bool {
+    tx.client == 7
+        && tx.session == 1
+        && tx.number == 1
+        && matches!(&tx.op, Op::Bytes(contents) if contents.as_slice() == b"b".as_slice())
+        && tx.tags.as_slice() == [[9u8; 32]].as_slice()
+}
+
+#[test]
+fn transaction_of_a_later_session(rt: HostRuntime) {
+    let alloc = rt.alloc();
+    assert_holds(&rt, of_tx(alloc, &LATER, |tx| Ok(is_later(tx))));
+    assert_holds(
+        &rt,
+        of_tx(alloc, &LATER, |tx| is_spelled_with_tag(alloc, &LATER, tx)),
+    );
+}
+
 /// Whether this is client 7's transaction 2, which is a close.
 fn is_close(tx: &Tx) -> bool {
-    tx.client == 7 && tx.number == 2 && matches!(&tx.op, Op::Close)
+    tx.client == 7 && tx.session == 0 && tx.number == 2 && matches!(&tx.op, Op::Close)
 }
 
 #[test]
@@ -340,6 +364,7 @@ fn are_short_with_tag(alloc: Global, body: &[u8]) -> Result<bool, Fault> {
 fn beginnings_of_transactions_are_truncated(rt: HostRuntime) {
     assert_holds(&rt, are_short_with_tag(rt.alloc(), &ONE_BYTE));
     assert_holds(&rt, are_short_with_tag(rt.alloc(), &CLOSE));
+    assert_holds(&rt, are_short_with_tag(rt.alloc(), &LATER));
 }
 
 /// Whether each beginning of the two transactions is too short for a value.

@@ -13,7 +13,7 @@ use Rattle.protocol.specs.Messages.{Act, Bundle, Body, Message, step_number, ste
 use Rattle.protocol.specs.State.{Context, State, Node, Rule, Start, PrevoteFresh, PrevoteAgain, AwaitPrevotes, Lock, PrecommitNil, AwaitPrecommits, Decide, DecideByBundle, SkipRound, TimedOut}
 use Rattle.protocol.specs.Rules.{holds, saved, starts, proposal_of, times_out}
 use Rattle.protocol.specs.Restart.{delivered_of, height_of, last_place, opened}
-use Rattle.protocol.specs.Queues.{pick, is_closed}
+use Rattle.protocol.specs.Queues.{pick}
 use Rattle.protocol.specs.Refusals.{context, named_senders}
 use Rattle.protocol.specs.Arrivals.{firing, taken_in}
 use Rattle.protocol.specs.World.{World, Event, Sends, Comes, Fires, Asks, Resends, Restarts, happens, run, beginning, cut_record, moved}
@@ -204,7 +204,7 @@ with_lawful : (c : Setting) (nodes : ℕ → Node) (p : ℕ) (n : Node) → AreL
 with_lawful c nodes p n a l q = cond_both (q == p) n (nodes q) (IsLawful c q) (λ e. subst (λ i. IsLawful c i n) (sym (eqb-true q p e)) l) (λ _. a q)
 
 happens_lawful : (c : Setting) (w : World) (e : Event) → AreLawful c w.nodes → AreLawful c (happens c w e).nodes
-happens_lawful c w (Sends client op) a = cond_both (is_closed client (w.sent client)) _ _ (λ (v : World). AreLawful c v.nodes) (λ _. a) (λ _. a)
+happens_lawful c w (Sends client op) a = a
 happens_lawful c w (Comes p bytes) a = come_cases c p (w.nodes p) (message_of bytes) (λ o. AreLawful c (moved w p o).nodes) (with_lawful c w.nodes p (w.nodes p) a (a p))
     (λ m b _ _ t. with_lawful c w.nodes p (taken_in (w.nodes p) m b).node a (taken_lawful c p (w.nodes p) m b (a p) t))
     (λ m b _ _ h. with_lawful c w.nodes p (firing c p (w.nodes p) (DecideByBundle b)).node a (fired_lawful c p (w.nodes p) (DecideByBundle b) (a p) h))

@@ -19,8 +19,8 @@ use Rattle.protocol.specs.Arrivals.{bundles_of}
 use Rattle.protocol.specs.Effects.{bundles_in}
 use Rattle.protocol.specs.declared.records.OwnMessage.{OwnMessage}
 use Rattle.protocol.specs.declared.records.Record.TheVariants as records
-use Rattle.vote_journal.specs.Grammar.{records_spelling, IsDecision, IsRecord}
-use Rattle.vote_journal.specs.Order.{may_follow, AreLawful, Remembers}
+use Rattle.vote_journal.specs.Grammar.{Entry, entries_spelling, IsDecision, IsRecord}
+use Rattle.vote_journal.specs.Order.{may_follow, AreLawful, records_in, AreInOrder, Remembers}
 use Rattle.vote_journal.specs.declared.keeping.Kept.{Kept}
 use Rattle.vote_journal.specs.declared.standing.Standing.{Standing}
 use Rattle.vote_journal.specs.Kept.{said, own_in, Keeps, journal_of, IsToldBy, AreReplayable, KeptLaw}
@@ -50,11 +50,11 @@ keeps_decision rs b decisions now_decisions own now_own d o k = record {
 
 -- what was read of bytes so far
 pub record Read (powers : List ℕ) (me : ℕ) (bytes : List ℕ) (kept : Kept) (standing : Standing) (rest : List ℕ) : Type 0 where
-  pub rs : List Record
-  pub whole : bytes ≡ records_spelling me rs ++ rest
-  pub lawful : AreLawful powers me [] rs
-  pub remembers : Remembers (reverse rs) standing
-  pub keeps : IsOf rs kept
+  pub entries : List Entry
+  pub whole : bytes ≡ entries_spelling me entries ++ rest
+  pub lawful : AreInOrder powers me [] entries
+  pub remembers : Remembers (reverse entries) standing
+  pub keeps : IsOf (records_in entries) kept
 
 -- ---- lists, from either end
 

@@ -1,5 +1,5 @@
 -- A journal is the journal of one list of records.
-use Rattle.std.proofs.Common.{◌≡◌, inl, inr, ℕ, ◌+◌, ◌<◌, ◌≤◌, Bool, true, false, leb, ◌&&◌, List, [], ◌∷◌, ◌++◌, length, take, drop, reverse, Some, None, Ok, Err, refl, sym, ap, subst, ◌∙◌, arith, append_assoc, length-append}
+use Rattle.std.proofs.Common.{◌≡◌, inl, inr, ℕ, ◌+◌, ◌<◌, ◌≤◌, Bool, true, false, leb, ◌&&◌, ◌||◌, List, [], ◌∷◌, ◌++◌, length, take, drop, reverse, Some, None, Ok, Err, refl, sym, ap, subst, ◌∙◌, arith, append_assoc, length-append}
 use Rattle.std.proofs.lemmas.List.{append-nil, take_at, drop_at, take-append-drop, length-take-le, reverse-append}
 use Rattle.std.proofs.lemmas.Bool.{le-ltb, le-leb, leb-true, and_from, and_parts}
 use Rattle.byteorder.specs.Endian.{big_number}
@@ -12,14 +12,14 @@ use Rattle.messages.proofs.Sizes.{body_short}
 use Rattle.messages.proofs.Lengths.{vote_length}
 use Rattle.protocol.specs.Values.{id}
 use Rattle.protocol.specs.Messages.{OfVote, OfBundle, Proposing, Prevoting, Precommitting, Record, Own, Decided, precommit, body_of}
-use Rattle.vote_journal.specs.Grammar.{content_spelling, framed, record_spelling, records_spelling, IsRecord, Spells}
+use Rattle.vote_journal.specs.Grammar.{content_spelling, framed, IsRecord, Entry, OfRecord, Mark, entry_content, entry_spelling, entries_spelling, IsEntry, SpellsEntry}
 use Rattle.vote_journal.specs.declared.standing.Standing.{Standing}
 use Rattle.vote_journal.specs.declared.fault.JournalFault.{JournalFault}
 use Rattle.vote_journal.specs.declared.fault.JournalFault.TheVariants.{Failed, OutOfMemory, BadRecord}
-use Rattle.vote_journal.specs.Order.{may_follow, AreLawful, IsTaken}
+use Rattle.vote_journal.specs.Order.{may_follow, AreLawful, records_in, is_marked, has_early, may_stand, AreInOrder, IsTaken}
 use Rattle.vote_journal.specs.Layout.{IsContent, IsTorn, Splits}
 use Rattle.vote_journal.specs.Planning.{IsScan}
-use Rattle.vote_journal.proofs.RecordFormats.{same_record}
+use Rattle.vote_journal.proofs.RecordFormats.{same_entry}
 
 -- ---- the front of a framed content
 
@@ -115,100 +115,147 @@ fits me (Own height round (Precommitting (Some v))) h =
     (omega arith, omega (arith, vote_length w h.0.content, length-append (body_spelling (OfVote w)) (value_spelling v), h.1.short))
 fits me (Decided b) h = (omega arith, omega (arith, body_short (OfBundle b) h.fits))
 
-pub is_framed : (me : ℕ) (r : Record) → record_spelling me r ≡ framed (content_spelling me r)
-unfolding record_spelling
+pub fits_entry : (me : ℕ) (e : Entry) → IsEntry me e → IsContent (entry_content me e)
+fits_entry me (OfRecord r) h = fits me r h
+fits_entry me Mark h = (omega arith, omega arith)
+
+pub is_framed : (me : ℕ) (r : Entry) → entry_spelling me r ≡ framed (entry_content me r)
+unfolding entry_spelling
 is_framed me r = refl
 
 -- the first record, and what follows
-pub first_framed : (me : ℕ) (r : Record) (rs : List Record) (rest : List ℕ) → records_spelling me (r ∷ rs) ++ rest ≡ framed (content_spelling me r) ++ (records_spelling me rs ++ rest)
-first_framed me r rs rest = append_assoc (record_spelling me r) (records_spelling me rs) rest ∙ ap (λ (x : List ℕ). x ++ (records_spelling me rs ++ rest)) (is_framed me r)
+pub first_framed : (me : ℕ) (r : Entry) (rs : List Entry) (rest : List ℕ) → entries_spelling me (r ∷ rs) ++ rest ≡ framed (entry_content me r) ++ (entries_spelling me rs ++ rest)
+first_framed me r rs rest = append_assoc (entry_spelling me r) (entries_spelling me rs) rest ∙ ap (λ (x : List ℕ). x ++ (entries_spelling me rs ++ rest)) (is_framed me r)
 
 -- ---- one list of records
 
-pub same_records : (powers : List ℕ) (me : ℕ) (before rs rs' : List Record) (rest rest' : List ℕ) → AreLawful powers me before rs → AreLawful powers me before rs' → IsTorn rest → IsTorn rest'
-    → records_spelling me rs ++ rest ≡ records_spelling me rs' ++ rest' → rs ≡ rs'
-same_records powers me before [] [] rest rest' l l' t t' e = refl
-same_records powers me before [] (r ∷ rs) rest rest' l l' t t' e = absurd (torn_is_short rest (content_spelling me r) (records_spelling me rs ++ rest') (fits me r l'.0) (e ∙ first_framed me r rs rest') t)
-same_records powers me before (r ∷ rs) [] rest rest' l l' t t' e = absurd (torn_is_short rest' (content_spelling me r) (records_spelling me rs ++ rest) (fits me r l.0) (sym e ∙ first_framed me r rs rest) t')
-same_records powers me before (r ∷ rs) (q ∷ qs) rest rest' l l' t t' e =
-    let c = same_content (content_spelling me r) (records_spelling me rs ++ rest) (content_spelling me q) (records_spelling me qs ++ rest') (fits me r l.0) (fits me q l'.0)
+pub same_entries : (powers : List ℕ) (me : ℕ) (before rs rs' : List Entry) (rest rest' : List ℕ) → AreInOrder powers me before rs → AreInOrder powers me before rs' → IsTorn rest → IsTorn rest'
+    → entries_spelling me rs ++ rest ≡ entries_spelling me rs' ++ rest' → rs ≡ rs'
+same_entries powers me before [] [] rest rest' l l' t t' e = refl
+same_entries powers me before [] (r ∷ rs) rest rest' l l' t t' e = absurd (torn_is_short rest (entry_content me r) (entries_spelling me rs ++ rest') (fits_entry me r l'.0) (e ∙ first_framed me r rs rest') t)
+same_entries powers me before (r ∷ rs) [] rest rest' l l' t t' e = absurd (torn_is_short rest' (entry_content me r) (entries_spelling me rs ++ rest) (fits_entry me r l.0) (sym e ∙ first_framed me r rs rest) t')
+same_entries powers me before (r ∷ rs) (q ∷ qs) rest rest' l l' t t' e =
+    let c = same_content (entry_content me r) (entries_spelling me rs ++ rest) (entry_content me q) (entries_spelling me qs ++ rest') (fits_entry me r l.0) (fits_entry me q l'.0)
     (sym (first_framed me r rs rest) ∙ e ∙ first_framed me q qs rest') in
-    let is : r ≡ q = same_record me (content_spelling me r) r q (record { lawful = l.0; same = refl }) (record { lawful = l'.0; same = c.0 }) in
-    let lawful : AreLawful powers me (r ∷ before) qs = subst (λ (x : Record). AreLawful powers me (x ∷ before) qs) (sym is) l'.2 in
-    let others : rs ≡ qs = same_records powers me (r ∷ before) rs qs rest rest' l.2 lawful t t' c.1 in
+    let is : r ≡ q = same_entry me (entry_content me r) r q (record { lawful = l.0; same = refl }) (record { lawful = l'.0; same = c.0 }) in
+    let lawful : AreInOrder powers me (r ∷ before) qs = subst (λ (x : Entry). AreInOrder powers me (x ∷ before) qs) (sym is) l'.2 in
+    let others : rs ≡ qs = same_entries powers me (r ∷ before) rs qs rest rest' l.2 lawful t t' c.1 in
     λ i. is i ∷ others i
 
 -- what was read already is the beginning of every reading
-pub record Goes (powers : List ℕ) (me : ℕ) (before : List Record) (left : List ℕ) (rs : List Record) (rest : List ℕ) : Type 0 where
-  pub others : List Record
-  pub whole : left ≡ records_spelling me others ++ rest
-  pub lawful : AreLawful powers me before others
+pub record Goes (powers : List ℕ) (me : ℕ) (before : List Entry) (left : List ℕ) (rs : List Entry) (rest : List ℕ) : Type 0 where
+  pub others : List Entry
+  pub whole : left ≡ entries_spelling me others ++ rest
+  pub lawful : AreInOrder powers me before others
 
-pub reverse_onto : (r : Record) (rs before : List Record) → reverse rs ++ (r ∷ before) ≡ reverse (r ∷ rs) ++ before
-reverse_onto r rs before = sym (ap (λ (x : List Record). x ++ before) (reverse-append (r ∷ []) rs) ∙ append_assoc (reverse rs) (r ∷ []) before)
+pub reverse_onto : {X : Type 0} (r : X) (rs before : List X) → reverse rs ++ (r ∷ before) ≡ reverse (r ∷ rs) ++ before
+reverse_onto {X = X} r rs before = sym (ap (λ (x : List X). x ++ before) (reverse-append (r ∷ []) rs) ∙ append_assoc (reverse rs) (r ∷ []) before)
 
-pub goes_on : (powers : List ℕ) (me : ℕ) (before done : List Record) (left : List ℕ) (rs : List Record) (rest : List ℕ) → AreLawful powers me before done → AreLawful powers me before rs → IsTorn rest
-    → records_spelling me done ++ left ≡ records_spelling me rs ++ rest → Goes powers me (reverse done ++ before) left rs rest
+pub goes_on : (powers : List ℕ) (me : ℕ) (before done : List Entry) (left : List ℕ) (rs : List Entry) (rest : List ℕ) → AreInOrder powers me before done → AreInOrder powers me before rs → IsTorn rest
+    → entries_spelling me done ++ left ≡ entries_spelling me rs ++ rest → Goes powers me (reverse done ++ before) left rs rest
 goes_on powers me before [] left rs rest l l' t e = record { others = rs; whole = e; lawful = l' }
-goes_on powers me before (r ∷ done) left [] rest l l' t e = absurd (torn_is_short rest (content_spelling me r) (records_spelling me done ++ left) (fits me r l.0) (sym e ∙ first_framed me r done left) t)
+goes_on powers me before (r ∷ done) left [] rest l l' t e = absurd (torn_is_short rest (entry_content me r) (entries_spelling me done ++ left) (fits_entry me r l.0) (sym e ∙ first_framed me r done left) t)
 goes_on powers me before (r ∷ done) left (q ∷ qs) rest l l' t e =
-    let c = same_content (content_spelling me r) (records_spelling me done ++ left) (content_spelling me q) (records_spelling me qs ++ rest) (fits me r l.0) (fits me q l'.0)
+    let c = same_content (entry_content me r) (entries_spelling me done ++ left) (entry_content me q) (entries_spelling me qs ++ rest) (fits_entry me r l.0) (fits_entry me q l'.0)
     (sym (first_framed me r done left) ∙ e ∙ first_framed me q qs rest) in
-    let is : r ≡ q = same_record me (content_spelling me r) r q (record { lawful = l.0; same = refl }) (record { lawful = l'.0; same = c.0 }) in
-    let lawful : AreLawful powers me (r ∷ before) qs = subst (λ (x : Record). AreLawful powers me (x ∷ before) qs) (sym is) l'.2 in
+    let is : r ≡ q = same_entry me (entry_content me r) r q (record { lawful = l.0; same = refl }) (record { lawful = l'.0; same = c.0 }) in
+    let lawful : AreInOrder powers me (r ∷ before) qs = subst (λ (x : Entry). AreInOrder powers me (x ∷ before) qs) (sym is) l'.2 in
     let g = goes_on powers me (r ∷ before) done left qs rest l.2 lawful t c.1 in
-    let lawful' : AreLawful powers me (reverse (r ∷ done) ++ before) g.others = subst (λ (x : List Record). AreLawful powers me x g.others) (reverse_onto r done before) g.lawful in
+    let lawful' : AreInOrder powers me (reverse (r ∷ done) ++ before) g.others = subst (λ (x : List Entry). AreInOrder powers me x g.others) (reverse_onto r done before) g.lawful in
     record { others = g.others; whole = g.whole; lawful = lawful' }
 
 -- ---- one more record
 
-pub lawful_push : (powers : List ℕ) (me : ℕ) (before rs : List Record) (r : Record) → AreLawful powers me before rs → IsRecord me r → may_follow powers (reverse rs ++ before) r ≡ true → AreLawful powers me before (rs ++ r ∷ [])
+pub lawful_push : (powers : List ℕ) (me : ℕ) (before rs : List Entry) (r : Entry) → AreInOrder powers me before rs → IsEntry me r → may_stand powers (reverse rs ++ before) r ≡ true → AreInOrder powers me before (rs ++ r ∷ [])
 lawful_push powers me before [] r l h f = (h, f, tt)
 lawful_push powers me before (q ∷ rs) r l h f =
-    (l.0, l.1, lawful_push powers me (q ∷ before) rs r l.2 h (ap (λ (x : List Record). may_follow powers x r) (reverse_onto q rs before) ∙ f))
+    (l.0, l.1, lawful_push powers me (q ∷ before) rs r l.2 h (ap (λ (x : List Entry). may_stand powers x r) (reverse_onto q rs before) ∙ f))
 
-pub spelling_push : (me : ℕ) (rs : List Record) (r : Record) → records_spelling me (rs ++ r ∷ []) ≡ records_spelling me rs ++ record_spelling me r
-spelling_push me [] r = append-nil (record_spelling me r)
-spelling_push me (q ∷ rs) r = ap (λ (x : List ℕ). record_spelling me q ++ x) (spelling_push me rs r) ∙ sym (append_assoc (record_spelling me q) (records_spelling me rs) (record_spelling me r))
+pub spelling_push : (me : ℕ) (rs : List Entry) (r : Entry) → entries_spelling me (rs ++ r ∷ []) ≡ entries_spelling me rs ++ entry_spelling me r
+spelling_push me [] r = append-nil (entry_spelling me r)
+spelling_push me (q ∷ rs) r = ap (λ (x : List ℕ). entry_spelling me q ++ x) (spelling_push me rs r) ∙ sym (append_assoc (entry_spelling me q) (entries_spelling me rs) (entry_spelling me r))
 
 -- ---- reading on behind what was read
 
 -- a record more was read
-pub scan_step : (powers : List ℕ) (me : ℕ) (bytes : List ℕ) (done : List Record) (r : Record) (left content after : List ℕ) → bytes ≡ records_spelling me done ++ left → AreLawful powers me [] done
-    → left ≡ framed content ++ after → Spells me content r → may_follow powers (reverse done) r ≡ true
-    → (bytes ≡ records_spelling me (done ++ r ∷ []) ++ after) × AreLawful powers me [] (done ++ r ∷ [])
+pub scan_step : (powers : List ℕ) (me : ℕ) (bytes : List ℕ) (done : List Entry) (r : Entry) (left content after : List ℕ) → bytes ≡ entries_spelling me done ++ left → AreInOrder powers me [] done
+    → left ≡ framed content ++ after → SpellsEntry me content r → may_stand powers (reverse done) r ≡ true
+    → (bytes ≡ entries_spelling me (done ++ r ∷ []) ++ after) × AreInOrder powers me [] (done ++ r ∷ [])
 scan_step powers me bytes done r left content after whole lawful front s f =
-    let text : framed content ≡ record_spelling me r = ap framed s.same ∙ sym (is_framed me r) in (
-      whole ∙ ap (λ (x : List ℕ). records_spelling me done ++ x) (front ∙ ap (λ (x : List ℕ). x ++ after) text)
-          ∙ sym (append_assoc (records_spelling me done) (record_spelling me r) after) ∙ ap (λ (x : List ℕ). x ++ after) (sym (spelling_push me done r)),
-      lawful_push powers me [] done r lawful s.lawful (ap (λ (x : List Record). may_follow powers x r) (append-nil (reverse done)) ∙ f),
+    let text : framed content ≡ entry_spelling me r = ap framed s.same ∙ sym (is_framed me r) in (
+      whole ∙ ap (λ (x : List ℕ). entries_spelling me done ++ x) (front ∙ ap (λ (x : List ℕ). x ++ after) text)
+          ∙ sym (append_assoc (entries_spelling me done) (entry_spelling me r) after) ∙ ap (λ (x : List ℕ). x ++ after) (sym (spelling_push me done r)),
+      lawful_push powers me [] done r lawful s.lawful (ap (λ (x : List Entry). may_stand powers x r) (append-nil (reverse done)) ∙ f),
     )
 
-bad_left : (powers : List ℕ) (me : ℕ) (before : List Record) (left : List ℕ) (others : List Record) (rest : List ℕ) → (IsTorn left → ⊥) × ((content after : List ℕ) → IsContent content → left ≡ framed content ++ after → ⊥)
-    → left ≡ records_spelling me others ++ rest → AreLawful powers me before others → IsTorn rest → ⊥
+bad_left : (powers : List ℕ) (me : ℕ) (before : List Entry) (left : List ℕ) (others : List Entry) (rest : List ℕ) → (IsTorn left → ⊥) × ((content after : List ℕ) → IsContent content → left ≡ framed content ++ after → ⊥)
+    → left ≡ entries_spelling me others ++ rest → AreInOrder powers me before others → IsTorn rest → ⊥
 bad_left powers me before left [] rest bad e l t = bad.0 (subst IsTorn (sym e) t)
-bad_left powers me before left (r ∷ others) rest bad e l t = bad.1 (content_spelling me r) (records_spelling me others ++ rest) (fits me r l.0) (e ∙ first_framed me r others rest)
+bad_left powers me before left (r ∷ others) rest bad e l t = bad.1 (entry_content me r) (entries_spelling me others ++ rest) (fits_entry me r l.0) (e ∙ first_framed me r others rest)
 
 -- what can't go on is no journal
-pub scan_bad : (powers : List ℕ) (me : ℕ) (bytes : List ℕ) (done : List Record) (left : List ℕ) → bytes ≡ records_spelling me done ++ left → AreLawful powers me [] done
+pub scan_bad : (powers : List ℕ) (me : ℕ) (bytes : List ℕ) (done : List Entry) (left : List ℕ) → bytes ≡ entries_spelling me done ++ left → AreInOrder powers me [] done
     → (IsTorn left → ⊥) × ((content after : List ℕ) → IsContent content → left ≡ framed content ++ after → ⊥) → (rs : List Record) → Splits powers me bytes rs → ⊥
 scan_bad powers me bytes done left whole lawful bad rs s =
-    let g = goes_on powers me [] done left rs s.rest lawful s.lawful s.torn (sym whole ∙ s.whole) in
+    let g = goes_on powers me [] done left s.entries s.rest lawful s.lawful s.torn (sym whole ∙ s.whole) in
     bad_left powers me (reverse done ++ []) left g.others s.rest bad g.whole g.lawful s.torn
 
-refused_left : (powers : List ℕ) (me : ℕ) (before : List Record) (left content after : List ℕ) (others : List Record) (rest : List ℕ) → IsContent content → left ≡ framed content ++ after
-    → ((r : Record) → Spells me content r → may_follow powers before r ≡ true → ⊥) → left ≡ records_spelling me others ++ rest → AreLawful powers me before others → IsTorn rest → ⊥
+refused_left : (powers : List ℕ) (me : ℕ) (before : List Entry) (left content after : List ℕ) (others : List Entry) (rest : List ℕ) → IsContent content → left ≡ framed content ++ after
+    → ((e : Entry) → SpellsEntry me content e → may_stand powers before e ≡ true → ⊥) → left ≡ entries_spelling me others ++ rest → AreInOrder powers me before others → IsTorn rest → ⊥
 refused_left powers me before left content after [] rest h front refused e l t = torn_is_short left content after h front (subst IsTorn (sym e) t)
 refused_left powers me before left content after (r ∷ others) rest h front refused e l t =
-    let c = same_content content after (content_spelling me r) (records_spelling me others ++ rest) h (fits me r l.0) (sym front ∙ e ∙ first_framed me r others rest) in
+    let c = same_content content after (entry_content me r) (entries_spelling me others ++ rest) h (fits_entry me r l.0) (sym front ∙ e ∙ first_framed me r others rest) in
     refused r (record { lawful = l.0; same = c.0 }) l.1
 
 -- what is refused behind what was read is no journal
-pub scan_refused : (powers : List ℕ) (me : ℕ) (bytes : List ℕ) (done : List Record) (left content after : List ℕ) (standing : Standing) (e : JournalFault) → bytes ≡ records_spelling me done ++ left → AreLawful powers me [] done
+pub scan_refused : (powers : List ℕ) (me : ℕ) (bytes : List ℕ) (done : List Entry) (left content after : List ℕ) (standing : Standing) (e : JournalFault) → bytes ≡ entries_spelling me done ++ left → AreInOrder powers me [] done
     → IsContent content → left ≡ framed content ++ after → IsTaken powers me (reverse done) content standing (Err e) → IsScan powers me bytes (Err e)
 scan_refused powers me bytes done left content after standing Failed whole lawful h front taken = taken
 scan_refused powers me bytes done left content after standing OutOfMemory whole lawful h front taken = tt
 scan_refused powers me bytes done left content after standing BadRecord whole lawful h front taken = λ rs s.
-    let g = goes_on powers me [] done left rs s.rest lawful s.lawful s.torn (sym whole ∙ s.whole) in
-    let l : AreLawful powers me (reverse done) g.others = subst (λ (x : List Record). AreLawful powers me x g.others) (append-nil (reverse done)) g.lawful in
+    let g = goes_on powers me [] done left s.entries s.rest lawful s.lawful s.torn (sym whole ∙ s.whole) in
+    let l : AreInOrder powers me (reverse done) g.others = subst (λ (x : List Entry). AreInOrder powers me x g.others) (append-nil (reverse done)) g.lawful in
     refused_left powers me (reverse done) left content after g.others s.rest h front taken g.whole l s.torn
+
+-- ---- entries and their records
+
+pub records_append : (es fs : List Entry) → records_in (es ++ fs) ≡ records_in es ++ records_in fs
+records_append [] fs = refl
+records_append (OfRecord r ∷ es) fs = ap (λ (x : List Record). r ∷ x) (records_append es fs)
+records_append (Mark ∷ es) fs = records_append es fs
+
+pub records_reverse : (es : List Entry) → records_in (reverse es) ≡ reverse (records_in es)
+records_reverse [] = refl
+records_reverse (OfRecord r ∷ es) = ap records_in (reverse-append (OfRecord r ∷ []) es) ∙ records_append (reverse es) (OfRecord r ∷ []) ∙ ap (λ (x : List Record). x ++ r ∷ []) (records_reverse es) ∙ sym (reverse-append (r ∷ []) (records_in es))
+records_reverse (Mark ∷ es) = ap records_in (reverse-append (Mark ∷ []) es) ∙ records_append (reverse es) (Mark ∷ []) ∙ append-nil (records_in (reverse es)) ∙ records_reverse es
+
+pub marked_append : (es fs : List Entry) → is_marked (es ++ fs) ≡ (is_marked es || is_marked fs)
+marked_append [] fs = refl
+marked_append (OfRecord r ∷ es) fs = marked_append es fs
+marked_append (Mark ∷ es) fs = refl
+
+or_false : (b : Bool) → (b || false) ≡ b
+or_false true = refl
+or_false false = refl
+
+pub or_true : (b : Bool) → (b || true) ≡ true
+or_true true = refl
+or_true false = refl
+
+pub marked_reverse : (es : List Entry) → is_marked (reverse es) ≡ is_marked es
+marked_reverse [] = refl
+marked_reverse (OfRecord r ∷ es) = ap is_marked (reverse-append (OfRecord r ∷ []) es) ∙ marked_append (reverse es) (OfRecord r ∷ []) ∙ or_false (is_marked (reverse es)) ∙ marked_reverse es
+marked_reverse (Mark ∷ es) = ap is_marked (reverse-append (Mark ∷ []) es) ∙ marked_append (reverse es) (Mark ∷ []) ∙ or_true (is_marked (reverse es))
+
+-- the records of entries in order are lawful
+pub lawful_records : (powers : List ℕ) (me : ℕ) (before es : List Entry) → AreInOrder powers me before es → AreLawful powers me (records_in before) (records_in es)
+unfolding may_stand
+lawful_records powers me before [] l = tt
+lawful_records powers me before (OfRecord r ∷ es) l = (l.0, (and_parts _ _ l.1).0, lawful_records powers me (OfRecord r ∷ before) es l.2)
+lawful_records powers me before (Mark ∷ es) l = lawful_records powers me (Mark ∷ before) es l.2
+
+-- behind a mark a record may stand that may follow
+pub stands_behind : (powers : List ℕ) (es : List Entry) (rs : List Record) (r : Record) → records_in es ≡ rs → is_marked es ≡ true → may_follow powers (reverse rs) r ≡ true → may_stand powers (reverse es) (OfRecord r) ≡ true
+unfolding may_stand
+stands_behind powers es rs r is marked f =
+    and_from _ _ (ap (λ (x : List Record). may_follow powers x r) (records_reverse es ∙ ap reverse is) ∙ f) (ap (λ b. b || has_early r) (marked_reverse es ∙ marked))

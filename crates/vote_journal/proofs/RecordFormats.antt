@@ -16,7 +16,7 @@ use Rattle.protocol.specs.Values.{Id, Value, id}
 use Rattle.protocol.specs.Messages.{Vote, Bundle, Body, OfTx, OfProposal, OfVote, OfAsk, OfBundle, Proposing, Prevoting, Precommitting, Record, Own, Decided, precommit, body_of, vote_eq}
 use Rattle.vote_journal.specs.declared.fault.JournalFault.{JournalFault}
 use Rattle.vote_journal.specs.declared.fault.JournalFault.TheVariants.{Failed, OutOfMemory, BadRecord}
-use Rattle.vote_journal.specs.Grammar.{IsDecision, Spells, IsReading}
+use Rattle.vote_journal.specs.Grammar.{IsDecision, Spells, IsReading, Entry, OfRecord, Mark, SpellsEntry}
 use Rattle.vote_journal.specs.Parts.{IsReadingOf, act_by, plain_record, lock_record, is_decision, bundle_of}
 
 some_is : {T : Type 0} (b : Bool) (x y : T) → cond b (Some x) None ≡ Some y → (b ≡ true) × (x ≡ y)
@@ -286,3 +286,15 @@ other_kind me kind bytes r outside h =
 
 pub nothing_spelled : (me : ℕ) (content : List ℕ) (r : Record) → Spells me content r → content ≡ [] → ⊥
 nothing_spelled me content r h e = let p = kinds_of me content r h in let both : [] ≡ p.0 ∷ p.1 = sym e ∙ p.2 in absurd cc
+
+-- ---- entries
+
+pub kind_four : (me kind : ℕ) (rest : List ℕ) (r : Record) → (eqb kind 4) ≡ true → Spells me (kind ∷ rest) r → ⊥
+kind_four me kind rest r e h = other_kind me kind rest r (λ low high. let four : kind ≡ 4 = eqb-true _ _ e in omega (arith, high, four)) h
+
+-- no two entries have one content
+pub same_entry : (me : ℕ) (content : List ℕ) (a b : Entry) → SpellsEntry me content a → SpellsEntry me content b → a ≡ b
+same_entry me content (OfRecord a) (OfRecord b) h k = ap (λ (r : Record). OfRecord r) (same_record me content a b (record { lawful = h.lawful; same = h.same }) (record { lawful = k.lawful; same = k.same }))
+same_entry me content (OfRecord a) Mark h k = absurd (kind_four me 4 _ a refl (record { lawful = h.lawful; same = sym k.same ∙ h.same }))
+same_entry me content Mark (OfRecord b) h k = absurd (kind_four me 4 _ b refl (record { lawful = k.lawful; same = sym h.same ∙ k.same }))
+same_entry me content Mark Mark h k = refl

@@ -7,18 +7,17 @@ use Rattle.protocol.specs.Tags.{Setting}
 use Rattle.protocol.specs.Messages.{Record}
 use Rattle.protocol.specs.State.{Node}
 use Rattle.protocol.specs.Restart.{opened}
-use Rattle.protocol.specs.Queues.{is_closed}
 use Rattle.protocol.specs.Arrivals.{arrival}
 use Rattle.protocol.specs.World.{World, Cut, InArrival, InFiring, Event, Sends, Comes, Fires, Asks, Resends, Restarts, happens, run, tried, cut_record, with_node}
 use Rattle.protocol.proofs.Growth.{run_longer}
-use Rattle.vote_journal.specs.Grammar.{header, record_spelling, IsRecord}
+use Rattle.vote_journal.specs.Grammar.{header, mark, record_spelling, IsRecord}
 use Rattle.vote_journal.specs.Order.{may_follow}
 use Rattle.vote_journal.specs.Layout.{IsJournal, IsWhole}
 use Rattle.vote_journal.specs.Laws.{IsLawful}
 use Rattle.vote_journal.specs.History.{Call, Opened, Saved, Broken, is_open, HasOpened, Does}
 use Rattle.vote_journal.specs.Stopping.{Deed, Goes, Breaks, Opens, Stored, wrote, at_call, after, ends, begun, Fits, IsCalled, Happen, BeginsEmpty}
 use Rattle.vote_journal.specs.Serving.{bytes_of, stays, AllFit, ServedLaw}
-use Rattle.vote_journal.proofs.Stops.{whole_is_journal, whole_push}
+use Rattle.vote_journal.proofs.Stops.{whole_is_journal, whole_push, front_whole}
 use Rattle.vote_journal.proofs.Following.{record_fits}
 use Rattle.vote_journal.proofs.Stopping.{split, newest, oldest, wrote_is, saves_lawful, come_journal, try_journal, AllAgree, all_agree, begun_agrees, ends_append}
 
@@ -183,7 +182,7 @@ module _ (c : Setting) where
   done d (Sends client op) a h f = record {
     deeds = (Goes (Sends client op), []) ∷ [];
     happen = (tt, tt, tt);
-    has = λ q. cond_both (is_closed client (d.world.sent client)) _ _ (λ (w : World). HasAll q (w.nodes q) (d.calls q) (d.store q)) (λ _. h q) (λ _. h q);
+    has = h;
     world = refl;
   }
   done d (Comes p bytes) a h f =
@@ -235,8 +234,8 @@ module _ (c : Setting) where
 
 pub served : ServedLaw
 served c events f =
-    let start : ℕ → List ℕ = λ p. header in
-    let whole : (p : ℕ) → IsWhole c.powers p header [] = λ p. record { same = refl; lawful = tt } in
-    let begins : BeginsEmpty bytes_of stays c start start = λ p. opens_whole c.powers p header header [] refl (whole p) in
+    let start : ℕ → List ℕ = λ p. header ++ mark in
+    let whole : (p : ℕ) → IsWhole c.powers p (header ++ mark) [] = λ p. front_whole c.powers p in
+    let begins : BeginsEmpty bytes_of stays c start start = λ p. opens_whole c.powers p (header ++ mark) (header ++ mark) [] refl (whole p) in
     let all = all_done c (begun c start) events (begun_agrees bytes_of stays c start start begins) (λ q. (whole q, refl)) f in
     (start, all.deeds, begins, all.happen, all.world)

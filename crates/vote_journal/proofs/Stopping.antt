@@ -8,12 +8,11 @@ use Rattle.protocol.specs.Tags.{Setting}
 use Rattle.protocol.specs.Messages.{Record}
 use Rattle.protocol.specs.State.{Node, Rule, DecideByBundle}
 use Rattle.protocol.specs.Restart.{opened}
-use Rattle.protocol.specs.Queues.{is_closed}
 use Rattle.protocol.specs.Arrivals.{arrival}
 use Rattle.protocol.specs.World.{World, Cut, InArrival, InFiring, Event, Sends, Comes, Fires, Asks, Resends, Restarts, run, beginning, tried, cut_record, with_node, delivered}
 use Rattle.protocol.specs.Premises.{Honesty, Unforged, Distinct, IsCorrect, Begins}
 use Rattle.protocol.specs.Laws.{Comparable}
-use Rattle.protocol.specs.Values.{of, in_turn}
+use Rattle.protocol.specs.Values.{of, fresh, in_turn}
 use Rattle.protocol.proofs.Arrivals.{come_cases, try_cases, cut_cases}
 use Rattle.protocol.proofs.Growth.{run_append}
 use Rattle.protocol.proofs.Headline.{begins_law}
@@ -94,7 +93,7 @@ abbrev IsHeadline : Setting → Honesty → World → World → ℕ → Type 0
 IsHeadline c h old new p =
     Begins (delivered old p) (delivered new p)
     × ((q : ℕ) → IsCorrect c h q → Comparable (delivered old p) (delivered new q))
-    × ((client : ℕ) → in_turn 1 (of client (delivered new p)) ≡ true)
+    × ((client : ℕ) → in_turn fresh (of client (delivered new p)) ≡ true)
     × ((client : ℕ) → h.clients client ≡ true → Begins (of client (delivered new p)) (new.sent client))
 
 -- ---- one validator over its store
@@ -244,8 +243,7 @@ module _ {S : Type 0} (seen : S → List ℕ) (may_leave : S → List ℕ → Ty
       (λ _. a q)
 
   agree_after : (d : Stored S) (deed : Deed) (new : S) → AllAgree d → MayHappen d deed → IsCalled seen may_leave c d (call_of c d.world deed) new → (q : ℕ) → AgreesAfter d deed new q
-  agree_after d (Goes (Sends client op)) new a up is q =
-      cond_both (is_closed client (d.world.sent client)) _ _ (λ (w : World). Agrees q (w.nodes q) (d.calls q) (d.store q) (d.broken q)) (λ _. a q) (λ _. a q)
+  agree_after d (Goes (Sends client op)) new a up is q = a q
   agree_after d (Goes (Comes p bytes)) new a up is q =
       let n = d.world.nodes p in
       moves d p (arrival c p n bytes).node (InArrival bytes) (wrote c p n (InArrival bytes)) new a up (come_lawful c p n bytes (a p).lawful) refl (come_journal c p n bytes) is q

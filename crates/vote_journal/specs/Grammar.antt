@@ -71,6 +71,41 @@ pub record Spells (me : ℕ) (content : List ℕ) (r : Record) : Type 0 where
   pub lawful : IsRecord me r
   pub same : content ≡ content_spelling me r
 
+-- ---- entries
+
+-- a record, or the mark that the form with sessions has begun
+pub data Entry : Type 0 where
+  OfRecord : Record → Entry
+  Mark : Entry
+
+-- the kind, and the number of the form
+abbrev pub mark_content : List ℕ
+mark_content = 4 ∷ 0 ∷ 0 ∷ 0 ∷ 2 ∷ []
+
+abbrev pub entry_content : ℕ → Entry → List ℕ
+entry_content me (OfRecord r) = content_spelling me r
+entry_content me Mark = mark_content
+
+-- its nine bytes
+abbrev pub mark : List ℕ
+mark = 0 ∷ 0 ∷ 0 ∷ 5 ∷ mark_content
+
+unfoldable pub entry_spelling : ℕ → Entry → List ℕ
+entry_spelling me e = framed (entry_content me e)
+
+-- the oldest first
+abbrev pub entries_spelling : ℕ → List Entry → List ℕ
+entries_spelling me es = flat_map (entry_spelling me) es
+
+abbrev pub IsEntry : ℕ → Entry → Type 0
+IsEntry me (OfRecord r) = IsRecord me r
+IsEntry me Mark = Unit {0}
+
+-- the content spells the entry
+pub record SpellsEntry (me : ℕ) (content : List ℕ) (e : Entry) : Type 0 where
+  pub lawful : IsEntry me e
+  pub same : content ≡ entry_content me e
+
 -- What is read is what is spelled, and what is refused spells nothing; or memory ran out.
 abbrev pub IsReading : ℕ → List ℕ → Result Held JournalFault → Type 0
 IsReading me content (Ok r) = Spells me content (record_of r)

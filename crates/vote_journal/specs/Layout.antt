@@ -1,11 +1,11 @@
 -- Which bytes are a journal of which records.
-use Rattle.std.specs.Prelude.{◌≡◌, ◌⊎◌, ℕ, ◌<◌, ◌≤◌, List, [], ◌++◌, length, take, drop}
+use Rattle.std.specs.Prelude.{◌≡◌, ◌⊎◌, ℕ, ◌<◌, ◌≤◌, List, [], ◌++◌, length, take, drop, true}
 use Rattle.byteorder.specs.Endian.{big_number}
 use Rattle.protocol.specs.Messages.{Record}
 use Rattle.vote_journal.specs.declared.scanning.Front.{Front}
 use Rattle.vote_journal.specs.declared.scanning.Front.TheVariants as fronts
-use Rattle.vote_journal.specs.Grammar.{header, framed, records_spelling}
-use Rattle.vote_journal.specs.Order.{AreLawful}
+use Rattle.vote_journal.specs.Grammar.{header, framed, Entry, entries_spelling}
+use Rattle.vote_journal.specs.Order.{records_in, is_marked, AreInOrder}
 
 -- as much as a record may have behind its length
 abbrev pub IsContent : List ℕ → Type 0
@@ -19,21 +19,26 @@ IsTorn rest = (length rest < 4) ⊎ ((1 ≤ big_number 4 rest) × (big_number 4 
 abbrev pub IsBegunHeader : List ℕ → Type 0
 IsBegunHeader bytes = (k : ℕ) × (k < 4) × (bytes ≡ take k header)
 
--- behind a header: these records, the oldest first, and less than a whole one
+-- behind a header: entries, the oldest first, whose records are these, and less than a whole one
 pub record Splits (powers : List ℕ) (me : ℕ) (bytes : List ℕ) (rs : List Record) : Type 0 where
+  pub entries : List Entry
+  pub records : records_in entries ≡ rs
   pub rest : List ℕ
-  pub whole : bytes ≡ records_spelling me rs ++ rest
-  pub lawful : AreLawful powers me [] rs
+  pub whole : bytes ≡ entries_spelling me entries ++ rest
+  pub lawful : AreInOrder powers me [] entries
   pub torn : IsTorn rest
 
 -- The bytes are the journal of these records of validator me, or one that a stop cut short.
 abbrev pub IsJournal : List ℕ → ℕ → List ℕ → List Record → Type 0
 IsJournal powers me bytes rs = (IsBegunHeader bytes × (rs ≡ [])) ⊎ ((behind : List ℕ) × (bytes ≡ header ++ behind) × Splits powers me behind rs)
 
--- and none of it is cut short
+-- and none of it is cut short, and it has the mark
 pub record IsWhole (powers : List ℕ) (me : ℕ) (bytes : List ℕ) (rs : List Record) : Type 0 where
-  pub same : bytes ≡ header ++ records_spelling me rs
-  pub lawful : AreLawful powers me [] rs
+  pub entries : List Entry
+  pub records : records_in entries ≡ rs
+  pub same : bytes ≡ header ++ entries_spelling me entries
+  pub lawful : AreInOrder powers me [] entries
+  pub marked : is_marked entries ≡ true
 
 -- ---- what the reader finds
 

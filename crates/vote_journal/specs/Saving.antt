@@ -1,9 +1,9 @@
 -- What saving and opening leave.
-use Rattle.std.specs.Prelude.{◌≡◌, ◌⊎◌, ℕ, Bool, true, false, List, [], ◌∷◌, ◌++◌, take, reverse, Result, Ok, Err}
+use Rattle.std.specs.Prelude.{◌≡◌, ◌⊎◌, ℕ, Bool, true, false, not, List, [], ◌∷◌, ◌++◌, take, reverse, Result, Ok, Err}
 use Rattle.protocol.specs.Messages.{Record}
 use Rattle.vote_journal.specs.declared.fault.JournalFault.{JournalFault}
 use Rattle.vote_journal.specs.declared.fault.JournalFault.TheVariants.{Failed, OutOfMemory, BadRecord}
-use Rattle.vote_journal.specs.Grammar.{header, IsRecord}
+use Rattle.vote_journal.specs.Grammar.{header, mark, IsRecord}
 use Rattle.vote_journal.specs.Order.{may_follow}
 use Rattle.vote_journal.specs.Layout.{IsJournal, IsWhole}
 use Rattle.vote_journal.specs.Store.{Shortened, Begun, Grew}
@@ -50,11 +50,15 @@ KeepsEach powers me old new = (c : List ℕ) → new c → (d : List ℕ) × old
 abbrev pub WhereSaved : ℕ → List ℕ → Record → (List ℕ → List Record → Type 0) → Type 0
 WhereSaved me stood r P = (powers : List ℕ) (rs : List Record) → IsWhole powers me stood rs → IsRecord me r → may_follow powers (reverse rs) r ≡ true → P powers rs
 
--- what is appended behind what is kept
-abbrev pub added : Bool → List ℕ
-added true = header
-added false = []
+-- bytes, where they are wanted
+abbrev pub if_wanted : Bool → List ℕ → List ℕ
+if_wanted true bytes = bytes
+if_wanted false bytes = []
 
--- what opening may leave beside what stood: a shorter torn rest, or a beginning of the header
-abbrev pub BegunOpening : ℕ → Bool → List ℕ → List ℕ → Type 0
-BegunOpening keep fresh stood c = Shortened keep stood c ⊎ ((fresh ≡ true) × Begun (take keep stood) header c)
+-- what is appended behind what is kept: the header and the mark, where each is missing
+abbrev pub added : Bool → Bool → List ℕ
+added fresh marked = if_wanted fresh header ++ if_wanted (not marked) mark
+
+-- what opening may leave beside what stood: a shorter torn rest, or a beginning of what is appended
+abbrev pub BegunOpening : ℕ → Bool → Bool → List ℕ → List ℕ → Type 0
+BegunOpening keep fresh marked stood c = Shortened keep stood c ⊎ Begun (take keep stood) (added fresh marked) c

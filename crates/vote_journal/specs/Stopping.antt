@@ -2,7 +2,7 @@
 use Rattle.std.specs.Prelude.{◌≡◌, ◌⊎◌, ℕ, true, cond, Option, Some, None, List, [], ◌∷◌, ◌++◌, length, ◌==◌, reverse, option_map}
 use Rattle.powers.specs.Power.{FewLie}
 use Rattle.messages.specs.Grammar.{IsBody, IsBundle}
-use Rattle.protocol.specs.Values.{of, in_turn}
+use Rattle.protocol.specs.Values.{of, fresh, in_turn}
 use Rattle.protocol.specs.Messages.{Record, Own, Decided, body_of}
 use Rattle.protocol.specs.Tags.{Setting}
 use Rattle.protocol.specs.State.{Node}
@@ -160,5 +160,5 @@ StoppedHeadlineLaw {S} seen may_leave = (c : Setting) (h : Honesty) (unopened st
     FewLie c.powers h.liars → Unforged c h (beginning c) events → Distinct c h events → (p : ℕ) → IsCorrect c h p →
     Begins (delivered old p) (delivered new p)
     × ((q : ℕ) → IsCorrect c h q → Comparable (delivered old p) (delivered new q))
-    × ((client : ℕ) → in_turn 1 (of client (delivered new p)) ≡ true)
+    × ((client : ℕ) → in_turn fresh (of client (delivered new p)) ≡ true)
     × ((client : ℕ) → h.clients client ≡ true → Begins (of client (delivered new p)) (new.sent client))

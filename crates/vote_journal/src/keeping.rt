@@ -3,6 +3,8 @@
 ghost use Rattle.std.specs.Prelude.{◌≡◌, ◌++◌, ◌∷◌, [], List, MatchResult};
 ghost use Rattle.protocol.specs.Messages.{Record as AnyRecord};
 ghost use Rattle.protocol.specs.Records.{record_of};
+ghost use Rattle.vote_journal.specs.Grammar.{Entry};
+ghost use Rattle.vote_journal.specs.Order.{entry_of, records_in};
 ghost use Rattle.vote_journal.specs.Kept.{Keeps};
 
 use crate::fault::JournalFault;
@@ -47,8 +49,18 @@ impl Kept {
         }
     }
 
-    /// Keeps a record that follows the others. A decision lets go of the own messages before it.
-    pub(crate) fn keep(&mut self, entry: Record) -> Result<(), JournalFault>
+    /// Keeps what follows the others: a record, or the mark, which tells nothing. A decision lets go of the own messages
+    /// before it.
+    pub(crate) fn keep(&mut self, entry: Option<Record>) -> Result<(), JournalFault>
+        ensures { MatchResult result (λ _. (es : List Entry) → Keeps (records_in es) self.old.decisions.items self.old.own.items → Keeps (records_in (es ++ entry_of entry ∷ [])) self.new.decisions.items self.new.own.items) (λ e. e ≡ JournalFault.OutOfMemory) }
+    {
+        match entry {
+            None => Ok(()),
+            Some(entry) => self.keep_record(entry),
+        }
+    }
+
+    fn keep_record(&mut self, entry: Record) -> Result<(), JournalFault>
         ensures { MatchResult result (λ _. (rs : List AnyRecord) → Keeps rs self.old.decisions.items self.old.own.items → Keeps (rs ++ record_of entry ∷ []) self.new.decisions.items self.new.own.items) (λ e. e ≡ JournalFault.OutOfMemory) }
     {
         match entry {

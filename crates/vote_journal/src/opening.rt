@@ -1,11 +1,12 @@
 //! Opening a journal that a stop may have cut short.
 
-ghost use Rattle.std.specs.Prelude.{◌≡◌, ◌<◌, ◌≤◌, ◌++◌, ℕ, List, [], length, take, OnOk, IfOk, IfErr, IsErrOf, false};
+ghost use Rattle.std.specs.Prelude.{◌≡◌, ◌<◌, ◌≤◌, ◌-◌, ◌++◌, ℕ, List, [], length, take, OnOk, IfOk, IfErr, IsErrOf, false};
 ghost use Rattle.std.specs.Str.{bytes_eq};
 ghost use Rattle.protocol.specs.Messages.{Record as AnyRecord};
+ghost use Rattle.vote_journal.specs.Grammar.{header, mark};
 ghost use Rattle.vote_journal.specs.Layout.{IsWhole};
-ghost use Rattle.vote_journal.specs.Store.{Only, Adds, Shortened, Grew, Counts, FailsBy};
-ghost use Rattle.vote_journal.specs.Saving.{added, BegunOpening, HasNoJournal, KeepsEach};
+ghost use Rattle.vote_journal.specs.Store.{Only, Adds, Begun, Shortened, Grew, Counts, FailsBy};
+ghost use Rattle.vote_journal.specs.Saving.{added, if_wanted, BegunOpening, HasNoJournal, KeepsEach};
 ghost use Rattle.vote_journal.specs.Kept.{Keeps, IsOpened};
 ghost use Rattle.vote_journal.specs.Planning.{IsPlan};
 
@@ -13,7 +14,7 @@ use crate::fault::JournalFault;
 use crate::journal::Journal;
 use crate::keeping::Kept;
 use crate::memory::MemoryStore;
-use crate::scanning::read_records;
+use crate::scanning::{Scan, read_records};
 use crate::store::{Store, StoreFault};
 use crate::striking::{Strikes, StrikingStore};
 use messages::Bundle;
@@ -23,6 +24,9 @@ use std::alloc::{AllocError, Global};
 
 /// What a journal begins with: the ASCII text TMJ1.
 const HEADER: [u8; 4] = [0x54, 0x4d, 0x4a, 0x31];
+
+/// The record that marks the form with sessions: its length, its kind, and the number of the form.
+const MARK: [u8; 9] = [0, 0, 0, 5, 4, 0, 0, 0, 2];
 
 /// A journal that was opened, and what a restart needs of its records.
 #[derive(Drop)]
@@ -47,6 +51,7 @@ struct Plan {
     kept: Kept,
     keep: usize,
     fresh: bool,
+    marked: bool,
 }
 
 impl Plan {
@@ -57,9 +62,19 @@ impl Plan {
             kept,
             keep: _,
             fresh: _,
+            marked: _,
         } = self;
         kept
     }
+}
+
+/// What an empty journal has: the header and the mark.
+fn front(alloc: Global) -> Result<Vec<u8>, AllocError>
+    ensures { IfOk result (λ bytes. bytes.items ≡ header ++ mark) }
+{
+    let mut bytes = HEADER.to_vec(alloc)?;
+    bytes.extend_from_slice(&MARK)?;
+    Ok(bytes)
 }
 
 fn same_bytes(a: &[u8], b: &[u8]) -> bool
@@ -81,6 +96,7 @@ fn short_plan(alloc: Global, bytes: &[u8]) -> Result<Plan, JournalFault>
         kept: Kept::new(alloc),
         keep: 0,
         fresh: true,
+        marked: false,
     })
 }
 
@@ -94,32 +110,68 @@ fn plan_of(alloc: Global, me: u16, powers: &Powers, bytes: &[u8]) -> Result<Plan
     if !same_bytes(front, &HEADER) {
         return Err(JournalFault::BadRecord);
     }
-    let (kept, torn) = read_records(alloc, me, powers, behind)?;
-    Ok(Plan {
-        kept,
-        keep: bytes.len() - torn,
-        fresh: false,
-    })
+    let scan = read_records(alloc, me, powers, behind)?;
+    Ok(plan_after(bytes.len(), scan))
 }
 
-/// Keeps the first bytes, adds a header where it is missing, and syncs.
-fn settle<S: Store>(store: &mut S, len: usize, keep: usize, fresh: bool) -> Result<(), StoreFault>
+/// Of so many bytes, of which this was read.
+fn plan_after(len: usize, scan: Scan) -> Plan
+    requires { scan.torn ≤ len }
+    ensures { result ≡ record { kept = scan.kept; keep = len - scan.torn; fresh = false; marked = scan.marked } }
+{
+    let Scan { kept, marked, torn } = scan;
+    Plan {
+        kept,
+        keep: len - torn,
+        fresh: false,
+        marked,
+    }
+}
+
+/// Keeps the first bytes, adds a header and a mark where each is missing, and syncs.
+fn settle<S: Store>(
+    store: &mut S,
+    len: usize,
+    keep: usize,
+    fresh: bool,
+    marked: bool,
+) -> Result<(), StoreFault>
     requires len { len ≡ length (S.seen store.old) }
     requires keep { keep ≤ len }
-    ensures done { OnOk result ((S.seen store.new ≡ take keep (S.seen store.old) ++ added fresh) × Only (S.seen store.new) (S.may_leave store.new)) }
-    ensures stop { Adds (BegunOpening keep fresh (S.seen store.old)) (S.may_leave store.old) (S.may_leave store.new) }
+    ensures done { OnOk result ((S.seen store.new ≡ take keep (S.seen store.old) ++ added fresh marked) × Only (S.seen store.new) (S.may_leave store.new)) }
+    ensures stop { Adds (BegunOpening keep fresh marked (S.seen store.old)) (S.may_leave store.old) (S.may_leave store.new) }
     ensures failed { FailsBy result (Grew (S.failures store.old) (S.failures store.new)) (Unit {0}) }
 {
     if keep < len {
         shorten(store, keep)?;
     }
-    if fresh {
-        store.append(&HEADER)?;
-    }
+    add_front(store, fresh, marked)?;
     match store.sync() {
         Ok(()) => Ok(()),
         Err(_) => Err(StoreFault::Device),
     }
+}
+
+/// Adds bytes where they are wanted.
+fn add<S: Store>(store: &mut S, wanted: bool, bytes: &[u8]) -> Result<(), StoreFault>
+    ensures added { OnOk result (S.seen store.new ≡ S.seen store.old ++ if_wanted wanted bytes.now) }
+    ensures stop { Adds (Begun (S.seen store.old) (if_wanted wanted bytes.now)) (S.may_leave store.old) (S.may_leave store.new) }
+    ensures cause { Counts result (S.failures store.old) (S.failures store.new) }
+{
+    if wanted {
+        store.append(bytes)?;
+    }
+    Ok(())
+}
+
+/// Adds a header and a mark, where each is missing.
+fn add_front<S: Store>(store: &mut S, fresh: bool, marked: bool) -> Result<(), StoreFault>
+    ensures added { OnOk result (S.seen store.new ≡ S.seen store.old ++ added fresh marked) }
+    ensures stop { Adds (Begun (S.seen store.old) (added fresh marked)) (S.may_leave store.old) (S.may_leave store.new) }
+    ensures cause { Counts result (S.failures store.old) (S.failures store.new) }
+{
+    add(store, fresh, &HEADER)?;
+    add(store, !marked, &MARK)
 }
 
 fn shorten<S: Store>(store: &mut S, keep: usize) -> Result<(), StoreFault>
@@ -152,7 +204,7 @@ fn prepare<S: Store>(
         Err(StoreFault::OutOfMemory) => return Err(JournalFault::OutOfMemory),
     };
     let plan = plan_of(alloc, me, powers, &bytes)?;
-    match settle(store, bytes.len(), plan.keep, plan.fresh) {
+    match settle(store, bytes.len(), plan.keep, plan.fresh, plan.marked) {
         Ok(()) => Ok(plan.into_kept()),
         Err(StoreFault::Device) => Err(JournalFault::Failed),
         Err(StoreFault::OutOfMemory) => Err(JournalFault::OutOfMemory),
@@ -206,7 +258,7 @@ impl Journal<MemoryStore> {
         ensures state { IfOk result (λ journal. (journal.me ≡ me) × (journal.failed ≡ false)) }
         ensures empty { IfOk result (λ journal. (powers : List ℕ) → IsWhole powers me journal.store.bytes.items []) }
     {
-        let header = HEADER.to_vec(alloc)?;
+        let header = front(alloc)?;
         Ok(Journal {
             alloc,
             store: MemoryStore::new(header, 0, 0),
@@ -227,7 +279,7 @@ impl Journal<StrikingStore> {
         ensures state { IfOk result (λ journal. (journal.me ≡ me) × (journal.failed ≡ false)) }
         ensures empty { IfOk result (λ journal. (powers : List ℕ) → IsWhole powers me journal.store.store.bytes.items []) }
     {
-        let header = HEADER.to_vec(alloc)?;
+        let header = front(alloc)?;
         Ok(Journal {
             alloc,
             store: StrikingStore::new(header, strikes),

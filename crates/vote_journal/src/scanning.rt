@@ -25,6 +25,16 @@ pub(crate) enum Front<'a> {
     Whole(&'a [u8], &'a [u8]),
 }
 
+/// What was read behind a header.
+#[derive(Drop)]
+pub(crate) struct Scan {
+    pub(crate) kept: Kept,
+    /// Whether the mark of the form with sessions stands among the records.
+    pub(crate) marked: bool,
+    /// How many bytes of a record that was cut short follow them.
+    pub(crate) torn: usize,
+}
+
 /// Whether a record may have so many bytes behind its length.
 fn is_lawful(len: usize) -> bool
     ensures { result ≡ nat_le 1 len && nat_le len 1100000 }
@@ -50,8 +60,7 @@ fn front_of(bytes: &[u8]) -> Front<'_>
     Front::Whole(content, after)
 }
 
-/// What is kept of the records of validator `me` behind a header, and how many bytes of a record that was cut short
-/// follow them.
+/// What is kept of the records of validator `me` behind a header, and what else was found.
 ///
 /// Faults: `BadRecord` (3) for a length of 0 or above 1,100,000, for what is no record of the validator, and for a record
 /// that may not follow those before it; `OutOfMemory` (2).
@@ -60,7 +69,7 @@ pub(crate) fn read_records(
     me: u16,
     powers: &Powers,
     bytes: &[u8],
-) -> Result<(Kept, usize), JournalFault>
+) -> Result<Scan, JournalFault>
     ensures { IsScan powers.now me bytes.now result }
 {
     let mut standing = Standing::new(alloc);
@@ -68,7 +77,13 @@ pub(crate) fn read_records(
     let mut rest = bytes;
     loop {
         match front_of(rest) {
-            Front::Torn => return Ok((kept, rest.len())),
+            Front::Torn => {
+                return Ok(Scan {
+                    kept,
+                    marked: standing.is_marked(),
+                    torn: rest.len(),
+                });
+            }
             Front::Bad => return Err(JournalFault::BadRecord),
             Front::Whole(content, after) => {
                 let entry = standing.take(alloc, me, powers, content)?;

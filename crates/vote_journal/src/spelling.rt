@@ -44,7 +44,7 @@ pub fn body_of(alloc: Global, me: u16, message: &OwnMessage) -> Result<Body, All
 /// A body's bytes. A body that has a spelling can be refused for memory alone.
 fn bytes_of(alloc: Global, body: &Body) -> Result<Vec<u8>, AllocError>
     ensures same { IsBody body.now → IfOk result (λ bytes. bytes.items ≡ body_spelling body.now) }
-    ensures short { IfOk result (λ bytes. length bytes.items ≤ 631312) }
+    ensures short { IfOk result (λ bytes. length bytes.items ≤ 1024720) }
 {
     spell_body(alloc, body).map_err(|_| AllocError)
 }
@@ -52,7 +52,7 @@ fn bytes_of(alloc: Global, body: &Body) -> Result<Vec<u8>, AllocError>
 /// A record whose content is a kind and a body.
 #[tactic(auto, unfolding(crate::specs::Grammar::framed))]
 fn frame_body(alloc: Global, kind: u8, body: &[u8]) -> Result<Vec<u8>, AllocError>
-    requires { length body.now ≤ 631312 }
+    requires { length body.now ≤ 1024720 }
     ensures { IfOk result (λ bytes. bytes.items ≡ framed (kind ∷ body.now)) }
 {
     let len = 1 + body.len();
@@ -66,7 +66,7 @@ fn frame_body(alloc: Global, kind: u8, body: &[u8]) -> Result<Vec<u8>, AllocErro
 /// A record whose content is the body of a precommit and the value that it locks.
 #[tactic(auto, unfolding(crate::specs::Grammar::framed))]
 fn frame_lock(alloc: Global, body: &[u8], value: &Value) -> Result<Vec<u8>, AllocError>
-    requires { length body.now ≤ 631312 }
+    requires { length body.now ≤ 1024720 }
     ensures { IfOk result (λ bytes. bytes.items ≡ framed (2 ∷ (body.now ++ value_spelling value.now))) }
 {
     let Ok(value_len) = len_of_value(value) else {
@@ -98,7 +98,7 @@ fn spell_decision(alloc: Global, bundle: &Bundle) -> Result<Vec<u8>, AllocError>
     frame_body(alloc, 3, &body)
 }
 
-/// The bytes that a record adds to the journal of validator `me`: at most 631,317.
+/// The bytes that a record adds to the journal of validator `me`: at most 1,024,725.
 ///
 /// A record that has a spelling is refused for want of memory alone.
 #[tactic(auto, unfolding(crate::specs::Grammar::record_spelling))]

@@ -11,7 +11,7 @@ use Rattle.std.specs.Ordering.{is_eq, nat_cmp, ordering_then}
 use Rattle.std.specs.Option.{option_cmp, is_some}
 use Rattle.std.specs.Cmp.{unsigned_ties}
 use Rattle.std.specs.Cmp.Lexicographic.{slice_cmp}
-use Rattle.std.specs.Int.{w64}
+use Rattle.std.specs.Int.{w128}
 use Rattle.std.proofs.lemmas.Bool.{cases_Bool, cases_eq, and_parts, eq-eqb, ne_eqb, false≢true}
 use Rattle.std.proofs.lemmas.Map.Text.{is_eq-slice_cmp}
 use Rattle.std.proofs.lemmas.Nat.Bits.{bit_at-zero, bit_at_set_same, bit_at_set_other}
@@ -48,19 +48,19 @@ and_false false = refl
 
 -- nobody is in the empty mask
 pub has_nothing : (i : ℕ) → has nothing.voters i ≡ false
-has_nothing i = rw (bit_at-zero i) (and_false (nat_lt i 64))
+has_nothing i = rw (bit_at-zero i) (and_false (nat_lt i 128))
 
 -- a mask with one bit more
-pub with_has : (n v i : ℕ) → v < 64 → i < 64 → has (record { bits = bit_or n (1 * 2 ^ v % 18446744073709551616) }) i ≡ (has (record { bits = n }) i || (v == i))
+pub with_has : (n v i : ℕ) → v < 128 → i < 128 → has (record { bits = bit_or n (1 * 2 ^ v % 340282366920938463463374607431768211456) }) i ≡ (has (record { bits = n }) i || (v == i))
 with_has n v i lv li = elim (cases_eq v i) [
-  | inl e ↦ (let s : bit_at (bit_or n (1 * 2 ^ v % 18446744073709551616)) i ≡ 1 = subst (λ k. bit_at (bit_or n (1 * 2 ^ v % 18446744073709551616)) k ≡ 1) e (bit_at_set_same w64 n v lv) in
-      rw (lt-ltb i 64 li, s, eq-eqb v i e) (sym (or_true _)))
-  | inr ne ↦ (let s : bit_at (bit_or n (1 * 2 ^ v % 18446744073709551616)) i ≡ bit_at n i = bit_at_set_other w64 n v lv i (λ e. ne (sym e)) in
-      rw (lt-ltb i 64 li, s, ne_eqb v i ne) (sym (or_false _)))
+  | inl e ↦ (let s : bit_at (bit_or n (1 * 2 ^ v % 340282366920938463463374607431768211456)) i ≡ 1 = subst (λ k. bit_at (bit_or n (1 * 2 ^ v % 340282366920938463463374607431768211456)) k ≡ 1) e (bit_at_set_same w128 n v lv) in
+      rw (lt-ltb i 128 li, s, eq-eqb v i e) (sym (or_true _)))
+  | inr ne ↦ (let s : bit_at (bit_or n (1 * 2 ^ v % 340282366920938463463374607431768211456)) i ≡ bit_at n i = bit_at_set_other w128 n v lv i (λ e. ne (sym e)) in
+      rw (lt-ltb i 128 li, s, ne_eqb v i ne) (sym (or_false _)))
 ]
 
 -- a mask stays where the validator has no bit
-pub past_has : (a : Voters) (v i : ℕ) → 64 ≤ v → i < 64 → has a i ≡ (has a i || (v == i))
+pub past_has : (a : Voters) (v i : ℕ) → 128 ≤ v → i < 128 → has a i ≡ (has a i || (v == i))
 past_has a v i lv li = rw (ne_eqb v i (λ e. omega (arith, e))) (sym (or_false _))
 
 -- ---- totals
@@ -78,7 +78,7 @@ power_with (p ∷ ps) a b (suc v) apart into others =
     rw (here, rest) (omega arith)
 
 -- a total with one voter more
-pub total_with : (ps : List ℕ) (a b : ℕ → Bool) (v n p : ℕ) → length ps ≤ 64 → n ≡ power ps a → a v ≡ false → ((i : ℕ) → i < 64 → b i ≡ (a i || (v == i))) → p ≡ get_or ps v 0 → n + p ≡ power ps b
+pub total_with : (ps : List ℕ) (a b : ℕ → Bool) (v n p : ℕ) → length ps ≤ 128 → n ≡ power ps a → a v ≡ false → ((i : ℕ) → i < 128 → b i ≡ (a i || (v == i))) → p ≡ get_or ps v 0 → n + p ≡ power ps b
 total_with ps a b v n p few is apart more e =
     let grown = power_with ps a b v apart
     (λ lt. more v (omega (arith, lt, few)) ∙ rw (eq-eqb v v refl) (or_true (a v)))
@@ -158,8 +158,8 @@ room_made m n k h none t = elim (cases_Bool (same_topic k t)) [
 ]
 
 pub raised_has : (m n : BTreeMap Topic Total) (k : Topic) (w old : Total) (v : ℕ) → ((q : Topic) → tree.get topic_cmp n q ≡ cond (is_eq (topic_cmp k q)) (Some w) (tree.get topic_cmp m q))
-    → total_at m k ≡ old → ((i : ℕ) → i < 64 → has w.voters i ≡ (has old.voters i || (v == i)))
-    → (t : Topic) (i : ℕ) → i < 64 → has (total_at n t).voters i ≡ (has (total_at m t).voters i || (same_topic k t && (v == i)))
+    → total_at m k ≡ old → ((i : ℕ) → i < 128 → has w.voters i ≡ (has old.voters i || (v == i)))
+    → (t : Topic) (i : ℕ) → i < 128 → has (total_at n t).voters i ≡ (has (total_at m t).voters i || (same_topic k t && (v == i)))
 raised_has m n k w old v h was more t i lt = elim (cases_Bool (same_topic k t)) [
   | inl y ↦ (let e : total_at n t ≡ w = raised m n k w h t ∙ rw y refl in
       let f : total_at m t ≡ old = ap (λ (u : Topic). total_at m u) (sym (topics_same k t y)) ∙ was in

@@ -106,7 +106,7 @@ heights_more Several vs v h = tt
 
 -- ---- the power of those who speak
 
-pub power_is : (powers : List ℕ) (o : Total) (set : ℕ → Bool) → length powers ≤ 64 → IsTotal powers o → ((i : ℕ) → i < 64 → has o.voters i ≡ set i) → o.power ≡ power powers set
+pub power_is : (powers : List ℕ) (o : Total) (set : ℕ → Bool) → length powers ≤ 128 → IsTotal powers o → ((i : ℕ) → i < 128 → has o.voters i ≡ set i) → o.power ≡ power powers set
 power_is powers o set few is same = is ∙ power_agrees powers (has o.voters) set (λ i lt. same i (omega (arith, lt, few)))
 
 or_left : (a b : Bool) → a ≡ true → (a || b) ≡ true
@@ -148,11 +148,11 @@ sent_proposal : (qs : List Proposal) (vs : List Vote) (q : Proposal) (i : ℕ) �
 sent_proposal qs vs q i = rw (count_more (λ (p : Proposal). p.sender == i) qs q) (omega arith)
 
 pub told_vote : (powers : List ℕ) (qs : List Proposal) (vs : List Vote) (m n : BTreeMap Topic Total) (counts counted : List ℕ) (heights : Heights) (highest : Option ℕ) (v : Vote) → IsTold powers qs vs m counts heights highest
-    → AreTotals powers n → ((t : Topic) (i : ℕ) → i < 64 → has (total_at n t).voters i ≡ (has (total_at m t).voters i || (is_about t v && (v.sender == i))))
-    → ((i : ℕ) → i < 64 → slice_index_or counted i 0 ≡ cond (v.sender == i) (min (slice_index_or counts i 0 + 1) 65535) (slice_index_or counts i 0))
+    → AreTotals powers n → ((t : Topic) (i : ℕ) → i < 128 → has (total_at n t).voters i ≡ (has (total_at m t).voters i || (is_about t v && (v.sender == i))))
+    → ((i : ℕ) → i < 128 → slice_index_or counted i 0 ≡ cond (v.sender == i) (min (slice_index_or counts i 0 + 1) 65535) (slice_index_or counts i 0))
     → IsTold powers qs (vs ++ v ∷ []) n counted (with_height heights v.height) (cond (is_weak powers (total_at n (Round v.round)).power) (Some (higher highest v.round)) highest)
 told_vote powers qs vs m n counts counted heights highest v h totals voters each =
-    let voters_are : (t : Topic) (i : ℕ) → i < 64 → has (total_at n t).voters i ≡ speaks qs (vs ++ v ∷ []) t i = λ t i lt. voters t i lt ∙ ap (λ (b : Bool). b || (is_about t v && (v.sender == i))) (h.voters t i lt) ∙ sym (speaks_vote qs vs v t i) in
+    let voters_are : (t : Topic) (i : ℕ) → i < 128 → has (total_at n t).voters i ≡ speaks qs (vs ++ v ∷ []) t i = λ t i lt. voters t i lt ∙ ap (λ (b : Bool). b || (is_about t v && (v.sender == i))) (h.voters t i lt) ∙ sym (speaks_vote qs vs v t i) in
     record {
       small = h.small;
       totals = totals;
@@ -165,18 +165,18 @@ told_vote powers qs vs m n counts counted heights highest v h totals voters each
     }
 
 -- whether its sender made another proposal is asked of validators alone
-same_second : (qs : List Proposal) (q : Proposal) (t : Topic) (i : ℕ) (known : Bool) → (q.sender < 64 → known ≡ proposers qs q.round q.sender) → i < 64 → (is_proposed t q.round known && (q.sender == i)) ≡ (is_proposed t q.round (proposers qs q.round q.sender) && (q.sender == i))
+same_second : (qs : List Proposal) (q : Proposal) (t : Topic) (i : ℕ) (known : Bool) → (q.sender < 128 → known ≡ proposers qs q.round q.sender) → i < 128 → (is_proposed t q.round known && (q.sender == i)) ≡ (is_proposed t q.round (proposers qs q.round q.sender) && (q.sender == i))
 same_second qs q t i known is lt = elim (cases_eq q.sender i) [
   | inl e ↦ ap (λ (b : Bool). is_proposed t q.round b && (q.sender == i)) (is (omega (arith, e, lt)))
   | inr ne ↦ rw (ne_eqb q.sender i ne, and_false (is_proposed t q.round known), and_false (is_proposed t q.round (proposers qs q.round q.sender))) refl
 ]
 
 pub told_proposal : (powers : List ℕ) (qs : List Proposal) (vs : List Vote) (m n : BTreeMap Topic Total) (counts counted : List ℕ) (heights : Heights) (highest : Option ℕ) (q : Proposal) → IsTold powers qs vs m counts heights highest
-    → AreTotals powers n → ((t : Topic) (i : ℕ) → i < 64 → has (total_at n t).voters i ≡ (has (total_at m t).voters i || (is_proposed t q.round (has (total_at m (Proposals q.round)).voters q.sender) && (q.sender == i))))
-    → ((i : ℕ) → i < 64 → slice_index_or counted i 0 ≡ cond (q.sender == i) (min (slice_index_or counts i 0 + 1) 65535) (slice_index_or counts i 0))
+    → AreTotals powers n → ((t : Topic) (i : ℕ) → i < 128 → has (total_at n t).voters i ≡ (has (total_at m t).voters i || (is_proposed t q.round (has (total_at m (Proposals q.round)).voters q.sender) && (q.sender == i))))
+    → ((i : ℕ) → i < 128 → slice_index_or counted i 0 ≡ cond (q.sender == i) (min (slice_index_or counts i 0 + 1) 65535) (slice_index_or counts i 0))
     → IsTold powers (qs ++ q ∷ []) vs n counted heights (cond (is_weak powers (total_at n (Round q.round)).power) (Some (higher highest q.round)) highest)
 told_proposal powers qs vs m n counts counted heights highest q h totals voters each =
-    let voters_are : (t : Topic) (i : ℕ) → i < 64 → has (total_at n t).voters i ≡ speaks (qs ++ q ∷ []) vs t i = λ t i lt. voters t i lt ∙ ap (λ (b : Bool). b || (is_proposed t q.round (has (total_at m (Proposals q.round)).voters q.sender) && (q.sender == i))) (h.voters t i lt)
+    let voters_are : (t : Topic) (i : ℕ) → i < 128 → has (total_at n t).voters i ≡ speaks (qs ++ q ∷ []) vs t i = λ t i lt. voters t i lt ∙ ap (λ (b : Bool). b || (is_proposed t q.round (has (total_at m (Proposals q.round)).voters q.sender) && (q.sender == i))) (h.voters t i lt)
     ∙ ap (λ (b : Bool). speaks qs vs t i || b) (same_second qs q t i (has (total_at m (Proposals q.round)).voters q.sender) (λ small. h.voters (Proposals q.round) q.sender small) lt) ∙ sym (speaks_proposal qs vs q t i) in
     record {
       small = h.small;
@@ -263,7 +263,7 @@ nobody_speaks (PrecommitsFor r x) i = refl
 nobody_speaks (Proposals r) i = refl
 nobody_speaks (SecondProposals r) i = refl
 
-nobody_told : (powers : List ℕ) (m : BTreeMap Topic Total) (counts : List ℕ) → IsSmall powers → m.entries ≡ [] → ((i : ℕ) → i < 64 → slice_index_or counts i 0 ≡ 0) → IsTold powers [] [] m counts Nothing None
+nobody_told : (powers : List ℕ) (m : BTreeMap Topic Total) (counts : List ℕ) → IsSmall powers → m.entries ≡ [] → ((i : ℕ) → i < 128 → slice_index_or counts i 0 ≡ 0) → IsTold powers [] [] m counts Nothing None
 nobody_told powers m counts small empty zeros = record {
   small = small;
   totals = λ t. rw (total_of_nobody m empty t) (sym (power_agrees powers (has nothing.voters) (λ _. false) (λ i lt. has_nothing i) ∙ no_power powers));
@@ -273,7 +273,7 @@ nobody_told powers m counts small empty zeros = record {
   highest = record { each = λ r t. absurd (let w = weak_member powers (speakers [] [] r) t in false≢true w.1); one = tt };
 }
 
-pub told_nothing : (powers : List ℕ) (qs : List Proposal) (vs : List Vote) (m : BTreeMap Topic Total) (counts : List ℕ) → IsSmall powers → qs ≡ [] → vs ≡ [] → m.entries ≡ [] → ((i : ℕ) → i < 64 → slice_index_or counts i 0 ≡ 0) → IsTold powers qs vs m counts Nothing None
+pub told_nothing : (powers : List ℕ) (qs : List Proposal) (vs : List Vote) (m : BTreeMap Topic Total) (counts : List ℕ) → IsSmall powers → qs ≡ [] → vs ≡ [] → m.entries ≡ [] → ((i : ℕ) → i < 128 → slice_index_or counts i 0 ≡ 0) → IsTold powers qs vs m counts Nothing None
 told_nothing powers qs vs m counts small eq ev empty zeros = rw (eq, ev) (nobody_told powers m counts small empty zeros)
 
 -- ---- sums

@@ -43,8 +43,8 @@ pub record IsHighest (test : ℕ → Bool) (best : Option ℕ) : Type 0 where
 pub record IsTold (powers : List ℕ) (qs : List Proposal) (vs : List Vote) (known : BTreeMap Topic Total) (counted : List ℕ) (those : Heights) (best : Option ℕ) : Type 0 where
   pub small : IsSmall powers
   pub totals : AreTotals powers known
-  pub voters : (t : Topic) (i : ℕ) → i < 64 → has (total_at known t).voters i ≡ speaks qs vs t i
-  pub counts : (i : ℕ) → i < 64 → slice_index_or counted i 0 ≡ min (sent qs vs i) 65535
+  pub voters : (t : Topic) (i : ℕ) → i < 128 → has (total_at known t).voters i ≡ speaks qs vs t i
+  pub counts : (i : ℕ) → i < 128 → slice_index_or counted i 0 ≡ min (sent qs vs i) 65535
   pub heights : AreHeights those vs
   pub highest : IsHighest (λ r. is_weak powers (power_above powers qs vs r)) best
 

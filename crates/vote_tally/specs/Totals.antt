@@ -20,12 +20,12 @@ use Rattle.vote_tally.specs.contracts.totals.TopicOrd.TheImpl as topic_ord
 
 -- validator i is in the set
 abbrev pub has : Voters → ℕ → Bool
-has v i = nat_lt i 64 && (bit_at v.bits i == 1)
+has v i = nat_lt i 128 && (bit_at v.bits i == 1)
 
 -- what every list of powers keeps: masks have room for its validators, and no sum overflows
 pub record IsSmall (powers : List ℕ) : Type 0 where
-  pub few : length powers ≤ 64
-  pub fits : total powers < 2 ^ 38
+  pub few : length powers ≤ 128
+  pub fits : total powers < 2 ^ 39
 
 -- the total's power is its voters'
 abbrev pub IsTotal : List ℕ → Total → Type 0

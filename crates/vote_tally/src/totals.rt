@@ -73,7 +73,7 @@ impl Total {
         requires small { IsSmall powers.now }
         requires total { IsTotal powers.now self }
         ensures total { IsTotal powers.now result }
-        ensures voters { (i : ℕ) → i < 64 → has result.voters i ≡ (has self.voters i || (validator == i)) }
+        ensures voters { (i : ℕ) → i < 128 → has result.voters i ≡ (has self.voters i || (validator == i)) }
     {
         if self.voters.has(validator) {
             return self;
@@ -121,7 +121,7 @@ fn raise(totals: &mut Totals, powers: &Powers, topic: Topic, validator: u16)
     requires totals { AreTotals powers.now totals.old }
     requires room { HasRoom totals.old topic }
     ensures totals { AreTotals powers.now totals.new }
-    ensures voters { (t : AnyTopic) (i : ℕ) → i < 64 → has (total_at totals.new t).voters i ≡ (has (total_at totals.old t).voters i || (same_topic topic t && (validator == i))) }
+    ensures voters { (t : AnyTopic) (i : ℕ) → i < 128 → has (total_at totals.new t).voters i ≡ (has (total_at totals.old t).voters i || (same_topic topic t && (validator == i))) }
     ensures kept { (t : AnyTopic) → HasRoom totals.old t → HasRoom totals.new t }
 {
     if let Some(total) = totals.get_mut(&topic) {
@@ -150,7 +150,7 @@ pub fn raise_vote(totals: &mut Totals, powers: &Powers, vote: &Vote)
     requires totals { AreTotals powers.now totals.old }
     requires room { HasRoomForVote totals.old vote.now }
     ensures totals { AreTotals powers.now totals.new }
-    ensures voters { (t : AnyTopic) (i : ℕ) → i < 64 → has (total_at totals.new t).voters i ≡ (has (total_at totals.old t).voters i || (is_about t vote.now && (vote.now.sender == i))) }
+    ensures voters { (t : AnyTopic) (i : ℕ) → i < 128 → has (total_at totals.new t).voters i ≡ (has (total_at totals.old t).voters i || (is_about t vote.now && (vote.now.sender == i))) }
 {
     raise(totals, powers, Topic::Round(vote.round), vote.sender);
     raise(
@@ -181,7 +181,7 @@ pub fn raise_proposal(totals: &mut Totals, powers: &Powers, round: u32, sender: 
     requires totals { AreTotals powers.now totals.old }
     requires room { HasRoomForProposal totals.old round }
     ensures totals { AreTotals powers.now totals.new }
-    ensures voters { (t : AnyTopic) (i : ℕ) → i < 64 → has (total_at totals.new t).voters i ≡ (has (total_at totals.old t).voters i || (is_proposed t round (has (total_at totals.old (Proposals round)).voters sender) && (sender == i))) }
+    ensures voters { (t : AnyTopic) (i : ℕ) → i < 128 → has (total_at totals.new t).voters i ≡ (has (total_at totals.old t).voters i || (is_proposed t round (has (total_at totals.old (Proposals round)).voters sender) && (sender == i))) }
 {
     let is_second = total_at(totals, Topic::Proposals(round)).voters.has(sender);
     raise(totals, powers, Topic::Round(round), sender);

@@ -9,7 +9,7 @@ use powers::MOST_VALIDATORS;
 #[derive(Clone, Copy, Debug, PartialEq, Eq)]
 pub struct Voters {
     /// One bit for each validator, from the lowest: as wide as there may be validators.
-    bits: u64,
+    bits: u128,
 }
 
 impl Voters {
@@ -25,7 +25,7 @@ impl Voters {
 
     /// These and one more.
     pub fn with(self, validator: u16) -> Voters
-        ensures { (i : ℕ) → i < 64 → has result i ≡ (has self i || (validator == i)) }
+        ensures { (i : ℕ) → i < 128 → has result i ≡ (has self i || (validator == i)) }
     {
         if usize::from(validator) < MOST_VALIDATORS {
             Voters {

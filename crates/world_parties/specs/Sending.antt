@@ -25,7 +25,7 @@ bundled c line = record { height = line.height; sender = line.sender; round = li
 
 -- the transaction of an item, without tags
 abbrev pub bare_tx : Tagged → Tx
-bare_tx line = record { client = line.item.client; number = line.item.number; op = line.item.op; tags = [] }
+bare_tx line = record { client = line.item.client; session = line.item.session; number = line.item.number; op = line.item.op; tags = [] }
 
 -- a client's message: with the tags that are to be right, and zeros
 abbrev pub submitted : ℕ → Tagged → Message

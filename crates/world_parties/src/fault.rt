@@ -22,6 +22,9 @@ pub enum FaultNumber {
     /// A growth was refused memory.
     #[error("out of memory")]
     OutOfMemory = 5,
+    /// The client has a session in which it has not sent its close.
+    #[error("the client has not closed")]
+    NotClosed = 6,
 }
 
 impl From<AllocError> for FaultNumber {

@@ -59,7 +59,7 @@ impl Parties {
     /// How many validators there are.
     pub fn count(&self) -> u16
         ensures count { result ≡ length self.now.powers }
-        ensures few { result ≤ 64 }
+        ensures few { result ≤ 128 }
         ensures some { 1 ≤ result }
     {
         self.powers.count()
@@ -129,7 +129,7 @@ impl Parties {
 
 /// Which numbers stand in the list; none where one of them is no validator's.
 fn flags_of(validators: u16, liars: &[u16]) -> Option<[bool; MOST_VALIDATORS]>
-    requires { validators ≤ 64 }
+    requires { validators ≤ 128 }
     ensures { MatchOption result
         (list_all (λ number. nat_lt number validators) liars.now ≡ false)
         (λ lies. (q : ℕ) → slice_index_or lies q false ≡ list_any (λ number. number == q) liars.now) }

@@ -233,6 +233,7 @@ fn bare_tx(alloc: Global, line: &Tagged) -> Result<Tx, AllocError>
 {
     Ok(Tx {
         client: line.item.client,
+        session: line.item.session,
         number: line.item.number,
         op: line.item.op.copy(alloc)?,
         tags: Seq::new(alloc),

@@ -7,7 +7,7 @@ use Rattle.protocol.specs.History.{Settle}
 use Rattle.protocol.specs.Effects.{bundles_in}
 use Rattle.node_core.specs.Core.{Core}
 use Rattle.world_schedule.specs.Health.{Health, HasHealth}
-use Rattle.world_schedule.specs.Calls.{Call, Sent, Handed, Asked, Resent, Reopened, moved, bodies_by}
+use Rattle.world_schedule.specs.Calls.{Call, Sent, Began, Handed, Asked, Resent, Reopened, moved, bodies_by}
 use Rattle.world_schedule.specs.Cores.{StandsIn, frame_in}
 use Rattle.world_schedule.specs.Reports.{Made, Standing, said, validator_of, is_by, decided_in, decision_of, told_of_validator, told_of_call, noted, released_from, newly}
 use Rattle.world_schedule.specs.Making.{Request, Scene, IsMetBy, owing_after, health_after, is_refused_memory, scene_next}
@@ -26,6 +26,7 @@ use Rattle.world_schedule.proofs.Meeting.{own_node}
 -- a validator's call says what it releases
 said_is : (c : Setting) (s : Standing) (p : ℕ) (call : Call) → validator_of call ≡ Some p → said c s call ≡ bodies_by c (λ _. s.nodes p) call
 said_is c s p (Sent client op) e = absurd (let f : None ≡ Some p = e in cc)
+said_is c s p (Began client) e = absurd (let f : None ≡ Some p = e in cc)
 said_is c s p (Handed q input times) e = let same : q ≡ p = cc in subst (λ k. said c s (Handed q input times) ≡ bodies_by c (λ _. s.nodes k) (Handed q input times)) same refl
 said_is c s p (Asked q) e = let same : q ≡ p = cc in subst (λ k. said c s (Asked q) ≡ bodies_by c (λ _. s.nodes k) (Asked q)) same refl
 said_is c s p (Resent q) e = let same : q ≡ p = cc in subst (λ k. said c s (Resent q) ≡ bodies_by c (λ _. s.nodes k) (Resent q)) same refl

@@ -29,7 +29,7 @@ use Rattle.protocol.proofs.Replays.{history_law}
 use Rattle.node_core.specs.Core.{Core, Stands, setting, setting_of, frame_by, or_empty}
 use Rattle.node_core.specs.Calls.{IsCalled}
 use Rattle.world_schedule.specs.Seeing.{AreAlike, ActsAlike}
-use Rattle.world_schedule.specs.Calls.{Call, Sent, Handed, Asked, Resent, Reopened, moved, lived}
+use Rattle.world_schedule.specs.Calls.{Call, Sent, Began, Handed, Asked, Resent, Reopened, moved, lived}
 use Rattle.world_schedule.specs.Cores.{AreOwn, StandsIn, frame_in, OwnLaw, IsCalledIn, CoreLaw, IsBeside, KeptLaw, CalledLaw}
 use Rattle.world_schedule.proofs.Seeing.{seeing_law}
 use Rattle.world_schedule.proofs.Rings.{sends_with}
@@ -145,6 +145,7 @@ found_own c p n cut a = own_append p (cut_record c p n cut) n.journal (cut_own c
 
 moved_own : (c : Setting) (p : ℕ) (n : Node) (call : Call) → AreOwn p n.journal → AreOwn p (moved c p n call).journal
 moved_own c p n (Sent client op) a = a
+moved_own c p n (Began client) a = a
 moved_own c p n (Handed q input times) a = cond_both (p == q) (after c p n input times) n (λ (m : Node). AreOwn p m.journal) (λ _. firsts_own c p times (taken c p n input) (taken_own c p n input a)) (λ _. a)
 moved_own c p n (Asked q) a = a
 moved_own c p n (Resent q) a = a

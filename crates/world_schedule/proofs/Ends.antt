@@ -1,6 +1,6 @@
 -- The ends of a report tell one list, and scenes stand as calls leave them.
 use Rattle.std.proofs.Common.{◌≡◌, ℕ, true, List, [], ◌∷◌, ◌++◌, refl, sym, ap, subst, subst₂, append-nil}
-use Rattle.protocol.specs.Values.{of, in_turn}
+use Rattle.protocol.specs.Values.{of, fresh, in_turn}
 use Rattle.protocol.specs.Tags.{Setting}
 use Rattle.protocol.specs.Premises.{Honesty, IsCorrect, Begins}
 use Rattle.protocol.specs.Laws.{Comparable}
@@ -22,7 +22,7 @@ by_number c h calls fair p q okp okq =
     let both = delivered_law c h calls [] fair_then p q okp okq in
     let own = delivered_law c h calls [] fair_then p p okp okp in record {
       begins = subst (λ l. Comparable (delivered_after c p calls) (delivered_after c q l)) all both.begins;
-      in_order = λ client. subst (λ l. in_turn 1 (of client (delivered_after c p l)) ≡ true) all (own.in_order client);
+      in_order = λ client. subst (λ l. in_turn fresh (of client (delivered_after c p l)) ≡ true) all (own.in_order client);
       begins_sent = λ client honest. subst (λ l. Begins (of client (delivered_after c p l)) (sent client l)) all (own.begins_sent client honest);
     }
 

@@ -1,39 +1,34 @@
 -- What an event leaves of a world.
-use Rattle.std.proofs.Common.{◌≡◌, ℕ, suc, ◌<◌, inl, inr, Bool, true, false, Option, Some, None, Result, Ok, Err, OnOk, List, [], ◌∷◌, ◌++◌, map, set, length, length-append, eq-eqb, ne_eqb, refl, sym, ap, ap₂, ◌∙◌, subst, append-nil, arith}
+use Rattle.std.proofs.Common.{◌≡◌, ◌≢◌, ℕ, ◌<◌, inl, inr, Bool, true, false, cond, Option, Some, None, Result, Ok, Err, OnOk, List, [], ◌∷◌, ◌++◌, map, set, length, eq-eqb, ne_eqb, refl, sym, ap, ap₂, ◌∙◌, subst, append-nil, arith}
 use Rattle.std.specs.Prelude.{slice_get, nat_lt, option_to_list, ◌==◌, ◌&&◌, ◌||◌, not}
-use Rattle.std.specs.List.{list_any}
 use Rattle.std.proofs.Math.ListN.{length-set}
-use Rattle.std.proofs.lemmas.Bool.{cases_eq}
-use Rattle.std.proofs.lemmas.List.Elements.{filter-append}
-use Rattle.std.proofs.lemmas.List.Folds.{list_any-append}
-use Rattle.protocol.specs.Values.{Op, Item, of}
+use Rattle.std.proofs.lemmas.Bool.{cases_eq, cases_Bool}
+use Rattle.protocol.specs.Values.{Op, Item, fresh, left_by, left_after, session_wanted, number_wanted}
+use Rattle.protocol.specs.declared.standing.Standing.{Standing as Reached}
 use Rattle.protocol.specs.Tags.{Setting}
 use Rattle.protocol.specs.Messages.{Body}
-use Rattle.protocol.specs.Queues.{is_close, is_closed}
 use Rattle.protocol.specs.World.{next_item}
 use Rattle.protocol.specs.History.{Settle, Given}
 use Rattle.world_parties.specs.Cast.{Cast, setting_of, is_correct, is_client, correct}
 use Rattle.world_parties.specs.declared.fault.FaultNumber.{FaultNumber}
-use Rattle.world_parties.specs.declared.fault.FaultNumber.TheVariants.{NoSuchMessage, NoSuchParty, ClientClosed}
+use Rattle.world_parties.specs.declared.fault.FaultNumber.TheVariants.{NoSuchMessage, NoSuchParty, ClientClosed, NotClosed}
 use Rattle.world_schedule.specs.Health.{Health, Serving, Broken, Closed}
 use Rattle.world_schedule.specs.Cores.{frame_in}
-use Rattle.world_schedule.specs.Calls.{Call, Sent, Handed, Asked, Resent, Reopened, adding}
-use Rattle.world_schedule.specs.Reports.{Made, validator_of, said, said_as, newly, released_from, noted, told_of_call}
+use Rattle.world_schedule.specs.Calls.{Call, Sent, Began, Handed, Asked, Resent, Reopened}
+use Rattle.world_schedule.specs.Reports.{Made, Standing, begun_after, stands_in, is_shut, next, validator_of, said_as, noted, told_of_call}
 use Rattle.world_schedule.specs.Making.{Request, Hands, Scene, IsInsisted, IsTurn, AreTurns, IsReopened, IsSettled, IsRestart, scene_next, scene_after}
 use Rattle.world_schedule.specs.Standings.{Holds, Says}
 use Rattle.world_schedule.specs.Validators.{HaveTurned}
 use Rattle.world_schedule.specs.Restarting.{HaveRestarted}
 use Rattle.world_schedule.specs.Events.{Course, Happens, asked_of, comes, passes, unless, brought_by, cause_of}
-use Rattle.world_schedule.specs.Worlds.{LeadOn, HaveMet, HaveSent, sending_of, has_come, IsAt, IsMet, HasActed}
+use Rattle.world_schedule.specs.Worlds.{LeadOn, HaveMet, HaveSent, has_come, IsAt, IsMet, HasActed}
 use Rattle.world_schedule.specs.declared.event.Event.{Event}
 use Rattle.world_schedule.specs.declared.event.Event.TheVariants as events
 use Rattle.world_schedule.specs.declared.event.Failing.{Failing}
-use Rattle.world_schedule.specs.declared.report.Told.{Told}
 use Rattle.world_schedule.specs.declared.clients.Clients.{Clients}
 use Rattle.world_schedule.specs.declared.seat.Seat.{Seat}
 use Rattle.world_schedule.specs.declared.validators.Validators.{Validators}
 use Rattle.world_schedule.specs.declared.chronicle.Chronicle.{Chronicle}
-use Rattle.world_schedule.specs.declared.clients.Sending.{Sending}
 use Rattle.world_schedule.specs.declared.brought.Brought.{Brought}
 use Rattle.world_schedule.specs.declared.stage.Stage.{Stage}
 use Rattle.world_schedule.proofs.Turning.{scene_append}
@@ -42,17 +37,18 @@ use Rattle.world_schedule.proofs.Others.{seat_later, get_set_same, get_set_other
 
 -- ---- validators' calls send nothing
 
-unsent_once : (c : Setting) (s : Scene) (m : Made) (p client : ℕ) → validator_of m.call ≡ Some p → (scene_next c s m).standing.sent client ≡ s.standing.sent client
+unsent_once : (c : Setting) (s : Scene) (m : Made) (p client : ℕ) → validator_of m.call ≡ Some p → stands_in (scene_next c s m).standing client ≡ stands_in s.standing client
 unsent_once c s m p client by = of_call m.call by
   where
-    of_call : (call : Call) → validator_of call ≡ Some p → adding client (s.standing.sent client) call ≡ s.standing.sent client
+    of_call : (call : Call) → validator_of call ≡ Some p → stands_in (next c s.standing call) client ≡ stands_in s.standing client
     of_call (Sent sender op) e = absurd (let f : None ≡ Some p = e in cc)
+    of_call (Began beginner) e = absurd (let f : None ≡ Some p = e in cc)
     of_call (Handed q input times) e = refl
     of_call (Asked q) e = refl
     of_call (Resent q) e = refl
     of_call (Reopened q cut) e = refl
 
-unsent_insisted : (c : Setting) (s : Scene) (k p : ℕ) (request : Request) (ms : List Made) (client : ℕ) → IsInsisted c s k p request ms → (scene_after c s ms).standing.sent client ≡ s.standing.sent client
+unsent_insisted : (c : Setting) (s : Scene) (k p : ℕ) (request : Request) (ms : List Made) (client : ℕ) → IsInsisted c s k p request ms → stands_in (scene_after c s ms).standing client ≡ stands_in s.standing client
 unsent_insisted c s k p request [] client i = absurd i
 unsent_insisted c s k p request (m ∷ []) client i = unsent_once c s m p client i.0.by
 unsent_insisted c s k p request (m ∷ settling ∷ []) client i = absurd i
@@ -60,32 +56,32 @@ unsent_insisted c s k p request (m ∷ settling ∷ again ∷ []) client i =
     unsent_once c (scene_next c (scene_next c s m) settling) again p client i.3.by ∙ unsent_once c (scene_next c s m) settling p client i.2.by ∙ unsent_once c s m p client i.0.by
 unsent_insisted c s k p request (m ∷ settling ∷ again ∷ more ∷ rest) client i = absurd i
 
-pub unsent_turn : (c : Setting) (s : Scene) (k p : ℕ) (request : Request) (ms : List Made) (client : ℕ) → IsTurn c s k p request ms → (scene_after c s ms).standing.sent client ≡ s.standing.sent client
+pub unsent_turn : (c : Setting) (s : Scene) (k p : ℕ) (request : Request) (ms : List Made) (client : ℕ) → IsTurn c s k p request ms → stands_in (scene_after c s ms).standing client ≡ stands_in s.standing client
 unsent_turn c s k p request ms client (inl t) = unsent_insisted c s k p request ms client t.1
 unsent_turn c s k p request ms client (inr t) =
-    subst (λ l. (scene_after c s l).standing.sent client ≡ s.standing.sent client) (sym t.1.2) (unsent_insisted c (scene_next c s t.1.0) k p request t.1.1 client t.1.4 ∙ unsent_once c s t.1.0 p client t.1.3.by)
+    subst (λ l. stands_in (scene_after c s l).standing client ≡ stands_in s.standing client) (sym t.1.2) (unsent_insisted c (scene_next c s t.1.0) k p request t.1.1 client t.1.4 ∙ unsent_once c s t.1.0 p client t.1.3.by)
 
-pub unsent_turns : (c : Setting) (s : Scene) (k : ℕ) (rs : List (ℕ × Request)) (ms : List Made) (client : ℕ) → AreTurns c s k rs ms → (scene_after c s ms).standing.sent client ≡ s.standing.sent client
-unsent_turns c s k [] ms client t = subst (λ l. (scene_after c s l).standing.sent client ≡ s.standing.sent client) (sym t) refl
+pub unsent_turns : (c : Setting) (s : Scene) (k : ℕ) (rs : List (ℕ × Request)) (ms : List Made) (client : ℕ) → AreTurns c s k rs ms → stands_in (scene_after c s ms).standing client ≡ stands_in s.standing client
+unsent_turns c s k [] ms client t = subst (λ l. stands_in (scene_after c s l).standing client ≡ stands_in s.standing client) (sym t) refl
 unsent_turns c s k (r ∷ rs) ms client t =
-    subst (λ l. (scene_after c s l).standing.sent client ≡ s.standing.sent client) (sym t.2)
-    (ap (λ (x : Scene). x.standing.sent client) (scene_append c s t.0 t.1) ∙ unsent_turns c (scene_after c s t.0) k rs t.1 client t.4 ∙ unsent_turn c s k r.0 r.1 t.0 client t.3)
+    subst (λ l. stands_in (scene_after c s l).standing client ≡ stands_in s.standing client) (sym t.2)
+    (ap (λ (x : Scene). stands_in x.standing client) (scene_append c s t.0 t.1) ∙ unsent_turns c (scene_after c s t.0) k rs t.1 client t.4 ∙ unsent_turn c s k r.0 r.1 t.0 client t.3)
 
-pub sent_same : (clients : ℕ) (sent later : ℕ → List Item) (each : List Sending) → ((client : ℕ) → later client ≡ sent client) → HaveSent clients sent each → HaveSent clients later each
-sent_same clients sent later each e h = (h.0, λ client l. h.1 client l ∙ ap (λ items. Some (sending_of client items)) (sym (e client)))
+pub sent_same : (clients : ℕ) (reached later : ℕ → Reached) (each : List Reached) → ((client : ℕ) → later client ≡ reached client) → HaveSent clients reached each → HaveSent clients later each
+sent_same clients reached later each e h = (h.0, λ client l. h.1 client l ∙ ap Some (sym (e client)))
 
 -- ---- validators' turns
 
 -- after these calls of validators
 after_calls : (cast : Cast) (w : Course) (made : List Made) (old : Stage) (vs : Validators) (chronicle : Chronicle) → IsAt cast w old → LeadOn (setting_of cast) w.scene made old.validators.each.items vs.each.items old.chronicle chronicle
-    → ((client : ℕ) → (scene_after (setting_of cast) w.scene made).standing.sent client ≡ w.scene.standing.sent client) → IsAt cast (record { scene = scene_after (setting_of cast) w.scene made; brought = w.brought }) (record old { validators = vs; chronicle = chronicle })
+    → ((client : ℕ) → stands_in (scene_after (setting_of cast) w.scene made).standing client ≡ stands_in w.scene.standing client) → IsAt cast (record { scene = scene_after (setting_of cast) w.scene made; brought = w.brought }) (record old { validators = vs; chronicle = chronicle })
 after_calls cast w made old vs chronicle at k unsent = record {
   parties = at.parties;
   correct_are = at.correct_are;
   up = k.up;
   places_are = k.places_are ∙ at.places_are;
   holds = k.holds;
-  sent = sent_same cast.clients w.scene.standing.sent (scene_after (setting_of cast) w.scene made).standing.sent old.clients.each.items unsent at.sent;
+  sent = sent_same cast.clients (stands_in w.scene.standing) (stands_in (scene_after (setting_of cast) w.scene made).standing) old.clients.each.items unsent at.sent;
   brought = at.brought;
 }
 
@@ -100,21 +96,21 @@ met_at cast w p request old vs chronicle at k = record {
 
 -- ---- a restart
 
-unsent_reopened : (c : Setting) (s : Scene) (k p : ℕ) (ms : List Made) (client : ℕ) → IsReopened c s k p ms → (scene_after c s ms).standing.sent client ≡ s.standing.sent client
+unsent_reopened : (c : Setting) (s : Scene) (k p : ℕ) (ms : List Made) (client : ℕ) → IsReopened c s k p ms → stands_in (scene_after c s ms).standing client ≡ stands_in s.standing client
 unsent_reopened c s k p [] client i = absurd i
 unsent_reopened c s k p (m ∷ []) client i = unsent_once c s m p client i.0.by
 unsent_reopened c s k p (m ∷ again ∷ []) client i = unsent_once c (scene_next c s m) again p client i.2.by ∙ unsent_once c s m p client i.0.by
 unsent_reopened c s k p (m ∷ again ∷ more ∷ rest) client i = absurd i
 
-unsent_settled : (c : Setting) (s : Scene) (k p : ℕ) (h : Health) (ms : List Made) (client : ℕ) → IsSettled c s k p h ms → (scene_after c s ms).standing.sent client ≡ s.standing.sent client
+unsent_settled : (c : Setting) (s : Scene) (k p : ℕ) (h : Health) (ms : List Made) (client : ℕ) → IsSettled c s k p h ms → stands_in (scene_after c s ms).standing client ≡ stands_in s.standing client
 unsent_settled c s k p Serving ms client t = unsent_turn c s k p (Hands Settle) ms client t
 unsent_settled c s k p (Broken cut) ms client t = unsent_turn c s k p (Hands Settle) ms client t
-unsent_settled c s k p (Closed cut) ms client t = subst (λ l. (scene_after c s l).standing.sent client ≡ s.standing.sent client) (sym t) refl
+unsent_settled c s k p (Closed cut) ms client t = subst (λ l. stands_in (scene_after c s l).standing client ≡ stands_in s.standing client) (sym t) refl
 
-unsent_restart : (c : Setting) (s : Scene) (k p : ℕ) (ms : List Made) (client : ℕ) → IsRestart c s k p ms → (scene_after c s ms).standing.sent client ≡ s.standing.sent client
+unsent_restart : (c : Setting) (s : Scene) (k p : ℕ) (ms : List Made) (client : ℕ) → IsRestart c s k p ms → stands_in (scene_after c s ms).standing client ≡ stands_in s.standing client
 unsent_restart c s k p ms client t =
-    subst (λ l. (scene_after c s l).standing.sent client ≡ s.standing.sent client) (sym t.2)
-    (ap (λ (x : Scene). x.standing.sent client) (scene_append c s t.0 t.1) ∙ unsent_settled c (scene_after c s t.0) k p ((scene_after c s t.0).health p) t.1 client t.4 ∙ unsent_reopened c s k p t.0 client t.3)
+    subst (λ l. stands_in (scene_after c s l).standing client ≡ stands_in s.standing client) (sym t.2)
+    (ap (λ (x : Scene). stands_in x.standing client) (scene_append c s t.0 t.1) ∙ unsent_settled c (scene_after c s t.0) k p ((scene_after c s t.0).health p) t.1 client t.4 ∙ unsent_reopened c s k p t.0 client t.3)
 
 restarted_leads : (c : Setting) (s : Scene) (p : ℕ) (old new : List Seat) (before after : Chronicle) → (k : HaveRestarted c s p old new before after) → LeadOn c s k.made old new before after
 restarted_leads c s p old new before after k = record { up = k.up; places_are = k.places_are; holds = k.holds; told = k.told; event = k.event }
@@ -234,57 +230,80 @@ passed cast w old vs chronicle brought count at k size noted =
 
 -- ---- a client sends
 
-closed_more : (client : ℕ) (op : Op) (items : List Item) → is_closed client items ≡ false → is_closed client (items ++ next_item client op items ∷ []) ≡ is_close op
-closed_more client op items unclosed =
-    let one : of client (next_item client op items ∷ []) ≡ next_item client op items ∷ [] = rw (eq-eqb client client refl) refl in
-    let last : (is_close op || false) ≡ is_close op = or_false (is_close op) in
-    ap (list_any (λ (t : Item). is_close t.op)) (filter-append (λ (t : Item). t.client == client) items (next_item client op items ∷ [])) ∙ list_any-append (λ (t : Item). is_close t.op) (of client items) (of client (next_item client op items ∷ []))
-    ∙ ap₂ (λ b l. b || list_any (λ (t : Item). is_close t.op) l) unclosed one ∙ last
+left_push : (s : Reached) (l : List Item) (t : Item) → left_after s (l ++ t ∷ []) ≡ left_by t
+left_push s [] t = refl
+left_push s (x ∷ l) t = left_push (left_by x) l t
+
+-- beginning a session changes nothing of what is sent next
+pub wanted_same : (s : Standing) (client : ℕ) → (session_wanted (stands_in s client) ≡ session_wanted (left_after fresh (s.sent client))) × (number_wanted (stands_in s client) ≡ number_wanted (left_after fresh (s.sent client)))
+wanted_same s client = by_case (left_after fresh (s.sent client)) (s.begun client)
   where
-    or_false : (b : Bool) → (b || false) ≡ b
-    or_false true = refl
-    or_false false = refl
+    by_case : (r : Reached) (b : Bool) → (session_wanted (cond (b && r.closed) (begun_after r) r) ≡ session_wanted r) × (number_wanted (cond (b && r.closed) (begun_after r) r) ≡ number_wanted r)
+    by_case r false = (refl, refl)
+    by_case r true = elim (cases_Bool r.closed) [ inl e ↦ rw e (refl, refl) | inr e ↦ rw e (refl, refl) ]
 
-added : (client : ℕ) (op : Op) (items : List Item) → is_closed client items ≡ false → adding client items (Sent client op) ≡ items ++ next_item client op items ∷ []
-added client op items unclosed = rw (eq-eqb client client refl, unclosed) refl
+-- what a client that began a session stands at
+begun_own : (r : Reached) (b : Bool) → (cond (b && r.closed) (begun_after r) r).closed ≡ true → cond (true && r.closed) (begun_after r) r ≡ begun_after (cond (b && r.closed) (begun_after r) r)
+begun_own r false e = rw e refl
+begun_own r true e = elim (cases_Bool r.closed) [
+  | inl t ↦ absurd (let f : false ≡ true = subst (λ x. (cond x (begun_after r) r).closed ≡ true) t e in cc)
+  | inr n ↦ absurd (let f : r.closed ≡ true = subst (λ x. (cond x (begun_after r) r).closed ≡ true) n e in let g : true ≡ false = sym f ∙ n in cc)
+]
 
-sent_more : (clients client : ℕ) (op : Op) (sent : ℕ → List Item) (each : List Sending) (last : Sending) → HaveSent clients sent each → client < clients → is_closed client (sent client) ≡ false → last ≡ record { count = suc (length (sent client)); closed = is_close op }
-    → HaveSent clients (λ i. adding i (sent i) (Sent client op)) (set each client last)
-sent_more clients client op sent each last h known unclosed is = (
+-- one client stands elsewhere after a call, and the others where they did
+moved_one : (c : Setting) (clients client : ℕ) (s : Standing) (call : Call) (each : List Reached) (last : Reached) → HaveSent clients (stands_in s) each → client < clients → stands_in (next c s call) client ≡ last
+    → ((i : ℕ) → i ≢ client → stands_in (next c s call) i ≡ stands_in s i) → HaveSent clients (stands_in (next c s call)) (set each client last)
+moved_one c clients client s call each last h known own others = (
   length-set each client last ∙ h.0,
   λ i l. elim (cases_eq i client) [
-    | inl e ↦ (
-        let size : length (sent client ++ next_item client op (sent client) ∷ []) ≡ suc (length (sent client)) = length-append (sent client) (next_item client op (sent client) ∷ []) ∙ omega arith in
-        let counted : sending_of client (adding client (sent client) (Sent client op)) ≡ last = ap (sending_of client) (added client op (sent client) unclosed) ∙ ap₂ (λ n b. let x : Sending = record { count = n; closed = b } in x) size (closed_more client op (sent client) unclosed) ∙ sym is in
-        subst (λ x. slice_get (set each client last) x ≡ Some (sending_of x (adding x (sent x) (Sent client op)))) (sym e) (get_set_same each client last (omega (arith, known, h.0)) ∙ ap Some (sym counted)))
-    | inr n ↦ (
-        let none : adding i (sent i) (Sent client op) ≡ sent i = rw (ne_eqb i client n) refl in
-        get_set_other each client i last n ∙ h.1 i l ∙ ap (λ items. Some (sending_of i items)) (sym none))
+    | inl e ↦ subst (λ x. slice_get (set each client last) x ≡ Some (stands_in (next c s call) x)) (sym e) (get_set_same each client last (omega (arith, known, h.0)) ∙ ap Some (sym own))
+    | inr n ↦ get_set_other each client i last n ∙ h.1 i l ∙ ap Some (sym (others i n))
   ],
 )
 
-pub sends : (cast : Cast) (w : Course) (client : ℕ) (op : Op) (old : Stage) (chronicle : Chronicle) (clients : Clients) (last : Sending) → IsAt cast w old → is_client cast client ≡ true → client < cast.clients → is_closed client (w.scene.standing.sent client) ≡ false
-    → Says (setting_of cast) w.scene.standing.numbered None (said_as (next_item client op (w.scene.standing.sent client)) ∷ []) old.chronicle chronicle → last ≡ record { count = suc (length (w.scene.standing.sent client)); closed = is_close op } → clients.each.items ≡ set old.clients.each.items client last
+pub sends : (cast : Cast) (w : Course) (client : ℕ) (op : Op) (old : Stage) (chronicle : Chronicle) (clients : Clients) → IsAt cast w old → is_client cast client ≡ true → client < cast.clients → is_shut w.scene.standing client ≡ false
+    → Says (setting_of cast) w.scene.standing.numbered None (said_as (next_item client op (w.scene.standing.sent client)) ∷ []) old.chronicle chronicle → clients.each.items ≡ set old.clients.each.items client (left_by (next_item client op (w.scene.standing.sent client)))
     → HasActed cast w (events.Send client op) old (record old { chronicle = chronicle; clients = clients })
-sends cast w client op old chronicle clients last at known within unclosed says is counted =
+sends cast w client op old chronicle clients at known within unshut says counted =
     let m : Made = record { event = old.chronicle.event; call = Sent client op; answer = (0, 0); health = Serving } in
     let s : Scene = w.scene in
-    let said_here : said (setting_of cast) s.standing (Sent client op) ≡ said_as (next_item client op (s.standing.sent client)) ∷ [] = rw unclosed refl in record {
+    let c : Setting = setting_of cast in
+    let own : stands_in (next c s.standing (Sent client op)) client ≡ left_by (next_item client op (s.standing.sent client)) = rw (eq-eqb client client refl) (left_push fresh (s.standing.sent client) (next_item client op (s.standing.sent client))) in record {
       made = m ∷ [];
       happens = refl;
-      possible = passed_by _ NoSuchParty _ known ∙ passed_by _ ClientClosed None (ap not unclosed);
+      possible = passed_by _ NoSuchParty _ known ∙ passed_by _ ClientClosed None (ap not unshut);
       at = record {
         parties = at.parties;
         correct_are = at.correct_are;
-        up = λ i seat here. seat_later (setting_of cast) s m i seat refl (at.up i seat here);
+        up = λ i seat here. seat_later c s m i seat refl (at.up i seat here);
         places_are = at.places_are;
-        holds = subst (λ l. Holds (setting_of cast) (s.standing.numbered ++ newly s.standing.numbered l) chronicle.messages) (sym said_here) says.holds;
-        sent = subst (HaveSent cast.clients (λ i. adding i (s.standing.sent i) (Sent client op))) (sym counted) (sent_more cast.clients client op s.standing.sent old.clients.each.items last at.sent within unclosed is);
+        holds = says.holds;
+        sent = subst (HaveSent cast.clients (stands_in (next c s.standing (Sent client op)))) (sym counted) (moved_one c cast.clients client s.standing (Sent client op) old.clients.each.items (left_by (next_item client op (s.standing.sent client))) at.sent within own (λ i n. rw (ne_eqb i client n) refl));
         brought = at.brought;
       };
-      told_is = says.tells.told ∙ ap (λ l. old.chronicle.told.items ++ map (λ what. record { event = old.chronicle.event; validator = None; what = what }) (released_from (length s.standing.numbered) (newly s.standing.numbered l))) (sym said_here)
-          ∙ ap (λ l. old.chronicle.told.items ++ l) (sym (append-nil (noted_by m)));
+      told_is = says.tells.told ∙ ap (λ l. old.chronicle.told.items ++ l) (sym (append-nil (noted m (told_of_call c s.standing m))));
     }
-  where
-    noted_by : Made → List Told
-    noted_by m = noted m (told_of_call (setting_of cast) w.scene.standing m)
+
+-- ---- a client begins a session
+
+pub begins : (cast : Cast) (w : Course) (client : ℕ) (old : Stage) (clients : Clients) → IsAt cast w old → is_client cast client ≡ true → client < cast.clients → is_shut w.scene.standing client ≡ true
+    → clients.each.items ≡ set old.clients.each.items client (begun_after (stands_in w.scene.standing client)) → HasActed cast w (events.Open client) old (record old { clients = clients })
+begins cast w client old clients at known within shut counted =
+    let m : Made = record { event = old.chronicle.event; call = Began client; answer = (0, 0); health = Serving } in
+    let s : Scene = w.scene in
+    let c : Setting = setting_of cast in
+    let own : stands_in (next c s.standing (Began client)) client ≡ begun_after (stands_in s.standing client) = rw (eq-eqb client client refl) (begun_own (left_after fresh (s.standing.sent client)) (s.standing.begun client) shut) in record {
+      made = m ∷ [];
+      happens = refl;
+      possible = passed_by _ NoSuchParty _ known ∙ passed_by _ NotClosed None shut;
+      at = record {
+        parties = at.parties;
+        correct_are = at.correct_are;
+        up = λ i seat here. seat_later c s m i seat refl (at.up i seat here);
+        places_are = at.places_are;
+        holds = subst (λ l. Holds c l old.chronicle.messages) (sym (append-nil s.standing.numbered)) at.holds;
+        sent = subst (HaveSent cast.clients (stands_in (next c s.standing (Began client)))) (sym counted) (moved_one c cast.clients client s.standing (Began client) old.clients.each.items (begun_after (stands_in s.standing client)) at.sent within own (λ i n. rw (ne_eqb i client n) refl));
+        brought = at.brought;
+      };
+      told_is = sym (append-nil old.chronicle.told.items);
+    }

@@ -1,7 +1,7 @@
 -- The headline on what cores tell.
 use Rattle.std.proofs.Common.{◌≡◌, ℕ, ◌<◌, ◌⊎◌, inl, inr, true, false, List, [], ◌∷◌, ◌++◌, Option, None, is_some, refl, sym, ap, ◌∙◌, subst, subst₂, arith, eq-eqb, ne_eqb, append-nil}
 use Rattle.std.proofs.lemmas.Grind.{flat_map-append}
-use Rattle.protocol.specs.Values.{items, of, in_turn}
+use Rattle.protocol.specs.Values.{items, of, fresh, in_turn}
 use Rattle.protocol.specs.Tags.{Setting}
 use Rattle.protocol.specs.Messages.{Bundle, Record, Own, Decided}
 use Rattle.protocol.specs.State.{Node}
@@ -13,7 +13,7 @@ use Rattle.protocol.specs.Premises.{Begins}
 use Rattle.protocol.specs.Laws.{Comparable}
 use Rattle.protocol.proofs.Local.{lock_law}
 use Rattle.node_core.specs.Core.{Core, Stands, delivered_in}
-use Rattle.world_schedule.specs.Calls.{Call, Sent, Handed, Asked, Resent, Reopened, moved, unopened, node_after, run_of, sent}
+use Rattle.world_schedule.specs.Calls.{Call, Sent, Began, Handed, Asked, Resent, Reopened, moved, unopened, node_after, run_of, sent}
 use Rattle.world_schedule.specs.Runs.{delivered_after}
 use Rattle.world_schedule.specs.Cores.{AreOwn, StandsIn}
 use Rattle.world_schedule.specs.Headline.{IsAfter, found_after, IsElsewhere, StepLaw, CountLaw, delivered_at, HeadlineLaw, GrowingLaw}
@@ -31,6 +31,7 @@ own_later c p calls input times = one_later c p calls (Handed p input times) ∙
 
 same_node : (c : Setting) (p : ℕ) (n : Node) (call : Call) → IsElsewhere p call → moved c p n call ≡ n
 same_node c p n (Sent client op) e = refl
+same_node c p n (Began client) e = refl
 same_node c p n (Handed q input times) e = rw (ne_eqb p q e) refl
 same_node c p n (Asked q) e = refl
 same_node c p n (Resent q) e = refl
@@ -90,7 +91,7 @@ headline_law c h early late fair p q okp okq one other of_p of_q =
     let at_q = told_delivered c q (early ++ late) other of_q in record {
       begins = subst₂ Comparable (told_delivered c p early one of_p) at_q k.begins;
       decided = subst₂ Comparable (told_decided c p early one of_p) (told_decided c q (early ++ late) other of_q) k.begins;
-      in_order = λ client. subst (λ d. in_turn 1 (of client d) ≡ true) at_q (k.in_order client);
+      in_order = λ client. subst (λ d. in_turn fresh (of client d) ≡ true) at_q (k.in_order client);
       begins_sent = λ client honest. subst (λ d. Begins (of client d) (sent client (early ++ late))) at_q (k.begins_sent client honest);
     }
 

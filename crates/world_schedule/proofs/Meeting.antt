@@ -15,6 +15,7 @@ use Rattle.node_core.specs.Calls.{IsUnchanged, TellsJournal, IsLeftBy}
 use Rattle.protocol.specs.declared.refusal.Refusal.{Refusal as Answer}
 use Rattle.protocol.specs.declared.refusal.Refusal.TheVariants as answers
 use Rattle.vote_journal.specs.Order.{AreLawful}
+use Rattle.vote_journal.proofs.Layouts.{lawful_records}
 use Rattle.world_schedule.specs.Health.{Health, Serving, Broken, Closed, HasHealth}
 use Rattle.world_schedule.specs.Calls.{Call, Handed, Asked, Resent, moved, bodies_by}
 use Rattle.world_schedule.specs.Cores.{StandsIn}
@@ -104,7 +105,7 @@ meets_ask c p n (Closed cut) old new result st health high own answer refusal ok
 
 -- what is said of a node's journal can be spelled, where the journal stands whole
 said_spelled : (c : Setting) (p : ℕ) (n : Node) (core : Core) (bodies : List Body) → StandsIn c p n core → core.journal.failed ≡ false → AreSaved p n.journal bodies → (b : Body) → b ∈ bodies → IsBody b
-said_spelled c p n core bodies st serves = saved_spelled core.machine.powers p n.journal bodies (subst (λ me. AreLawful core.machine.powers me [] (reverse n.journal)) st.own.me (st.stands.journal serves).lawful)
+said_spelled c p n core bodies st serves = saved_spelled core.machine.powers p n.journal bodies (subst (λ me. AreLawful core.machine.powers me [] (reverse n.journal)) st.own.me (let j = st.stands.journal serves in subst (AreLawful core.machine.powers core.machine.me []) j.records (lawful_records core.machine.powers core.machine.me [] j.entries j.lawful)))
 
 resends_serving : (c : Setting) (p : ℕ) (n : Node) (old new : Core) (result : Result (Unit {0}) Answer) → StandsIn c p n old → old.journal.failed ≡ false → (told_numbers result).0 ≢ 15
     → IfErr result (λ r. (r ≡ answers.Halted) ⊎ (r ≡ answers.OutOfMemory))

@@ -1,9 +1,9 @@
 -- A report tells every decision and every message.
 use Rattle.std.proofs.Common.{◌≡◌, ℕ, suc, ◌⊎◌, inl, inr, true, false, cond, Option, Some, None, List, [], ◌∷◌, ◌++◌, map, flat_map, length, drop, refl, sym, ◌∙◌, ap, ap₂, subst, eqb-true, eq-eqb, append_assoc, append-nil, length-append, arith}
-use Rattle.std.specs.Prelude.{◌==◌, ◌&&◌, not}
+use Rattle.std.specs.Prelude.{◌==◌}
 use Rattle.std.specs.List.{slice_get}
 use Rattle.std.specs.Str.{bytes_eq}
-use Rattle.std.proofs.lemmas.Bool.{cases_Bool, cond_both, and_parts, not-true}
+use Rattle.std.proofs.lemmas.Bool.{cases_Bool, cond_both}
 use Rattle.std.proofs.lemmas.List.{map-append}
 use Rattle.std.proofs.lemmas.Slice.Eq.{bytes_eq-Decides}
 use Rattle.std.proofs.lemmas.Grind.{flat_map-append}
@@ -12,12 +12,11 @@ use Rattle.protocol.specs.Values.{Op, Item}
 use Rattle.protocol.specs.Tags.{Setting}
 use Rattle.protocol.specs.Messages.{◌∈◌, Body, Bundle, Record, Own, Decided as DecidedBy}
 use Rattle.protocol.specs.State.{Node}
-use Rattle.protocol.specs.Queues.{is_closed}
 use Rattle.protocol.specs.World.{World, next_item}
 use Rattle.protocol.specs.Effects.{bundles_in}
 use Rattle.protocol.proofs.Membership.{in_map, in_append, in_left, in_right, any_in, any_found}
 use Rattle.protocol.proofs.Growth.{Longer, run_longer}
-use Rattle.world_schedule.specs.Calls.{Call, Sent, Handed, Asked, Resent, Reopened, moved, all_moved, adding, bodies_by, bodies, events_by, lived, sent_by}
+use Rattle.world_schedule.specs.Calls.{Call, Sent, Began, Handed, Asked, Resent, Reopened, moved, all_moved, adding, bodies_by, bodies, events_by, lived, sent_by}
 use Rattle.world_schedule.specs.declared.report.What.{What}
 use Rattle.world_schedule.specs.declared.report.What.TheVariants.{Decided, Released}
 use Rattle.world_schedule.specs.declared.report.Told.{Told}
@@ -75,6 +74,7 @@ own_decisions c s m p (Some q) e = subst (λ i. flat_map decision_in (told_of_va
 -- another's call leaves the node
 pub stays : (c : Setting) (p : ℕ) (n : Node) (call : Call) → is_by p (validator_of call) ≡ false → moved c p n call ≡ n
 stays c p n (Sent client op) e = refl
+stays c p n (Began client) e = refl
 stays c p n (Handed q input times) e = rw e refl
 stays c p n (Asked q) e = refl
 stays c p n (Resent q) e = refl
@@ -277,6 +277,7 @@ numbered_later c s (call ∷ calls) b e = numbered_later c (next c s call) calls
 -- what a call releases it says
 said_by : (c : Setting) (s : Standing) (call : Call) (b : Body) → b ∈ bodies_by c s.nodes call → b ∈ said c s call
 said_by c s (Sent client op) b i = absurd i
+said_by c s (Began client) b i = i
 said_by c s (Handed p input times) b i = i
 said_by c s (Asked p) b i = i
 said_by c s (Resent p) b i = i
@@ -291,20 +292,17 @@ each_released c s (call ∷ calls) b i = elim (in_append b (bodies_by c s.nodes 
 
 -- ---- what clients send
 
--- what a client's sending says, where it may
-sent_says : (s : Standing) (client : ℕ) (op : Op) (t : Item) → is_closed client (s.sent client) ≡ false → t ≡ next_item client op (s.sent client) → said_as t ∈ cond (is_closed client (s.sent client)) [] (said_as (next_item client op (s.sent client)) ∷ [])
-sent_says s client op t open_still same = rw open_still (inl (ap said_as same))
-
 -- an item that a call adds is one that it says
 added : (c : Setting) (s : Standing) (client : ℕ) (t : Item) (call : Call) → t ∈ adding client (s.sent client) call → (t ∈ s.sent client) ⊎ (said_as t ∈ said c s call)
-added c s client t (Sent sender op) i = cond_both ((client == sender) && not (is_closed client (s.sent client))) (s.sent client ++ next_item client op (s.sent client) ∷ []) (s.sent client)
+added c s client t (Sent sender op) i = cond_both (client == sender) (s.sent client ++ next_item client op (s.sent client) ∷ []) (s.sent client)
     (λ l. t ∈ l → (t ∈ s.sent client) ⊎ (said_as t ∈ said c s (Sent sender op)))
     (λ e k. elim (in_append t (s.sent client) (next_item client op (s.sent client) ∷ []) k) [
       | inl l ↦ inl l
-      | inr (inl same) ↦ (let parts = and_parts _ _ e in inr (subst (λ n. said_as t ∈ said c s (Sent n op)) (eqb-true client sender parts.0) (sent_says s client op t (not-true _ parts.1) same)))
+      | inr (inl same) ↦ inr (subst (λ n. said_as t ∈ said c s (Sent n op)) (eqb-true client sender e) (inl (ap said_as same)))
       | inr (inr none) ↦ absurd none
     ])
     (λ _ k. inl k) i
+added c s client t (Began beginner) i = inl i
 added c s client t (Handed p input times) i = inl i
 added c s client t (Asked p) i = inl i
 added c s client t (Resent p) i = inl i
@@ -325,7 +323,8 @@ sent_stays client items [] t i = i
 sent_stays client items (call ∷ calls) t i = sent_stays client (adding client items call) calls t (kept call)
   where
     kept : (call : Call) → t ∈ adding client items call
-    kept (Sent sender op) = cond_both ((client == sender) && not (is_closed client items)) (items ++ next_item client op items ∷ []) items (λ l. t ∈ l) (λ _. in_left t items (next_item client op items ∷ []) i) (λ _. i)
+    kept (Sent sender op) = cond_both (client == sender) (items ++ next_item client op items ∷ []) items (λ l. t ∈ l) (λ _. in_left t items (next_item client op items ∷ []) i) (λ _. i)
+    kept (Began beginner) = i
     kept (Handed p input times) = i
     kept (Asked p) = i
     kept (Resent p) = i
@@ -336,12 +335,11 @@ abbrev SaidBy : Setting → Standing → Call → Body → Type 0
 SaidBy c s call b = (b ∈ bodies_by c s.nodes call) ⊎ ((client : ℕ) × (t : Item) × (t ∈ adding client (s.sent client) call) × (b ≡ said_as t))
 
 said_whence : (c : Setting) (s : Standing) (call : Call) (b : Body) → b ∈ said c s call → SaidBy c s call b
-said_whence c s (Sent client op) b i = cond_both (is_closed client (s.sent client)) [] (said_as (next_item client op (s.sent client)) ∷ []) (λ l. b ∈ l → SaidBy c s (Sent client op) b)
-    (λ _ k. absurd k)
-    (λ e k. inr (client, next_item client op (s.sent client), is_added e, elim k [ inl same ↦ same | inr none ↦ absurd none ])) i
+said_whence c s (Sent client op) b i = inr (client, next_item client op (s.sent client), is_added, elim i [ inl same ↦ same | inr none ↦ absurd none ])
   where
-    is_added : is_closed client (s.sent client) ≡ false → next_item client op (s.sent client) ∈ adding client (s.sent client) (Sent client op)
-    is_added e = rw (e, eq-eqb client client refl) (in_right (next_item client op (s.sent client)) (s.sent client) (next_item client op (s.sent client) ∷ []) (inl refl))
+    is_added : next_item client op (s.sent client) ∈ adding client (s.sent client) (Sent client op)
+    is_added = rw (eq-eqb client client refl) (in_right (next_item client op (s.sent client)) (s.sent client) (next_item client op (s.sent client) ∷ []) (inl refl))
+said_whence c s (Began client) b i = inl i
 said_whence c s (Handed p input times) b i = inl i
 said_whence c s (Asked p) b i = inl i
 said_whence c s (Resent p) b i = inl i

@@ -4,12 +4,11 @@ use Rattle.std.specs.Prelude.{◌==◌}
 use Rattle.std.proofs.Math.Path.{fun_ext}
 use Rattle.std.proofs.lemmas.Bool.{cases_Bool}
 use Rattle.std.proofs.lemmas.List.{reverse-append, reverse-reverse}
-use Rattle.protocol.specs.Values.{Op, Item, of, in_turn}
+use Rattle.protocol.specs.Values.{Op, Item, of, fresh, in_turn}
 use Rattle.protocol.specs.Tags.{Setting}
 use Rattle.protocol.specs.Messages.{◌∈◌, Body, OfAsk}
 use Rattle.protocol.specs.State.{Node}
 use Rattle.protocol.specs.declared.types.Timeout.{Timeout}
-use Rattle.protocol.specs.Queues.{is_closed}
 use Rattle.protocol.specs.Restart.{opened, own_since}
 use Rattle.protocol.specs.World.{World, Event, cut_record, beginning, happens, run, sending, delivered}
 use Rattle.protocol.specs.History.{Input, taken, after}
@@ -22,7 +21,7 @@ use Rattle.protocol.proofs.Replays.{history_law}
 use Rattle.protocol.proofs.Local.{lock_law}
 use Rattle.protocol.proofs.Agreement.{lasts_law}
 use Rattle.protocol.proofs.Headline.{begins_law as theorem}
-use Rattle.world_schedule.specs.Calls.{Call, Sent, Handed, Asked, Resent, Reopened, moved, all_moved, adding, events_by, bodies_by, lived, sent_by, events, bodies, timeouts, unopened, node_after, run_of, sent}
+use Rattle.world_schedule.specs.Calls.{Call, Sent, Began, Handed, Asked, Resent, Reopened, moved, all_moved, adding, events_by, bodies_by, lived, sent_by, events, bodies, timeouts, unopened, node_after, run_of, sent}
 use Rattle.world_schedule.specs.Runs.{IsMade, MadeLaw, RunLaw, delivered_after, PastLaw, DeliveredLaw}
 
 -- ---- what is released
@@ -94,20 +93,11 @@ handed_made c w q input times =
     }
 
 -- a client sends, and the others send nothing
-sent_own : (w : World) (client : ℕ) (op : Op) → (sending w client op).sent client ≡ adding client (w.sent client) (Sent client op)
-sent_own w client op = elim (cases_Bool (is_closed client (w.sent client))) [
-  | inl t ↦ rw (t, eq-eqb client client refl) refl
-  | inr t ↦ rw (t, eq-eqb client client refl) refl
-]
-
 sent_made : (w : World) (client : ℕ) (op : Op) (who : ℕ) → (sending w client op).sent who ≡ adding who (w.sent who) (Sent client op)
 sent_made w client op who = elim (cases_Bool (who == client)) [
-  | inl t ↦ (let same : who ≡ client = eqb-true who client t in subst (λ k. (sending w client op).sent k ≡ adding k (w.sent k) (Sent client op)) (sym same) (sent_own w client op))
-  | inr t ↦ (elim (cases_Bool (is_closed client (w.sent client))) [ inl u ↦ rw (t, u) refl | inr u ↦ rw (u, t) refl ])
+  | inl t ↦ (let same : who ≡ client = eqb-true who client t in subst (λ k. (sending w client op).sent k ≡ adding k (w.sent k) (Sent client op)) (sym same) refl)
+  | inr t ↦ rw t refl
 ]
-
-sending_stays : (w : World) (client : ℕ) (op : Op) → ((sending w client op).nodes ≡ w.nodes) × ((sending w client op).released ≡ w.released)
-sending_stays w client op = elim (cases_Bool (is_closed client (w.sent client))) [ inl u ↦ rw u (refl, refl) | inr u ↦ rw u (refl, refl) ]
 
 -- a node in its own place
 stays : (p q : ℕ) (nodes : ℕ → Node) → cond (p == q) (nodes q) (nodes p) ≡ nodes p
@@ -118,12 +108,8 @@ stays p q nodes = elim (cases_Bool (p == q)) [
 
 pub made_law : MadeLaw
 made_law c w (Handed q input times) = handed_made c w q input times
-made_law c w (Sent client op) = let k = sending_stays w client op in record {
-  nodes = λ p. ap (λ (f : ℕ → Node). f p) k.0;
-  sent = sent_made w client op;
-  released = λ b. holds_joined b (sending w client op).released [] w.released k.1;
-  scheduled = refl;
-}
+made_law c w (Sent client op) = record { nodes = λ p. refl; sent = sent_made w client op; released = λ b. holds_joined b w.released [] w.released refl; scheduled = refl }
+made_law c w (Began client) = record { nodes = λ p. refl; sent = λ who. refl; released = λ b. holds_joined b w.released [] w.released refl; scheduled = refl }
 made_law c w (Asked q) = record { nodes = λ p. stays p q w.nodes; sent = λ client. refl; released = λ b. holds_joined b _ (OfAsk (record { height = (w.nodes q).state.height; sender = q }) ∷ []) w.released refl; scheduled = refl }
 made_law c w (Resent q) = record { nodes = λ p. stays p q w.nodes; sent = λ client. refl; released = λ b. holds_joined b _ (own_since q (w.nodes q).journal) w.released refl; scheduled = refl }
 made_law c w (Reopened q cut) = record {
@@ -208,6 +194,6 @@ delivered_law c h early late fair p q okp okq =
     let of_q = theorem c h (run_of c early) (later c early late) fair.few unforged distinct q okq in
     let late_q = delivered_late c early late q in record {
       begins = subst₂ Comparable (delivered_is c early p) late_q (of_p.1 q okq);
-      in_order = λ client. subst (λ d. in_turn 1 (of client d) ≡ true) late_q (of_q.2 client);
+      in_order = λ client. subst (λ d. in_turn fresh (of client d) ≡ true) late_q (of_q.2 client);
       begins_sent = λ client honest. subst₂ (λ d items. Begins (of client d) items) late_q (sent_late c early late client) (of_q.3 client honest);
     }

@@ -23,6 +23,7 @@ use Rattle.std.proofs.lemmas.List.{reverse-append, reverse-reverse}
 use Rattle.vote_journal.specs.Grammar.{IsRecord}
 use Rattle.vote_journal.specs.Order.{AreLawful}
 use Rattle.vote_journal.specs.Layout.{IsJournal}
+use Rattle.vote_journal.proofs.Layouts.{lawful_records}
 use Rattle.node_core.specs.Calls.{IsLeftBy}
 use Rattle.world_schedule.specs.Standings.{AreReadable}
 
@@ -141,7 +142,7 @@ in_back x xs i = subst (λ l. x ∈ l) (reverse-reverse xs) (in_reverse x (rever
 
 lawful_of : {powers : List ℕ} {p : ℕ} {bytes : List ℕ} {rs : List Record} → IsJournal powers p bytes rs → AreLawful powers p [] rs
 lawful_of {powers} {p} (inl k) = subst (AreLawful powers p []) (sym k.1) tt
-lawful_of (inr k) = k.2.lawful
+lawful_of {powers} {p} (inr k) = subst (AreLawful powers p []) k.2.records (lawful_records powers p [] k.2.entries k.2.lawful)
 
 -- What is said of a journal that stands whole can be spelled.
 pub saved_spelled : (powers : List ℕ) (p : ℕ) (j : List Record) (bodies : List Body) → AreLawful powers p [] (reverse j) → AreSaved p j bodies → (b : Body) → b ∈ bodies → IsBody b
@@ -158,5 +159,5 @@ left_spelled c p n cut bytes bodies left saved b i =
     said_spelled p k.0 b (lawful_each c.powers p [] left.0 (lawful_of left.1) k.0 within) k.2
 
 -- and its frame is read again
-pub spelled_readable : (c : Setting) (bodies : List Body) → 1 ≤ length c.powers → length c.powers ≤ 64 → ((b : Body) → b ∈ bodies → IsBody b) → AreReadable c bodies
+pub spelled_readable : (c : Setting) (bodies : List Body) → 1 ≤ length c.powers → length c.powers ≤ 128 → ((b : Body) → b ∈ bodies → IsBody b) → AreReadable c bodies
 spelled_readable c bodies one few spelled b i = (tagged_law c b one few (spelled b i)).1

@@ -6,14 +6,14 @@ use Rattle.protocol.specs.Messages.{Body, OfAsk}
 use Rattle.protocol.specs.declared.types.Timeout.{Timeout}
 use Rattle.protocol.specs.State.{Node}
 use Rattle.protocol.specs.Restart.{opened, own_since}
-use Rattle.protocol.specs.Queues.{is_closed}
 use Rattle.protocol.specs.World.{Cut, Event, Sends, Asks, Resends, Restarts, next_item, cut_record}
 use Rattle.protocol.specs.History.{Input, after}
 use Rattle.protocol.specs.Effects.{bodies_after, timeouts_after}
 use Rattle.protocol.specs.Laws.{call_events}
 
 pub data Call : Type 0 where
-  Sent : ℕ → Op → Call  -- a client sent its next number
+  Sent : ℕ → Op → Call  -- a client sent its next item
+  Began : ℕ → Call  -- a client began the session after its close
   Handed : ℕ → Input → ℕ → Call  -- to a validator, and so many rules fired by themselves
   Asked : ℕ → Call  -- a validator let an ask go
   Resent : ℕ → Call  -- a validator let its own messages of the height go again
@@ -24,19 +24,21 @@ pub data Call : Type 0 where
 -- validator p's node after the call
 abbrev pub moved : Setting → ℕ → Node → Call → Node
 moved c p n (Sent client op) = n
+moved c p n (Began client) = n
 moved c p n (Handed q input times) = cond (p == q) (after c p n input times) n
 moved c p n (Asked q) = n
 moved c p n (Resent q) = n
 moved c p n (Reopened q cut) = cond (p == q) (opened p (cut_record c p n cut ++ n.journal)) n
 
--- what a client has sent after the call: nothing follows its close
+-- what a client has sent after the call
 abbrev pub adding : ℕ → List Item → Call → List Item
-adding client items (Sent sender op) = cond ((client == sender) && not (is_closed client items)) (items ++ next_item client op items ∷ []) items
+adding client items (Sent sender op) = cond (client == sender) (items ++ next_item client op items ∷ []) items
 adding client items _ = items
 
 -- the call's events in a run
 abbrev pub events_by : Setting → (ℕ → Node) → Call → List Event
 events_by c nodes (Sent client op) = Sends client op ∷ []
+events_by c nodes (Began client) = []
 events_by c nodes (Handed p input times) = call_events c p (nodes p) input times
 events_by c nodes (Asked p) = Asks p ∷ []
 events_by c nodes (Resent p) = Resends p ∷ []

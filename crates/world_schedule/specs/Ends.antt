@@ -1,6 +1,6 @@
 -- What the ends of a report tell, and how a scene stands after calls.
 use Rattle.std.specs.Prelude.{◌≡◌, ℕ, true, List}
-use Rattle.protocol.specs.Values.{of, in_turn}
+use Rattle.protocol.specs.Values.{of, fresh, in_turn}
 use Rattle.protocol.specs.Tags.{Setting}
 use Rattle.protocol.specs.Messages.{◌∈◌}
 use Rattle.protocol.specs.Premises.{Honesty, IsCorrect, Begins}
@@ -14,7 +14,7 @@ use Rattle.world_schedule.specs.declared.report.End.{End}
 -- Of what two ends tell that was delivered one begins the other; the first keeps every client's order, and a correct client's items in it begin what the client sent.
 pub record EndAsOne (h : Honesty) (calls : List Call) (one other : End) : Type 0 where
   pub begins : Comparable one.delivered other.delivered
-  pub in_order : (client : ℕ) → in_turn 1 (of client one.delivered) ≡ true
+  pub in_order : (client : ℕ) → in_turn fresh (of client one.delivered) ≡ true
   pub begins_sent : (client : ℕ) → h.clients client ≡ true → Begins (of client one.delivered) (sent client calls)
 
 -- So it is with any two ends of one report, of correct validators.

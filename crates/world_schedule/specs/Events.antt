@@ -4,16 +4,15 @@ use Rattle.std.specs.List.{list_all, slice_get}
 use Rattle.messages.specs.Framing.{frame_spelling}
 use Rattle.protocol.specs.Tags.{Setting}
 use Rattle.protocol.specs.Messages.{Body, OfProposal, OfVote, OfBundle}
-use Rattle.protocol.specs.Queues.{is_closed}
 use Rattle.protocol.specs.History.{Given, Due}
 use Rattle.world_parties.specs.Cast.{Cast, setting_of, is_correct, is_liar, is_client, correct}
 use Rattle.world_parties.specs.Sending.{proposed, voted, bundled, submitted}
 use Rattle.world_parties.specs.declared.fault.FaultNumber.{FaultNumber}
-use Rattle.world_parties.specs.declared.fault.FaultNumber.TheVariants.{NoSuchMessage, NoSuchParty, ClientClosed, TooLong, OutOfMemory}
-use Rattle.world_schedule.specs.Calls.{Sent}
+use Rattle.world_parties.specs.declared.fault.FaultNumber.TheVariants.{NoSuchMessage, NoSuchParty, ClientClosed, TooLong, OutOfMemory, NotClosed}
+use Rattle.world_schedule.specs.Calls.{Sent, Began}
 use Rattle.world_schedule.specs.Health.{Serving}
 use Rattle.world_schedule.specs.Cores.{frame_in}
-use Rattle.world_schedule.specs.Reports.{Made, Standing, is_by}
+use Rattle.world_schedule.specs.Reports.{Made, Standing, is_by, is_shut}
 use Rattle.world_schedule.specs.Making.{Request, Hands, Asks, Resends, Scene, scene_after, AreTurns, IsRestart}
 use Rattle.world_schedule.specs.Standings.{sayer}
 use Rattle.world_schedule.specs.declared.event.Event.{Event}
@@ -44,6 +43,7 @@ passes c brought validators number (b ∷ bs) = map (asked_of (Hands (Given (fra
 -- what an event asks of validators, in turn: but for a restart, which is told by itself
 abbrev pub turns : Cast → Course → Event → List (ℕ × Request)
 turns cast w (events.Send client op) = []
+turns cast w (events.Open client) = []
 turns cast w (events.Deliver number p) = map (λ b. (p, Hands (Given (frame_in (setting_of cast) b)))) (option_to_list (slice_get w.scene.standing.numbered number))
 turns cast w events.Pass = passes (setting_of cast) w.brought (correct cast) 0 w.scene.standing.numbered
 turns cast w (events.Timeout p t) = (p, Hands (Due t)) ∷ []
@@ -62,6 +62,7 @@ turns cast w (events.Frame p bytes) = comes p bytes
 -- The calls that an event is, made at event k: a client sends, a validator is restarted, or each validator has its turn.
 abbrev pub Happens : Cast → Course → ℕ → Event → List Made → Type 0
 Happens cast w k (events.Send client op) made = made ≡ record { event = k; call = Sent client op; answer = (0, 0); health = Serving } ∷ []
+Happens cast w k (events.Open client) made = made ≡ record { event = k; call = Began client; answer = (0, 0); health = Serving } ∷ []
 Happens cast w k (events.Restart p) made = IsRestart (setting_of cast) w.scene k p made
 Happens cast w k event made = AreTurns (setting_of cast) w.scene k (turns cast w event) made
 
@@ -81,7 +82,8 @@ unless holds fault more = cond holds more (Some fault)
 
 -- the first cause, of those that are found before anything is spelled
 abbrev pub cause_of : Cast → Standing → Event → Option FaultNumber
-cause_of cast s (events.Send client op) = unless (is_client cast client) NoSuchParty (unless (not (is_closed client (s.sent client))) ClientClosed None)
+cause_of cast s (events.Send client op) = unless (is_client cast client) NoSuchParty (unless (not (is_shut s client)) ClientClosed None)
+cause_of cast s (events.Open client) = unless (is_client cast client) NoSuchParty (unless (is_shut s client) NotClosed None)
 cause_of cast s (events.Deliver number p) = unless (nat_lt number (length s.numbered)) NoSuchMessage (unless (is_correct cast p) NoSuchParty None)
 cause_of cast s events.Pass = None
 cause_of cast s (events.Timeout p t) = unless (is_correct cast p) NoSuchParty None
@@ -98,6 +100,7 @@ cause_of cast s (events.Frame p bytes) = unless (is_correct cast p) NoSuchParty 
 -- whether it is about something that has to be spelled
 abbrev pub is_spelled : Event → Bool
 is_spelled (events.Send client op) = true
+is_spelled (events.Open client) = true
 is_spelled (events.Submit p line) = true
 is_spelled (events.Propose p line) = true
 is_spelled (events.Vote p line) = true
@@ -111,6 +114,7 @@ CannotHappen TooLong cast s event = (cause_of cast s event ≡ None) × (is_spel
 CannotHappen NoSuchMessage cast s event = cause_of cast s event ≡ Some NoSuchMessage
 CannotHappen NoSuchParty cast s event = cause_of cast s event ≡ Some NoSuchParty
 CannotHappen ClientClosed cast s event = cause_of cast s event ≡ Some ClientClosed
+CannotHappen NotClosed cast s event = cause_of cast s event ≡ Some NotClosed
 
 -- no correct validator has this number
 abbrev pub IsUnknown : Cast → ℕ → FaultNumber → Type 0

@@ -1,6 +1,6 @@
 -- What the cores of a world tell, over any calls of them.
 use Rattle.std.specs.Prelude.{◌≡◌, ◌≢◌, ℕ, true, List, [], ◌∷◌, ◌++◌, Option, None}
-use Rattle.protocol.specs.Values.{Item, of, in_turn}
+use Rattle.protocol.specs.Values.{Item, of, fresh, in_turn}
 use Rattle.protocol.specs.Tags.{Setting}
 use Rattle.protocol.specs.Messages.{Record}
 use Rattle.protocol.specs.State.{Node}
@@ -12,7 +12,7 @@ use Rattle.protocol.specs.Premises.{Honesty, IsCorrect, Begins}
 use Rattle.protocol.specs.Laws.{Comparable}
 use Rattle.node_core.specs.Core.{Core, Stands, delivered_in}
 use Rattle.node_core.specs.Calls.{EachIsNamed, IsCalled}
-use Rattle.world_schedule.specs.Calls.{Call, Sent, Handed, Asked, Resent, Reopened, node_after, sent}
+use Rattle.world_schedule.specs.Calls.{Call, Sent, Began, Handed, Asked, Resent, Reopened, node_after, sent}
 use Rattle.world_schedule.specs.Runs.{IsFair}
 use Rattle.world_schedule.specs.Cores.{IsOwn, StandsIn, IsBeside}
 
@@ -25,6 +25,7 @@ abbrev pub IsElsewhere : ℕ → Call → Type 0
 IsElsewhere p (Handed q input times) = p ≢ q
 IsElsewhere p (Reopened q cut) = p ≢ q
 IsElsewhere p (Sent client op) = Unit {0}
+IsElsewhere p (Began client) = Unit {0}
 IsElsewhere p (Asked q) = Unit {0}
 IsElsewhere p (Resent q) = Unit {0}
 
@@ -57,7 +58,7 @@ delivered_at core = core.machine.state.delivered
 pub record TellOneList (h : Honesty) (calls : List Call) (one other : Core) : Type 0 where
   pub begins : Comparable (delivered_at one) (delivered_at other)
   pub decided : Comparable (delivered_in one.decisions) (delivered_in other.decisions)
-  pub in_order : (client : ℕ) → in_turn 1 (of client (delivered_at other)) ≡ true
+  pub in_order : (client : ℕ) → in_turn fresh (of client (delivered_at other)) ≡ true
   pub begins_sent : (client : ℕ) → h.clients client ≡ true → Begins (of client (delivered_at other)) (sent client calls)
 
 abbrev pub HeadlineLaw : Type 0

@@ -1,16 +1,16 @@
 -- What a world's report tells, over the calls that were made.
-use Rattle.std.specs.Prelude.{◌≡◌, ◌⊎◌, ℕ, suc, Bool, true, false, cond, Option, Some, None, List, [], ◌∷◌, ◌++◌, map, flat_map, length, drop, ◌==◌}
+use Rattle.std.specs.Prelude.{◌≡◌, ◌⊎◌, ℕ, suc, Bool, true, false, not, ◌&&◌, ◌||◌, cond, Option, Some, None, List, [], ◌∷◌, ◌++◌, map, flat_map, length, drop, ◌==◌}
 use Rattle.std.specs.List.{list_any, slice_get}
 use Rattle.std.specs.Str.{bytes_eq}
 use Rattle.messages.specs.Grammar.{body_spelling}
-use Rattle.protocol.specs.Values.{Item}
+use Rattle.protocol.specs.Values.{Item, fresh, left_after}
+use Rattle.protocol.specs.declared.standing.Standing.{Standing as Reached}
 use Rattle.protocol.specs.Tags.{Setting}
 use Rattle.protocol.specs.Messages.{◌∈◌, Body, OfTx, Bundle}
 use Rattle.protocol.specs.State.{Node}
-use Rattle.protocol.specs.Queues.{is_closed}
 use Rattle.protocol.specs.World.{next_item}
 use Rattle.protocol.specs.Effects.{bundles_in}
-use Rattle.world_schedule.specs.Calls.{Call, Sent, Handed, Asked, Resent, Reopened, moved, all_moved, adding, bodies_by, bodies, unopened, node_after, sent}
+use Rattle.world_schedule.specs.Calls.{Call, Sent, Began, Handed, Asked, Resent, Reopened, moved, all_moved, adding, bodies_by, bodies, unopened, node_after, sent}
 use Rattle.world_schedule.specs.Health.{Health}
 use Rattle.world_schedule.specs.declared.report.What.{What}
 use Rattle.world_schedule.specs.declared.report.What.TheVariants.{Answered, Decided, Released}
@@ -43,25 +43,43 @@ newly numbered (b ∷ bs) = cond (is_numbered numbered b) (newly numbered bs) (b
 
 -- a client's message
 abbrev pub said_as : Item → Body
-said_as t = OfTx (record { client = t.client; number = t.number; op = t.op; tags = [] })
+said_as t = OfTx (record { client = t.client; session = t.session; number = t.number; op = t.op; tags = [] })
 
 -- ---- how a world stands between calls
 
 pub record Standing : Type 0 where
   pub nodes : ℕ → Node
   pub sent : ℕ → List Item
+  pub begun : ℕ → Bool  -- a session was begun, of which nothing is sent yet
   pub numbered : List Body  -- the messages by their numbers
 
 abbrev pub start : Standing
-start = record { nodes = unopened; sent = λ client. []; numbered = [] }
+start = record { nodes = unopened; sent = λ client. []; begun = λ client. false; numbered = [] }
+
+-- where a client stands that began the session after this one
+abbrev pub begun_after : Reached → Reached
+begun_after r = record { session = suc r.session; last = 0; closed = false }
+
+-- where a client stands after what it sent, and after the beginning of a session
+abbrev pub stands_in : Standing → ℕ → Reached
+stands_in s client = cond (s.begun client && (left_after fresh (s.sent client)).closed) (begun_after (left_after fresh (s.sent client))) (left_after fresh (s.sent client))
+
+-- a client may send nothing until it begins its next session
+abbrev pub is_shut : Standing → ℕ → Bool
+is_shut s client = (stands_in s client).closed
+
+abbrev pub beginning_by : (ℕ → Bool) → Call → ℕ → Bool
+beginning_by old (Began client) k = (k == client) || old k
+beginning_by old (Sent client op) k = not (k == client) && old k
+beginning_by old call k = old k
 
 -- what a call says: what a client sends, or what a validator releases
 abbrev pub said : Setting → Standing → Call → List Body
-said c s (Sent client op) = cond (is_closed client (s.sent client)) [] (said_as (next_item client op (s.sent client)) ∷ [])
+said c s (Sent client op) = said_as (next_item client op (s.sent client)) ∷ []
 said c s call = bodies_by c s.nodes call
 
 abbrev pub next : Setting → Standing → Call → Standing
-next c s call = record { nodes = all_moved c s.nodes call; sent = λ client. adding client (s.sent client) call; numbered = s.numbered ++ newly s.numbered (said c s call) }
+next c s call = record { nodes = all_moved c s.nodes call; sent = λ client. adding client (s.sent client) call; begun = beginning_by s.begun call; numbered = s.numbered ++ newly s.numbered (said c s call) }
 
 abbrev pub standing_after : Setting → Standing → List Call → Standing
 standing_after c s [] = s
@@ -71,6 +89,7 @@ standing_after c s (call ∷ calls) = standing_after c (next c s call) calls
 
 abbrev pub validator_of : Call → Option ℕ
 validator_of (Sent client op) = None
+validator_of (Began client) = None
 validator_of (Handed p input times) = Some p
 validator_of (Asked p) = Some p
 validator_of (Resent p) = Some p

@@ -1,7 +1,7 @@
 -- Calls are a run, and what the headline says of it.
 use Rattle.std.specs.Prelude.{◌≡◌, ◌⊎◌, ◌↔◌, ℕ, true, List, ◌++◌}
 use Rattle.powers.specs.Power.{FewLie}
-use Rattle.protocol.specs.Values.{Item, of, in_turn}
+use Rattle.protocol.specs.Values.{Item, of, fresh, in_turn}
 use Rattle.protocol.specs.Tags.{Setting}
 use Rattle.protocol.specs.Messages.{◌∈◌, Body}
 use Rattle.protocol.specs.World.{World, beginning, run}
@@ -50,7 +50,7 @@ PastLaw = (c : Setting) (early late : List Call) (p : ℕ) → Begins (delivered
 -- At two moments, of two correct validators' lists one begins the other; each keeps every client's order, and a correct client's items in it begin what the client sent.
 pub record AreOneList (c : Setting) (h : Honesty) (early late : List Call) (p q : ℕ) : Type 0 where
   pub begins : Comparable (delivered_after c p early) (delivered_after c q (early ++ late))
-  pub in_order : (client : ℕ) → in_turn 1 (of client (delivered_after c q (early ++ late))) ≡ true
+  pub in_order : (client : ℕ) → in_turn fresh (of client (delivered_after c q (early ++ late))) ≡ true
   pub begins_sent : (client : ℕ) → h.clients client ≡ true → Begins (of client (delivered_after c q (early ++ late))) (sent client (early ++ late))
 
 abbrev pub DeliveredLaw : Type 0

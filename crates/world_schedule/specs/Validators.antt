@@ -27,10 +27,10 @@ request_of (asked.Expire timeout) = Hands (Due timeout)
 request_of asked.Ask = Asks
 request_of asked.Resend = Resends
 
--- the number of one of 1 to 64 validators
+-- the number of one of 1 to 128 validators
 pub record IsNumber (c : Setting) (p : ℕ) : Type 0 where
   pub some : 1 ≤ length c.powers
-  pub few : length c.powers ≤ 64
+  pub few : length c.powers ≤ 128
   pub known : p < length c.powers
 
 -- The validator stands for its node, all that it released and decided was told, and its journal is as its calls left it.

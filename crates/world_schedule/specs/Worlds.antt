@@ -1,16 +1,16 @@
 -- A world of code, and the run that its report tells of.
 use Rattle.std.specs.Prelude.{◌≡◌, ◌≢◌, ℕ, suc, ◌<◌, ◌≤◌, Bool, false, ◌||◌, ◌&&◌, Option, Some, None, List, [], ◌∷◌, ◌++◌, map, flat_map, take, length, nat_lt, ◌==◌}
 use Rattle.std.specs.List.{list_any, slice_get}
-use Rattle.protocol.specs.Values.{Item, items}
+use Rattle.protocol.specs.Values.{items}
 use Rattle.protocol.specs.Tags.{Setting}
 use Rattle.protocol.specs.Messages.{below}
-use Rattle.protocol.specs.Queues.{is_closed}
+use Rattle.protocol.specs.declared.standing.Standing.{Standing as Reached}
 use Rattle.protocol.specs.History.{Settle}
 use Rattle.round_states.specs.Machine.{Machine}
 use Rattle.world_parties.specs.Cast.{Cast, setting_of, is_correct, correct, LiesIn}
 use Rattle.world_parties.specs.declared.fault.FaultNumber.{FaultNumber}
 use Rattle.world_parties.specs.declared.fault.FaultNumber.TheVariants.{OutOfMemory}
-use Rattle.world_schedule.specs.Reports.{Made, calls_of, told, end_of}
+use Rattle.world_schedule.specs.Reports.{Made, calls_of, stands_in, told, end_of}
 use Rattle.world_schedule.specs.Making.{Request, Hands, Scene, beginning, scene_after, IsTurn, AreTurns}
 use Rattle.world_schedule.specs.Serving.{AreServed}
 use Rattle.world_schedule.specs.Standings.{Holds}
@@ -22,7 +22,6 @@ use Rattle.world_schedule.specs.declared.seat.Seat.{Seat}
 use Rattle.world_schedule.specs.declared.seat.Seat.TheVariants as seats
 use Rattle.world_schedule.specs.declared.chronicle.Chronicle.{Chronicle}
 use Rattle.world_schedule.specs.declared.brought.Brought.{Brought}
-use Rattle.world_schedule.specs.declared.clients.Sending.{Sending}
 use Rattle.world_schedule.specs.declared.event.Event.{Event}
 use Rattle.world_schedule.specs.declared.fault.RunFault.{RunFault}
 use Rattle.world_schedule.specs.declared.report.Report.{Report}
@@ -52,12 +51,8 @@ pub record HaveMet (c : Setting) (s : Scene) (turns : List (ℕ × Request)) (ol
 abbrev pub has_come : Brought → ℕ → ℕ → Bool
 has_come b number p = nat_lt number b.passed || list_any (λ (k : ℕ × ℕ). (number == k.0) && (p == k.1)) b.early.keys
 
--- what a client sent, counted
-abbrev pub sending_of : ℕ → List Item → Sending
-sending_of client items = record { count = length items; closed = is_closed client items }
-
-abbrev pub HaveSent : ℕ → (ℕ → List Item) → List Sending → Type 0
-HaveSent clients sent each = (length each ≡ clients) × ((client : ℕ) → client < clients → slice_get each client ≡ Some (sending_of client (sent client)))
+abbrev pub HaveSent : ℕ → (ℕ → Reached) → List Reached → Type 0
+HaveSent clients reached each = (length each ≡ clients) × ((client : ℕ) → client < clients → slice_get each client ≡ Some (reached client))
 
 -- The stage stands so: each correct validator for its node, each message under its number, and what was brought where.
 pub record IsAt (cast : Cast) (w : Course) (stage : Stage) : Type 0 where
@@ -66,7 +61,7 @@ pub record IsAt (cast : Cast) (w : Course) (stage : Stage) : Type 0 where
   pub up : AreUp (setting_of cast) w.scene stage.validators.each.items
   pub places_are : places stage.validators.each.items ≡ map (is_correct cast) (below (length cast.powers))
   pub holds : Holds (setting_of cast) w.scene.standing.numbered stage.chronicle.messages
-  pub sent : HaveSent cast.clients w.scene.standing.sent stage.clients.each.items
+  pub sent : HaveSent cast.clients (stands_in w.scene.standing) stage.clients.each.items
   pub brought : (number p : ℕ) → has_come stage.brought number p ≡ w.brought number p
 
 -- and nothing is to be told of an event

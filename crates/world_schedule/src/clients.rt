@@ -1,73 +1,104 @@
 //! What the clients of a world sent.
 
-ghost use Rattle.std.specs.Prelude.{◌≡◌, ◌+◌, ◌⊎◌, [], true, false, set, slice_get, Some, IfOk, IfErr};
-ghost use Rattle.protocol.specs.Queues.{is_close};
+ghost use Rattle.std.specs.Prelude.{◌≡◌, ◌⊎◌, true, false, set, slice_get, Some, IfOk, IfErr, OnOk};
+ghost use Rattle.protocol.specs.Values.{fresh, is_close, session_wanted, number_wanted};
+ghost use Rattle.protocol.specs.declared.standing.Standing.{Standing as Reached};
+ghost use Rattle.world_schedule.specs.Reports.{begun_after};
 ghost use Rattle.world_schedule.specs.Worlds.{HaveSent};
-ghost use Rattle.world_schedule.specs.declared.clients.Sending.{Sending as Counted};
 
+use protocol::Standing;
 use std::alloc::{AllocError, Global};
 use transactions::Op;
 use world_parties::FaultNumber;
 
-/// What one client sent.
-#[derive(Clone, Copy)]
-pub(crate) struct Sending {
-    /// How many transactions.
-    pub(crate) count: u64,
-    /// Whether the last of them is its close.
-    pub(crate) closed: bool,
-}
-
-/// What the clients sent, by their numbers.
+/// Where the clients stand after what they sent, by their numbers. One that began a session stands where it does after nothing
+/// of that session.
 #[derive(Drop)]
 pub(crate) struct Clients {
-    pub(crate) each: Vec<Sending>,
+    pub(crate) each: Vec<Standing>,
 }
 
 impl Clients {
     /// So many clients, of which none sent anything.
     pub(crate) fn new(alloc: Global, count: u16) -> Result<Clients, AllocError>
-        ensures { IfOk result (λ clients. HaveSent count (λ client. []) clients.each.items) }
+        ensures { IfOk result (λ clients. HaveSent count (λ client. fresh) clients.each.items) }
     {
         let mut each = Vec::with_capacity(alloc, usize::from(count))?;
         for _client in 0..count {
-            each.push(Sending {
-                count: 0,
-                closed: false,
-            })?;
+            each.push(Standing::FRESH)?;
         }
         Ok(Clients { each })
     }
 
-    /// The number of a client's next transaction.
+    /// The session and the number of a client's next transaction.
     ///
     /// `ClientClosed` (3) after its close.
-    pub(crate) fn next(&self, client: u16) -> Result<u64, FaultNumber>
-        ensures ok { (counted : Counted) → slice_get self.now.each.items client ≡ Some counted → IfOk result (λ number. (number ≡ counted.count + 1) × (counted.closed ≡ false)) }
-        ensures err { (counted : Counted) → slice_get self.now.each.items client ≡ Some counted
-            → IfErr result (λ fault. ((fault ≡ FaultNumber.ClientClosed) × (counted.closed ≡ true)) ⊎ (fault ≡ FaultNumber.OutOfMemory)) }
+    pub(crate) fn next(&self, client: u16) -> Result<(u32, u64), FaultNumber>
+        ensures ok { (reached : Reached) → slice_get self.now.each.items client ≡ Some reached → IfOk result (λ next. (next.0 ≡ session_wanted reached) × (next.1 ≡ number_wanted reached) × (reached.closed ≡ false)) }
+        ensures err { (reached : Reached) → slice_get self.now.each.items client ≡ Some reached
+            → IfErr result (λ fault. ((fault ≡ FaultNumber.ClientClosed) × (reached.closed ≡ true)) ⊎ (fault ≡ FaultNumber.OutOfMemory)) }
     {
         let place = usize::from(client);
         if place >= self.each.len() {
             return Err(FaultNumber::OutOfMemory);
         }
-        let Sending { count, closed } = self.each[place];
+        let Standing {
+            session,
+            last,
+            closed,
+        } = self.each[place];
         if closed {
             return Err(FaultNumber::ClientClosed);
         }
-        count.checked_add(1).ok_or(FaultNumber::OutOfMemory)
+        match last.checked_add(1) {
+            Some(number) => Ok((session, number)),
+            None => Err(FaultNumber::OutOfMemory),
+        }
     }
 
-    /// Notes that a client sent its transaction of this number.
-    pub(crate) fn note(&mut self, client: u16, number: u64, op: &Op)
-        ensures { self.new.each.items ≡ set self.old.each.items client (record { count = number; closed = is_close op.now }) }
+    /// Notes that a client sent this transaction.
+    pub(crate) fn note(&mut self, client: u16, session: u32, number: u64, op: &Op)
+        ensures { self.new.each.items ≡ set self.old.each.items client (record { session = session; last = number; closed = is_close op.now }) }
     {
         let place = usize::from(client);
         if place < self.each.len() {
-            self.each[place] = Sending {
-                count: number,
+            self.each[place] = Standing {
+                session,
+                last: number,
                 closed: matches!(op, Op::Close),
             };
         }
+    }
+
+    /// A closed client begins its next session.
+    ///
+    /// `NotClosed` (6) where it has not sent its close; `TooLong` (4) behind the last session that there is.
+    pub(crate) fn begin(&mut self, client: u16) -> Result<(), FaultNumber>
+        ensures ok { (reached : Reached) → slice_get self.old.each.items client ≡ Some reached → OnOk result ((reached.closed ≡ true) × (self.new.each.items ≡ set self.old.each.items client (begun_after reached))) }
+        ensures err { IfErr result (λ fault. self.new ≡ self.old) }
+        ensures cause { (reached : Reached) → slice_get self.old.each.items client ≡ Some reached
+            → IfErr result (λ fault. ((fault ≡ FaultNumber.NotClosed) × (reached.closed ≡ false)) ⊎ (((fault ≡ FaultNumber.TooLong) × (reached.closed ≡ true)) ⊎ (fault ≡ FaultNumber.OutOfMemory))) }
+    {
+        let place = usize::from(client);
+        if place >= self.each.len() {
+            return Err(FaultNumber::OutOfMemory);
+        }
+        let Standing {
+            session,
+            closed,
+            ..
+        } = self.each[place];
+        if !closed {
+            return Err(FaultNumber::NotClosed);
+        }
+        let Some(session) = session.checked_add(1) else {
+            return Err(FaultNumber::TooLong);
+        };
+        self.each[place] = Standing {
+            session,
+            last: 0,
+            closed: false,
+        };
+        Ok(())
     }
 }

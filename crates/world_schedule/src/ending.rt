@@ -80,6 +80,7 @@ fn put_items(alloc: Global, items: &mut Vec<Item>, txs: &[Tx]) -> Result<(), All
     for tx in txs {
         items.push(Item {
             client: tx.client,
+            session: tx.session,
             number: tx.number,
             op: tx.op.copy(alloc)?,
         })?;

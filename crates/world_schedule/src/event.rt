@@ -22,6 +22,8 @@ pub struct Failing {
 pub enum Event {
     /// A client sends its next number, with right tags. The message is numbered.
     Send(u64, Op),
+    /// A client that sent its close begins its next session. Nothing is told of it.
+    Open(u64),
     /// The message of this number comes to a correct validator.
     Deliver(u64, u64),
     /// Each message that was released before comes to each correct validator but its sender to which it hasn't been

@@ -31,6 +31,7 @@ impl Stage {
     {
         match event {
             Event::Send(client, op) => self.send(*client, op),
+            Event::Open(client) => self.begin(*client),
             Event::Deliver(number, validator) => self.deliver(*number, *validator),
             Event::Pass => self.pass(),
             Event::Timeout(validator, timeout) => self.turn(*validator, Request::Expire(*timeout)),
@@ -146,11 +147,11 @@ impl Stage {
         ensures cause { (cast : Cast) (w : Course) → IsAt cast w self.old → IfErr result (λ fault. CannotHappen fault cast w.scene.standing (events.Send client op.now)) }
     {
         let sender = self.parties.client_at(client)?;
-        let number = self.clients.next(sender)?;
-        let frame = self.frame_of(sender, number, op)?;
+        let (session, number) = self.clients.next(sender)?;
+        let frame = self.frame_of(sender, session, number, op)?;
         match self.chronicle.tell_message(None, &frame) {
             Ok(()) => {
-                self.clients.note(sender, number, op);
+                self.clients.note(sender, session, number, op);
                 Ok(())
             }
             Err(_) => Err(FaultNumber::OutOfMemory),
@@ -158,18 +159,35 @@ impl Stage {
     }
 
     /// The frame of a client's transaction.
-    fn frame_of(&self, client: u16, number: u64, op: &Op) -> Result<Vec<u8>, FaultNumber>
-        ensures frame { IfOk result (λ frame. SpellsFrame frame.items (tagged (setting_of self.now.parties) (said_as (record { client = client; number = number; op = op.now })))) }
+    fn frame_of(
+        &self,
+        client: u16,
+        session: u32,
+        number: u64,
+        op: &Op,
+    ) -> Result<Vec<u8>, FaultNumber>
+        ensures frame { IfOk result (λ frame. SpellsFrame frame.items (tagged (setting_of self.now.parties) (said_as (record { client = client; session = session; number = number; op = op.now })))) }
         ensures err { IfErr result IsUnspelled }
     {
         let tx = Tx {
             client,
+            session,
             number,
             op: op.copy(self.alloc)?,
             tags: Seq::new(self.alloc),
         };
         self.parties
             .frame_from(self.alloc, Party::Client(client), Body::Tx(tx))
+    }
+
+    /// A closed client begins its next session.
+    fn begin(&mut self, client: u64) -> Result<(), FaultNumber>
+        ensures ok { (cast : Cast) (w : Course) → IsAt cast w self.old → OnOk result (HasActed cast w (events.Open client) self.old self.new) }
+        ensures err { IfErr result (λ fault. fault ≢ FaultNumber.OutOfMemory → self.new ≡ self.old) }
+        ensures cause { (cast : Cast) (w : Course) → IsAt cast w self.old → IfErr result (λ fault. CannotHappen fault cast w.scene.standing (events.Open client)) }
+    {
+        let sender = self.parties.client_at(client)?;
+        self.clients.begin(sender)
     }
 
     /// A message comes to a validator.

@@ -24,7 +24,7 @@ impl Validator {
         ensures up { IfOk result (λ validator. IsUp (setting_of parties.now) beginning validator) }
         ensures number { IfOk result (λ validator. validator.number ≡ number) }
     {
-        // There are 2 to 64 validators.
+        // There are 2 to 128 validators.
         let _count = parties.count();
         let ring = parties.ring_of(alloc, number)?;
         let powers = parties.powers().copy(alloc)?;

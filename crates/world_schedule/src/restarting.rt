@@ -227,7 +227,7 @@ fn core_over(
     let Ok(powers) = parties.powers().copy(alloc) else {
         return Err(starved(store));
     };
-    // There are 2 to 64 validators.
+    // There are 2 to 128 validators.
     let _count = parties.count();
     let opened = Journal::open(alloc, store, number, &powers)?;
     match NodeCore::open(alloc, Config { me: number, powers }, ring, opened) {

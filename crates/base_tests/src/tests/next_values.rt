@@ -20,6 +20,7 @@ fn tx(alloc: Global, client: u16, number: u64, closes: bool) -> Result<Tx, Fail>
     tags.push([9; 32])?;
     Ok(Tx {
         client,
+        session: 0,
         number,
         op,
         tags,

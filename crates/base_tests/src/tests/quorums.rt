@@ -41,16 +41,19 @@ fn assert_numbers(rt: &impl Abort, powers: &Powers) {
     members[0] = true;
     members[2] = true;
     members[3] = true;
-    members[63] = true;
+    members[127] = true;
     assert_eq!(rt; powers.power_of_set(&members), 7);
 }
 
+/// Whether powers 5, 3 and 2 propose five, three and two times in ten heights or rounds in a row.
 fn assert_turns(rt: &impl Abort, powers: &Powers) {
-    assert_eq!(rt; powers.proposer(0, 0), 0);
-    assert_eq!(rt; powers.proposer(1, 1), 2);
-    assert_eq!(rt; powers.proposer(2, 1), 0);
-    // 2^64 - 1 and 2^32 - 1 are multiples of 3.
+    for (number, proposer) in [(0u32, 0), (4, 0), (5, 1), (7, 1), (8, 2), (9, 2), (10, 0)] {
+        assert_eq!(rt; powers.proposer(u64::from(number), 0), proposer);
+        assert_eq!(rt; powers.proposer(0, number), proposer);
+    }
+    // 2^64 - 1 ends in 5, and so does 2^32 - 1.
     assert_eq!(rt; powers.proposer(u64::MAX, u32::MAX), 0);
+    assert_eq!(rt; powers.proposer(u64::MAX, 3), 2);
 }
 
 #[test]
@@ -63,18 +66,32 @@ fn validators(rt: HostRuntime) -> Result<(), Fail> {
 }
 
 #[test]
+fn proposers(rt: HostRuntime) -> Result<(), Fail> {
+    let equal = powers_of(rt.alloc(), &[1; 128])?;
+    assert_eq!(rt; equal.proposer(127, 0), 127);
+    assert_eq!(rt; equal.proposer(127, 1), 0);
+    let great = powers_of(rt.alloc(), &[u32::MAX; 128])?;
+    assert_eq!(rt; great.proposer(4_294_967_294, 0), 0);
+    assert_eq!(rt; great.proposer(4_294_967_294, 1), 1);
+    assert_eq!(rt; great.proposer(549_755_813_759, 0), 127);
+    assert_eq!(rt; great.total(), 549_755_813_760);
+    assert_eq!(rt; great.proposer(great.total(), 0), 0);
+    Ok(())
+}
+
+#[test]
 fn faults(rt: HostRuntime) -> Result<(), Fail> {
     let alloc = rt.alloc();
     assert_eq!(rt; fault_of(alloc, &[])?, Some(PowersFault::Empty));
-    assert_eq!(rt; fault_of(alloc, &[1; 65])?, Some(PowersFault::TooMany));
-    assert_eq!(rt; fault_of(alloc, &[0; 65])?, Some(PowersFault::TooMany));
-    assert_eq!(rt; fault_of(alloc, &[1; 64])?, None);
+    assert_eq!(rt; fault_of(alloc, &[1; 129])?, Some(PowersFault::TooMany));
+    assert_eq!(rt; fault_of(alloc, &[0; 129])?, Some(PowersFault::TooMany));
+    assert_eq!(rt; fault_of(alloc, &[1; 128])?, None);
     assert_eq!(rt; fault_of(alloc, &[1, 0, 1])?, Some(PowersFault::ZeroPower));
     assert_eq!(rt; fault_of(alloc, &[0, 9])?, Some(PowersFault::ZeroPower));
     assert_eq!(rt; fault_of(alloc, &[7, 3])?, Some(PowersFault::Dominant));
     assert_eq!(rt; fault_of(alloc, &[1])?, Some(PowersFault::Dominant));
     assert_eq!(rt; fault_of(alloc, &[2, 1])?, None);
-    assert_eq!(rt; fault_of(alloc, &[u32::MAX; 64])?, None);
+    assert_eq!(rt; fault_of(alloc, &[u32::MAX; 128])?, None);
     Ok(())
 }
 

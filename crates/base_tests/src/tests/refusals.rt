@@ -5,7 +5,7 @@ use std::alloc::{AllocError, Global};
 use std::process::Abort;
 
 /// Each refusal with its number, and its inner fault's.
-const NUMBERS: [(Refusal, u8, u8); 26] = [
+const NUMBERS: [(Refusal, u8, u8); 27] = [
     (Refusal::Truncated, 1, 0),
     (Refusal::TooLong, 2, 0),
     (Refusal::BadKind, 3, 0),
@@ -25,6 +25,7 @@ const NUMBERS: [(Refusal, u8, u8); 26] = [
     (Refusal::Submit(SubmitFault::Closed), 13, 5),
     (Refusal::Submit(SubmitFault::QueueFull), 13, 6),
     (Refusal::Submit(SubmitFault::TooLong), 13, 7),
+    (Refusal::Submit(SubmitFault::SessionAhead), 13, 9),
     (Refusal::Bundle(JudgeFault::NoQuorum), 14, 1),
     (Refusal::Bundle(JudgeFault::WrongDigest), 14, 2),
     (Refusal::Bundle(JudgeFault::BadTag), 14, 3),
@@ -73,7 +74,7 @@ fn faults_are_numbered_and_shown(rt: HostRuntime) {
             "the number is delivered or queued",
         ),
         (SubmitFault::Gap, 4, "a number before it is missing"),
-        (SubmitFault::Closed, 5, "the client has closed"),
+        (SubmitFault::Closed, 5, "the session is closed"),
         (
             SubmitFault::QueueFull,
             6,
@@ -81,6 +82,11 @@ fn faults_are_numbered_and_shown(rt: HostRuntime) {
         ),
         (SubmitFault::TooLong, 7, "the transaction is too long"),
         (SubmitFault::OutOfMemory, 8, "out of memory"),
+        (
+            SubmitFault::SessionAhead,
+            9,
+            "a session before it is not closed",
+        ),
     ];
     assert_told(&rt, rt.alloc(), told);
 }

@@ -64,7 +64,7 @@ fn bytes_after_the_end(rt: HostRuntime) {
 
 #[test]
 fn unknown_kinds(rt: HostRuntime) {
-    for kind in &[0x00u8, 0x02, 0x0f, 0x15, 0x7f, 0xff] {
+    for kind in &[0x00u8, 0x03, 0x0f, 0x15, 0x7f, 0xff] {
         assert_fault(&rt, body_fault(rt.alloc(), &[*kind]), Fault::BadKind);
     }
 }
@@ -76,8 +76,8 @@ fn flag_of_a_vote(rt: HostRuntime) {
 
 #[test]
 fn counts_of_precommits(rt: HostRuntime) {
-    assert_fault_behind(&rt, rt.alloc(), &BUNDLE_FRONT, &[65], Fault::TooLong);
-    assert_fault_behind(&rt, rt.alloc(), &BUNDLE_FRONT, &[64], Fault::Truncated);
+    assert_fault_behind(&rt, rt.alloc(), &BUNDLE_FRONT, &[129], Fault::TooLong);
+    assert_fault_behind(&rt, rt.alloc(), &BUNDLE_FRONT, &[128], Fault::Truncated);
 }
 
 /// Whether a bundle without precommits is read, and spelled so.
@@ -105,7 +105,7 @@ fn tags_of_precommits(rt: HostRuntime) {
         &rt,
         rt.alloc(),
         &BUNDLE_FRONT,
-        &[1, 0, 3, 65],
+        &[1, 0, 3, 129],
         Fault::TooLong,
     );
 }
@@ -124,12 +124,12 @@ fn assert_no_bundles(rt: &impl Abort, alloc: Global, cases: &[(usize, usize, usi
 #[test]
 fn bundles_without_spelling(rt: HostRuntime) {
     let cases = &[
-        (0, 65, 1, Fault::TooLong),
+        (0, 129, 1, Fault::TooLong),
         (0, 1, 0, Fault::BadSpelling),
-        (0, 1, 65, Fault::TooLong),
+        (0, 1, 129, Fault::TooLong),
         // The value stands before the precommits, and the count before the tags.
-        (162, 1, 0, Fault::TooLong),
-        (0, 65, 0, Fault::TooLong),
+        (98, 1, 0, Fault::TooLong),
+        (0, 129, 0, Fault::TooLong),
     ];
     assert_no_bundles(&rt, rt.alloc(), cases);
 }
@@ -175,6 +175,7 @@ fn valid_rounds(rt: HostRuntime) {
 fn close_of(alloc: Global, client: u16, number: u64, tags: usize) -> Result<Body, AllocError> {
     Ok(Body::Tx(Tx {
         client,
+        session: 0,
         number,
         op: Op::Close,
         tags: nines(alloc, tags)?,

@@ -140,7 +140,7 @@ fn tags_behind_a_body(rt: HostRuntime) {
     assert_fault(&rt, none, Fault::Truncated);
     let no_tag = fault_of_parts(rt.alloc(), 0x11, &PREVOTE, &[0]);
     assert_fault(&rt, no_tag, Fault::BadSpelling);
-    let too_many = fault_of_parts(rt.alloc(), 0x11, &PREVOTE, &[65]);
+    let too_many = fault_of_parts(rt.alloc(), 0x11, &PREVOTE, &[129]);
     assert_fault(&rt, too_many, Fault::TooLong);
 }
 
@@ -160,7 +160,7 @@ fn byte_behind_the_tags(rt: HostRuntime) {
 #[test]
 fn messages_without_spelling(rt: HostRuntime) {
     assert_fault(&rt, prevote_frame(rt.alloc(), 0).err(), Fault::BadSpelling);
-    assert_fault(&rt, prevote_frame(rt.alloc(), 65).err(), Fault::TooLong);
+    assert_fault(&rt, prevote_frame(rt.alloc(), 129).err(), Fault::TooLong);
 }
 
 /// A proposal of the empty value, without a spelling.
@@ -178,7 +178,7 @@ fn unspellable(alloc: Global) -> Result<Proposal, AllocError> {
 
 /// A message with that proposal and too many tags.
 fn unspellable_message(alloc: Global) -> Result<Message, AllocError> {
-    let tags = nines(alloc, 65)?;
+    let tags = nines(alloc, 129)?;
     Ok(Message {
         body: Body::Proposal(unspellable(alloc)?),
         tags,

@@ -51,8 +51,8 @@ fn codes_and_inner_numbers(rt: HostRuntime) {
         (14, 1, Some(Fault::BadSpelling)),
         (13, 0, Some(Fault::BadSpelling)),
         (13, 1, None),
-        (13, 8, None),
-        (13, 9, Some(Fault::BadSpelling)),
+        (13, 9, None),
+        (13, 10, Some(Fault::BadSpelling)),
     ];
     assert_codes(&rt, cases);
 }

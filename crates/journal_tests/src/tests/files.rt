@@ -15,10 +15,10 @@ const OTHER_FOLDER: &str = "journal_file_refusals";
 
 const OTHER_PATH: &str = "journal_file_refusals/journal";
 
-/// The header and the records of validator 2's prevotes for nil in rounds 0 and 1.
-const BYTES: [u8; 46] = [
-    0x54, 0x4d, 0x4a, 0x31, 0, 0, 0, 0x11, 1, 0x11, 0, 0, 0, 0, 0, 0, 0, 0, 0, 0, 0, 0, 0, 2, 0, 0,
-    0, 0, 0x11, 1, 0x11, 0, 0, 0, 0, 0, 0, 0, 0, 0, 0, 0, 1, 0, 2, 0,
+/// The header, the mark and the records of validator 2's prevotes for nil in rounds 0 and 1.
+const BYTES: [u8; 55] = [
+    0x54, 0x4d, 0x4a, 0x31, 0, 0, 0, 5, 4, 0, 0, 0, 2, 0, 0, 0, 0x11, 1, 0x11, 0, 0, 0, 0, 0, 0, 0,
+    0, 0, 0, 0, 0, 0, 2, 0, 0, 0, 0, 0x11, 1, 0x11, 0, 0, 0, 0, 0, 0, 0, 0, 0, 0, 0, 1, 0, 2, 0,
 ];
 
 fn prevote(round: u32) -> Record {
@@ -65,20 +65,20 @@ fn holds(rt: &HostRuntime, bytes: &[u8]) -> Result<bool, Fail> {
 
 /// How many records are whole in so many bytes.
 fn whole_records(len: usize) -> usize {
-    len.saturating_sub(4) / 21
+    len.saturating_sub(13) / 21
 }
 
 /// Whether the first bytes, so many, open with the records that are whole in them, and just these are kept.
 fn opens_cut(rt: &HostRuntime, powers: &Powers, len: usize) -> Result<bool, Fail> {
     let whole = whole_records(len);
-    let kept = whole.saturating_mul(21).saturating_add(4);
-    fs::write(rt, PATH, &BYTES[..len.min(46)])?;
-    Ok(count(rt, powers)? == whole && holds(rt, &BYTES[..kept.min(46)])?)
+    let kept = whole.saturating_mul(21).saturating_add(13);
+    fs::write(rt, PATH, &BYTES[..len.min(55)])?;
+    Ok(count(rt, powers)? == whole && holds(rt, &BYTES[..kept.min(55)])?)
 }
 
 fn opens_cut_anywhere(rt: &HostRuntime) -> Result<bool, Fail> {
     let powers = powers(rt)?;
-    for len in 0..47 {
+    for len in 0..56 {
         if !opens_cut(rt, &powers, len)? {
             return Ok(false);
         }

@@ -10,6 +10,12 @@ use vote_journal::{Journal, MemoryStore, NotOpened, Opened, read_record, spell_r
 
 const HEADER: [u8; 4] = *b"TMJ1";
 
+/// The header and the mark, of which a journal without records consists.
+const MARKED: [u8; 13] = *b"TMJ1\0\0\0\x05\x04\0\0\0\x02";
+
+/// The header and the first byte of the mark.
+const HARDLY_MARKED: [u8; 5] = *b"TMJ1\0";
+
 /// The record of a prevote for nil by validator 2 at height 0 and round 0.
 const PREVOTE: [u8; 21] = [
     0, 0, 0, 0x11, 1, 0x11, 0, 0, 0, 0, 0, 0, 0, 0, 0, 0, 0, 0, 0, 2, 0,
@@ -30,6 +36,7 @@ fn one_byte(alloc: Global, number: u64) -> Result<Tx, AllocError> {
     contents.push(b'a')?;
     Ok(Tx {
         client: 7,
+        session: 0,
         number,
         op: Op::Bytes(contents),
         tags: tags(alloc)?,
@@ -96,7 +103,7 @@ fn decision(alloc: Global, number: u64) -> Result<Vec<u8>, Fail> {
 
 /// The journal of validator 3 that prevoted and precommitted the value and decided at height 0.
 fn decided(alloc: Global) -> Result<Vec<u8>, Fail> {
-    let mut bytes = HEADER.to_vec(alloc)?;
+    let mut bytes = MARKED.to_vec(alloc)?;
     bytes.extend_from_slice(&prevote(alloc)?)?;
     bytes.extend_from_slice(&precommit(alloc)?)?;
     bytes.extend_from_slice(&decision(alloc, 1)?)?;
@@ -203,16 +210,16 @@ fn changed(alloc: Global, bytes: &[u8], at: usize, byte: u8) -> Result<Vec<u8>, 
     Ok(all)
 }
 
-/// A header and these bytes.
-fn behind_header(alloc: Global, bytes: &[u8]) -> Result<Vec<u8>, AllocError> {
-    let mut all = HEADER.to_vec(alloc)?;
+/// A header, the mark and these bytes.
+fn behind_mark(alloc: Global, bytes: &[u8]) -> Result<Vec<u8>, AllocError> {
+    let mut all = MARKED.to_vec(alloc)?;
     all.extend_from_slice(bytes)?;
     Ok(all)
 }
 
-/// The fault of opening the journal of validator 2 with these bytes behind the header.
+/// The fault of opening the journal of validator 2 with these bytes behind the mark.
 fn fault_of(alloc: Global, bytes: &[u8]) -> Result<u8, Fail> {
-    let all = behind_header(alloc, bytes)?;
+    let all = behind_mark(alloc, bytes)?;
     Ok(opened(alloc, &all, 2)?.fault)
 }
 
@@ -280,17 +287,17 @@ fn opens_cut(
 
 /// Whether a prevote that was cut short is cut away, and a save then adds it.
 fn saves_behind_a_cut(alloc: Global) -> Result<bool, Fail> {
-    let whole = behind_header(alloc, &PREVOTE)?;
-    let torn = &whole.as_slice()[..whole.len().min(9)];
+    let whole = behind_mark(alloc, &PREVOTE)?;
+    let torn = &whole.as_slice()[..whole.len().min(18)];
     Ok(
-        has_opened(&opened(alloc, torn, 2)?, 0, 0, &HEADER)
+        has_opened(&opened(alloc, torn, 2)?, 0, 0, &MARKED)
             && has_opened(&save_at(alloc, torn, 0)?, 0, 0, &whole),
     )
 }
 
 fn opens_headers(alloc: Global) -> Result<bool, Fail> {
-    for len in 0..5 {
-        if !has_opened(&opened(alloc, &HEADER[..len], 2)?, 0, 0, &HEADER) {
+    for len in 0..14 {
+        if !has_opened(&opened(alloc, &MARKED[..len], 2)?, 0, 0, &MARKED) {
             return Ok(false);
         }
     }
@@ -321,10 +328,11 @@ fn has_no_records(alloc: Global, bytes: &[u8]) -> Result<bool, Fail> {
 /// Whether a journal without records is told from one with an own message and from one with a decision.
 fn nothing_is_told(alloc: Global) -> Result<bool, Fail> {
     let decided = decided(alloc)?;
-    let said = &decided.as_slice()[..57.min(decided.len())];
+    let said = &decided.as_slice()[..66.min(decided.len())];
     Ok(
         has_no_records(alloc, &[])?
             && has_no_records(alloc, &HEADER)?
+            && has_no_records(alloc, &MARKED)?
             && !has_no_records(alloc, said)?
             && !has_no_records(alloc, &decided)?,
     )
@@ -339,7 +347,7 @@ fn refuses_repeats(alloc: Global) -> Result<bool, Fail> {
 
 /// The fault of opening a journal that has only the decision of the transaction of this number.
 fn fault_of_decision(alloc: Global, number: u64) -> Result<u8, Fail> {
-    let bytes = behind_header(alloc, &decision(alloc, number)?)?;
+    let bytes = behind_mark(alloc, &decision(alloc, number)?)?;
     Ok(opened(alloc, &bytes, 3)?.fault)
 }
 
@@ -359,7 +367,7 @@ fn fails_opening(alloc: Global, bytes: &[u8], failing: u64, left: &[u8]) -> Resu
 
 /// Whether a save fails where the call of this number does, and what is left then opens with so many own messages.
 fn fails_saving(alloc: Global, failing: u64, len: usize, own: usize) -> Result<bool, Fail> {
-    let failed = save_at(alloc, &HEADER, failing)?;
+    let failed = save_at(alloc, &MARKED, failing)?;
     let again = opened(alloc, &failed.bytes, 2)?;
     Ok(failed.fault == 1 && failed.failed && failed.bytes.len() == len && again.own == own)
 }
@@ -382,13 +390,39 @@ fn lengths_are_judged(alloc: Global) -> Result<bool, Fail> {
     )
 }
 
+/// Another mark than the one that there is, and that one twice.
+fn marks_are_judged(alloc: Global) -> Result<bool, Fail> {
+    Ok(
+        fault_of(alloc, &[0, 0, 0, 5, 4, 0, 0, 0, 3])? == 3
+            && fault_of(alloc, &[0, 0, 0, 5, 4, 0, 0, 0, 2])? == 3,
+    )
+}
+
+/// Whether the first bytes of the journal that decided, whose mark is taken away, open with the decision, and have the mark at
+/// their end.
+fn old_journal_is_marked(alloc: Global) -> Result<bool, Fail> {
+    let marked = decided(alloc)?;
+    let mut old = HEADER.to_vec(alloc)?;
+    old.extend_from_slice(&marked.as_slice()[13.min(marked.len())..])?;
+    let mut wanted = old.as_slice().to_vec(alloc)?;
+    wanted.extend_from_slice(&MARKED[4..])?;
+    for len in 848..858 {
+        let bytes = &wanted.as_slice()[..len.min(wanted.len())];
+        if !has_opened(&opened(alloc, bytes, 3)?, 1, 0, &wanted) {
+            return Ok(false);
+        }
+    }
+    Ok(old.len() == 848)
+}
+
 fn kinds_are_judged(alloc: Global) -> Result<bool, Fail> {
     // A kind that no record has; then a precommit for a value as one for nil, a bundle as an own message, and a prevote as
     // a decision.
     Ok(
-        fault_of(alloc, &[0, 0, 0, 5, 4, 0, 0, 0, 2])? == 3
+        fault_of(alloc, &[0, 0, 0, 5, 5, 0, 0, 0, 2])? == 3
+            && marks_are_judged(alloc)?
             && refuses_a_lock_of_nil(alloc)?
-            && refuses_each(alloc, &[(61, 1), (260, 1), (8, 3)])?,
+            && refuses_each(alloc, &[(70, 1), (269, 1), (17, 3)])?,
     )
 }
 
@@ -399,14 +433,14 @@ fn messages_are_judged(alloc: Global) -> Result<bool, Fail> {
         fault_of(alloc, &PREVOTE)? == 0
             && refuses_prevotes(alloc, &[(19, 1), (13, 1), (20, 2)])?
             && refuses_repeats(alloc)?
-            && refuses_each(alloc, &[(255, 8)])?,
+            && refuses_each(alloc, &[(264, 8)])?,
     )
 }
 
 fn decisions_are_judged(alloc: Global) -> Result<bool, Fail> {
     // Another height, another sender, another id; then senders 0, 0, 3, senders 0, 4, 3, and senders 0, 1, 4, of which
     // the last has no power; then a value that may not be delivered next.
-    let changes = [(269, 1), (271, 2), (276, 0), (587, 0), (587, 4), (718, 4)];
+    let changes = [(278, 1), (280, 2), (285, 0), (596, 0), (596, 4), (727, 4)];
     Ok(
         refuses_each(alloc, &changes)?
             && fault_of_decision(alloc, 2)? == 3
@@ -415,26 +449,32 @@ fn decisions_are_judged(alloc: Global) -> Result<bool, Fail> {
 }
 
 fn openings_fail(alloc: Global) -> Result<bool, Fail> {
-    // What is cut short is cut, and then all is synced. A whole journal is synced all the same, and nothing else is done.
+    // What is cut short is cut, the header and the mark are added where they are missing, and then all is synced. A whole
+    // journal is synced all the same, and nothing else is done.
     let torn = b"TMJ1\0\0\0";
     Ok(
         fails_opening(alloc, &[], 1, b"T")?
-            && fails_opening(alloc, &[], 2, &HEADER)?
-            && opens_as(alloc, &[], 3, 0)?
-            && fails_opening(alloc, &HEADER, 1, &HEADER)?
-            && opens_as(alloc, &HEADER, 2, 0)?
+            && fails_opening(alloc, &[], 2, &HARDLY_MARKED)?
+            && fails_opening(alloc, &[], 3, &MARKED)?
+            && opens_as(alloc, &[], 4, 0)?
+            && fails_opening(alloc, &HEADER, 1, &HARDLY_MARKED)?
+            && fails_opening(alloc, &HEADER, 2, &MARKED)?
+            && opens_as(alloc, &HEADER, 3, 0)?
+            && fails_opening(alloc, &MARKED, 1, &MARKED)?
+            && opens_as(alloc, &MARKED, 2, 0)?
             && fails_opening(alloc, torn, 1, torn)?
-            && fails_opening(alloc, torn, 2, &HEADER)?
-            && opens_as(alloc, torn, 3, 0)?,
+            && fails_opening(alloc, torn, 2, &HARDLY_MARKED)?
+            && fails_opening(alloc, torn, 3, &MARKED)?
+            && opens_as(alloc, torn, 4, 0)?,
     )
 }
 
 fn saves_fail(alloc: Global) -> Result<bool, Fail> {
     // The sync of opening is the first call; a save appends and syncs.
     Ok(
-        fails_saving(alloc, 2, 5, 0)?
-            && fails_saving(alloc, 3, 25, 1)?
-            && save_at(alloc, &HEADER, 4)?.fault == 0,
+        fails_saving(alloc, 2, 14, 0)?
+            && fails_saving(alloc, 3, 34, 1)?
+            && save_at(alloc, &MARKED, 4)?.fault == 0,
     )
 }
 
@@ -446,19 +486,25 @@ fn worked_prevote(rt: HostRuntime) -> Result<(), Fail> {
 
 #[test]
 fn worked_sizes(rt: HostRuntime) -> Result<(), Fail> {
-    assert!(rt; sizes_are(rt.alloc(), &[53, 199, 592, 848])?);
+    assert!(rt; sizes_are(rt.alloc(), &[53, 199, 592, 857])?);
     Ok(())
 }
 
 #[test]
 fn whole_journal(rt: HostRuntime) -> Result<(), Fail> {
-    assert!(rt; opens_cut(rt.alloc(), 848, 1, 0, 848)?);
+    assert!(rt; opens_cut(rt.alloc(), 857, 1, 0, 857)?);
     Ok(())
 }
 
 #[test]
 fn decision_cut_short(rt: HostRuntime) -> Result<(), Fail> {
-    assert!(rt; opens_cut(rt.alloc(), 847, 0, 2, 256)?);
+    assert!(rt; opens_cut(rt.alloc(), 856, 0, 2, 265)?);
+    Ok(())
+}
+
+#[test]
+fn journal_without_a_mark(rt: HostRuntime) -> Result<(), Fail> {
+    assert!(rt; old_journal_is_marked(rt.alloc())?);
     Ok(())
 }
 

@@ -29,11 +29,11 @@ fn has_nil_prevote(alloc: Global) -> Result<bool, Fail> {
     }
 }
 
-/// Whether a journal in memory holds the header and what is saved.
+/// Whether a journal in memory holds the header, the mark and what is saved.
 fn saves_in_memory(alloc: Global) -> Result<bool, Fail> {
     let mut journal = Journal::in_memory(alloc, 2)?;
     let saved = journal.save(&Record::Own(nil_prevote())).is_ok();
-    Ok(saved && journal.close().bytes().len() == 25)
+    Ok(saved && journal.close().bytes().len() == 34)
 }
 
 /// Whether the save of a prevote fails where that call is struck while a journal owns the store, and so many bytes stand
@@ -80,11 +80,11 @@ fn journal_in_memory(rt: HostRuntime) -> Result<(), Fail> {
 #[test]
 fn struck_saves(rt: HostRuntime) -> Result<(), Fail> {
     // A beginning of the append stays, or all of it; then the sync is struck; and no call, or one that doesn't come.
-    assert!(rt; fails_saving(rt.alloc(), 1, 10, 14)?);
-    assert!(rt; fails_saving(rt.alloc(), 1, 22, 25)?);
-    assert!(rt; fails_saving(rt.alloc(), 2, 0, 25)?);
-    assert!(rt; !fails_saving(rt.alloc(), 0, 0, 25)?);
-    assert!(rt; !fails_saving(rt.alloc(), 3, 0, 25)?);
+    assert!(rt; fails_saving(rt.alloc(), 1, 10, 23)?);
+    assert!(rt; fails_saving(rt.alloc(), 1, 22, 34)?);
+    assert!(rt; fails_saving(rt.alloc(), 2, 0, 34)?);
+    assert!(rt; !fails_saving(rt.alloc(), 0, 0, 34)?);
+    assert!(rt; !fails_saving(rt.alloc(), 3, 0, 34)?);
     Ok(())
 }
 

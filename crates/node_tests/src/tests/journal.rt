@@ -75,21 +75,21 @@ fn saved_bytes(rt: &impl Abort, alloc: Global) -> Result<usize, Fail> {
 
 #[test]
 fn what_is_said_is_saved_first(rt: HostRuntime) -> Result<(), Fail> {
-    // The header, and the record of a prevote for a value: its length, its kind and its body.
-    assert_eq!(&rt; saved_bytes(&rt, rt.alloc())?, 4 + 4 + 1 + 48);
+    // The header, the mark, and the record of a prevote for a value: its length, its kind and its body.
+    assert_eq!(&rt; saved_bytes(&rt, rt.alloc())?, 4 + 9 + 4 + 1 + 48);
     Ok(())
 }
 
 #[test]
 fn a_failed_append_halts(rt: HostRuntime) -> Result<(), Fail> {
-    let mut node = Node::failing(&rt, rt.alloc(), 3, 10)?;
+    let mut node = Node::failing(&rt, rt.alloc(), 4, 10)?;
     assert_eq!(&rt; node.prevotes(&rt)?, Err(Refusal::JournalFailed));
     node.has_halted_for_good(&rt)
 }
 
 #[test]
 fn a_failed_sync_halts(rt: HostRuntime) -> Result<(), Fail> {
-    let mut node = Node::failing(&rt, rt.alloc(), 4, 0)?;
+    let mut node = Node::failing(&rt, rt.alloc(), 5, 0)?;
     assert_eq!(&rt; node.prevotes(&rt)?, Err(Refusal::JournalFailed));
     node.has_halted_for_good(&rt)
 }

@@ -26,8 +26,16 @@ v2 v3 4444444444444444444444444444444444444444444444444444444444444444
 ";
 
 /// Validator 2's journal of one record: its prevote for nil at height 0 and round 0.
-const NIL_PREVOTE: [u8; 25] = [
-    0x54, 0x4d, 0x4a, 0x31, 0, 0, 0, 0x11, 0x01, 0x11, 0, 0, 0, 0, 0, 0, 0, 0, 0, 0, 0, 0, 0, 2, 0,
+const NIL_PREVOTE: [u8; 34] = [
+    0x54, 0x4d, 0x4a, 0x31, 0, 0, 0, 5, 4, 0, 0, 0, 2, 0, 0, 0, 0x11, 0x01, 0x11, 0, 0, 0, 0, 0, 0,
+    0, 0, 0, 0, 0, 0, 0, 2, 0,
+];
+
+/// Validator 2's journal of one record: its proposal of the empty value at height 0 and round 0, saved while that round was its
+/// own to propose in. Now it is validator 0's.
+const OTHERS_ROUND: [u8; 30] = [
+    0x54, 0x4d, 0x4a, 0x31, 0, 0, 0, 0x16, 0x01, 0x10, 0, 0, 0, 0, 0, 0, 0, 0, 0, 0, 0, 0, 0, 2, 0,
+    0, 0, 0, 0, 0,
 ];
 
 /// A node that came back, or what was opened, handed back.
@@ -218,13 +226,13 @@ fn locked_bytes(rt: &impl Abort, alloc: Global) -> Result<Vec<u8>, Fail> {
     node.stored()
 }
 
-/// What the store of a validator holds that has decided height 0: a header, the records of a prevote, of a precommit with the
+/// What the store of a validator holds that has decided height 0: a header, the mark, the records of a prevote, of a precommit with the
 /// value that it locks, and of a decision with three precommits.
 fn decided_bytes(rt: &impl Abort, alloc: Global) -> Result<Vec<u8>, Fail> {
     let mut node = Node::new(rt, alloc)?;
     node.decides(rt)?;
     let bytes = node.stored()?;
-    assert_eq!(rt; bytes.len(), 4 + 53 + 199 + 592);
+    assert_eq!(rt; bytes.len(), 13 + 53 + 199 + 592);
     Ok(bytes)
 }
 
@@ -285,11 +293,11 @@ fn a_cut_decision_is_none(rt: HostRuntime) -> Result<(), Fail> {
     node.is_locked(&rt)
 }
 
-/// What stood before the cut record is kept: the header, the prevote and the precommit.
+/// What stood before the cut record is kept: the header, the mark, the prevote and the precommit.
 #[test]
 fn a_cut_decision_is_cut_away(rt: HostRuntime) -> Result<(), Fail> {
     let left = nearly_decided(&rt, rt.alloc())?.stored()?;
-    assert_eq!(&rt; left.len(), 256);
+    assert_eq!(&rt; left.len(), 265);
     Ok(())
 }
 
@@ -305,8 +313,25 @@ fn prevotes_anew(rt: &impl Abort, core: &mut NodeCore<MemoryStore>) {
 /// The record of a prevote was cut short: it was never sent, and is saved anew.
 #[test]
 fn a_cut_vote_is_said_anew(rt: HostRuntime) -> Result<(), Fail> {
-    let mut core = node_over(&rt, rt.alloc(), KEYS_OF_2, 2, &NIL_PREVOTE[..9])?;
+    let mut core = node_over(&rt, rt.alloc(), KEYS_OF_2, 2, &NIL_PREVOTE[..18])?;
     prevotes_anew(&rt, &mut core);
     assert_eq!(&rt; core.close().bytes(), NIL_PREVOTE.as_slice());
+    Ok(())
+}
+
+/// Its proposal is kept and sent again, and no rule uses it: it prevotes as its timeout of proposals comes due.
+fn keeps_what_no_rule_uses(rt: &impl Abort, core: &mut NodeCore<MemoryStore>) {
+    assert_eq!(rt; core.resend(), Ok(()));
+    assert_eq!(rt; core.outgoing().len(), 1);
+    prevotes_anew(rt, core);
+    assert_eq!(rt; core.resend(), Ok(()));
+    assert_eq!(rt; core.outgoing().len(), 2);
+}
+
+/// Who proposes in which round may have been decided otherwise when a journal was begun.
+#[test]
+fn a_proposal_in_anothers_round_is_kept(rt: HostRuntime) -> Result<(), Fail> {
+    let mut core = node_over(&rt, rt.alloc(), KEYS_OF_2, 2, &OTHERS_ROUND)?;
+    keeps_what_no_rule_uses(&rt, &mut core);
     Ok(())
 }

@@ -24,6 +24,7 @@ impl Node {
         };
         let body = Body::Tx(Tx {
             client,
+            session: 0,
             number,
             op,
             tags: Seq::new(self.alloc),

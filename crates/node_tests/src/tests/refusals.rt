@@ -35,8 +35,8 @@ const ENDS_OF_A_PREVOTE: [(u8, &[u8], Refusal); 9] = [
     (20, &[1], Refusal::Truncated),
     (16, &[0], Refusal::Truncated),
     (17, &[0, 0], Refusal::BadSpelling),
-    (17, &[0, 65], Refusal::TooLong),
-    (17, &[0, 64], Refusal::Truncated),
+    (17, &[0, 129], Refusal::TooLong),
+    (17, &[0, 128], Refusal::Truncated),
     (50, &[0, 1], Refusal::BadSpelling),
     (49, &[0, 1], Refusal::UnknownSender),
 ];

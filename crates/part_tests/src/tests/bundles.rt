@@ -36,6 +36,7 @@ fn tx(alloc: Global, number: u64) -> Result<Tx, Fail> {
     let tags = Seq::from_vec(vec![in alloc; [9; 32]]?);
     Ok(Tx {
         client: 7,
+        session: 0,
         number,
         op: Op::Bytes(Seq::from_vec(b"a".to_vec(alloc)?)),
         tags,

@@ -116,7 +116,7 @@ fn frame_from(
 ) -> Result<Vec<u8>, Fail> {
     let body = read_body(alloc, spelled)?;
     assert!(rt; sender_of(&body) == ring.me());
-    assert!(rt; ring.count() <= 64);
+    assert!(rt; ring.count() <= 128);
     Ok(frame_for(alloc, ring, &body)?)
 }
 

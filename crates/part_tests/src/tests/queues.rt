@@ -69,6 +69,7 @@ impl Validator {
     fn tagged(&self, client: u16, number: u64, op: Op) -> Result<Tx, Fail> {
         let mut tx = Tx {
             client,
+            session: 0,
             number,
             op,
             tags: Seq::new(self.alloc),
@@ -162,6 +163,7 @@ impl Validator {
         tags.push(*tag)?;
         let tx = Tx {
             client,
+            session: 0,
             number,
             op,
             tags,
@@ -267,7 +269,7 @@ fn on_validator<F: FnOnce(&mut Validator) -> Result<(), Fail>>(
 /// Client 7 fills its queue.
 fn fill_queue(rt: &impl Abort, validator: &mut Validator) -> Result<(), Fail> {
     for number in 1..65 {
-        assert!(rt; validator.mempool.wanted(7, &validator.frontier) == number);
+        assert!(rt; validator.mempool.reached(7, &validator.frontier).last + 1 == number);
         validator.answers(rt, &[(7, number, Ok(()))])?;
     }
     assert!(rt; validator.mempool.waiting(7).len() == 64);
@@ -451,7 +453,7 @@ fn most_transactions(rt: HostRuntime) -> Result<(), Fail> {
 
 #[test]
 fn most_bytes(rt: HostRuntime) -> Result<(), Fail> {
-    assert_value(&rt, rt.alloc(), 64, 1024, 161, 497_009)
+    assert_value(&rt, rt.alloc(), 128, 1024, 97, 498_097)
 }
 
 /// Transaction 1 of client 7 waits, and 2 doesn't.

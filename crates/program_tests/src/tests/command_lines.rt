@@ -161,8 +161,8 @@ fn send_lines(rt: HostRuntime) -> Result<(), Fail> {
     assert_asked(
         &rt,
         alloc,
-        "tmnode send --id 1023 --validators 64 --keys k --to a:1 --number 281474976710656 --data 61fF",
-        "1023 to a:1 of 64, k, 281474976710656 [97, 255]",
+        "tmnode send --id 1023 --validators 128 --keys k --to a:1 --number 281474976710656 --data 61fF",
+        "1023 to a:1 of 128, k, 281474976710656 [97, 255]",
     )?;
     assert_asked(
         &rt,
@@ -225,7 +225,7 @@ fn bad_send_lines(rt: HostRuntime) -> Result<(), Fail> {
         "--id 7 --validators 4 --number 2\n--id 7 --validators 4 --number 2 --close --data 61\n\
 --id 7 --validators 4 --number 2 --data 6\n--id 7 --validators 4 --number 2 --data 6g\n\
 --id 1024 --validators 4 --number 2 --close\n--id 7 --validators 1 --number 2 --close\n\
---id 7 --validators 65 --number 2 --close\n--id 7 --validators 4 --number 0 --close\n\
+--id 7 --validators 129 --number 2 --close\n--id 7 --validators 4 --number 0 --close\n\
 --id 7 --validators 4 --number 281474976710657 --close\n--id 7 --validators 4 --close\n\
 --id 7 --validators 4 --number 2 --close --file f\n--id 7 --validators 4 --number 2 --data 61 --file f",
     )?;
@@ -242,8 +242,8 @@ fn keys_lines(rt: HostRuntime) -> Result<(), Fail> {
     assert_asked(
         &rt,
         alloc,
-        "tmnode keys --validators 64 --clients 1024 --out d/e",
-        "64 and 1024 in d/e",
+        "tmnode keys --validators 128 --clients 1024 --out d/e",
+        "128 and 1024 in d/e",
     )?;
     assert_asked(
         &rt,
@@ -261,7 +261,7 @@ fn bad_keys_lines(rt: HostRuntime) -> Result<(), Fail> {
         alloc,
         "tmnode keys ",
         "--validators 4 --clients 8\n--validators 4 --out d\n--clients 8 --out d\n--validators 1 --clients 8 --out d\n\
---validators 65 --clients 8 --out d\n--validators 4 --clients 1025 --out d\n--validators 4 --clients -1 --out d\n\
+--validators 129 --clients 8 --out d\n--validators 4 --clients 1025 --out d\n--validators 4 --clients -1 --out d\n\
 --validators 4 --clients  --out d\n--validators 4 --clients 8 --out d e\n--validators 4 --clients 8 --out d --out d\n\
 --validators 4 --clients 8 --out d --keys k\n--validators 4 --clients 8 --out",
     )

@@ -2,9 +2,9 @@
 use Rattle.powers.specs.Power.{is_quorum, is_weak, proposer}
 use Rattle.sha2.specs.Sha256.{sha256, digest_bytes, hash_after, compress, rounds, schedule, first_words}
 use Rattle.authenticators.specs.Tags.{hmac, is_right}
-use Rattle.transactions.specs.Fields.{number_bytes, mark_at, ranged, limited, repeat, whole}
+use Rattle.transactions.specs.Fields.{number_bytes, ranged, limited, repeat, whole}
 use Rattle.transactions.specs.Grammar.{tx_fields_spelling, tags_spelling, tx_spelling, value_spelling}
-use Rattle.transactions.specs.Reading.{data_at, op_after, op_at, tx_fields_at, tx_body_at, tag_count_at, tags_at, tx_at, value_at}
+use Rattle.transactions.specs.Reading.{data_at, op_after, op_at, tx_fields_at, tx_kind_at, tx_body_at, tag_count_at, tags_at, tx_at, value_at}
 use Rattle.messages.specs.Grammar.{body_spelling, proposal_spelling, vote_spelling, ask_spelling, precommit_spelling, precommits_spelling, bundle_head_spelling, bundle_spelling}
 use Rattle.messages.specs.Reading.{valid_round_at, proposal_at, content_after, content_at, vote_at, ask_at, precommit_at, precommits_at, bundle_at, body_after, body_at}
 use Rattle.messages.specs.Framing.{message_at, content_of, message_of, message_spelling, frame_spelling}
@@ -26,7 +26,7 @@ use Rattle.protocol.specs.Examples.{four, greeting, hello, proposal}
 use Rattle.protocol.specs.Witness.{honesty, impostor, prevoted, precommitted, asked, answered, Met, meeting, journal_of_0, journal_of_1, PremisesMetLaw}
 
 met : Met (run four (beginning four) meeting)
-unfolding is_quorum is_weak proposer sha256 digest_bytes hash_after compress rounds schedule first_words hmac is_right number_bytes mark_at ranged limited repeat whole tx_fields_spelling tags_spelling tx_spelling value_spelling data_at op_after op_at tx_fields_at tx_body_at tag_count_at tags_at tx_at value_at proposal_spelling vote_spelling ask_spelling precommit_spelling precommits_spelling bundle_head_spelling bundle_spelling valid_round_at proposal_at content_after content_at vote_at ask_at precommit_at precommits_at bundle_at body_after body_at message_at content_of message_of message_spelling frame_spelling id fifo valid right tx_is_right genuine below tagged pick bundle_senders certified restart
+unfolding is_quorum is_weak proposer sha256 digest_bytes hash_after compress rounds schedule first_words hmac is_right number_bytes ranged limited repeat whole tx_fields_spelling tags_spelling tx_spelling value_spelling data_at op_after op_at tx_fields_at tx_kind_at tx_body_at tag_count_at tags_at tx_at value_at proposal_spelling vote_spelling ask_spelling precommit_spelling precommits_spelling bundle_head_spelling bundle_spelling valid_round_at proposal_at content_after content_at vote_at ask_at precommit_at precommits_at bundle_at body_after body_at message_at content_of message_of message_spelling frame_spelling id fifo valid right tx_is_right genuine below tagged pick bundle_senders certified restart
 met = record { sent = refl; delivered_at_0 = refl; delivered_at_1 = refl; saved_by_0 = refl; saved_by_1 = refl; waiting = refl; released = refl }
 
 -- ---- nothing is forged
@@ -69,7 +69,7 @@ liar : {X : Type 0} → true ≡ false → X
 liar e = absurd (cc)
 
 unforged : Unforged four honesty (beginning four) meeting
-unfolding is_quorum is_weak proposer sha256 digest_bytes hash_after compress rounds schedule first_words hmac is_right number_bytes mark_at ranged limited repeat whole tx_fields_spelling tags_spelling tx_spelling value_spelling data_at op_after op_at tx_fields_at tx_body_at tag_count_at tags_at tx_at value_at proposal_spelling vote_spelling ask_spelling precommit_spelling precommits_spelling bundle_head_spelling bundle_spelling valid_round_at proposal_at content_after content_at vote_at ask_at precommit_at precommits_at bundle_at body_after body_at message_at content_of message_of message_spelling frame_spelling id fifo valid right tx_is_right genuine below tagged pick bundle_senders certified restart
+unfolding is_quorum is_weak proposer sha256 digest_bytes hash_after compress rounds schedule first_words hmac is_right number_bytes ranged limited repeat whole tx_fields_spelling tags_spelling tx_spelling value_spelling data_at op_after op_at tx_fields_at tx_kind_at tx_body_at tag_count_at tags_at tx_at value_at proposal_spelling vote_spelling ask_spelling precommit_spelling precommits_spelling bundle_head_spelling bundle_spelling valid_round_at proposal_at content_after content_at vote_at ask_at precommit_at precommits_at bundle_at body_after body_at message_at content_of message_of message_spelling frame_spelling id fifo valid right tx_is_right genuine below tagged pick bundle_senders certified restart
 unforged = (
   tt,
   tt,
@@ -162,7 +162,7 @@ few_lie : FewLie four.powers honesty.liars
 few_lie = omega arith
 
 value_of_event : (v : Value) (e : Event) → e ∈ meeting → EventHas v e → greeting ≡ v
-unfolding is_quorum is_weak proposer sha256 digest_bytes hash_after compress rounds schedule first_words hmac is_right number_bytes mark_at ranged limited repeat whole tx_fields_spelling tags_spelling tx_spelling value_spelling data_at op_after op_at tx_fields_at tx_body_at tag_count_at tags_at tx_at value_at proposal_spelling vote_spelling ask_spelling precommit_spelling precommits_spelling bundle_head_spelling bundle_spelling valid_round_at proposal_at content_after content_at vote_at ask_at precommit_at precommits_at bundle_at body_after body_at message_at content_of message_of message_spelling frame_spelling id fifo valid right tx_is_right genuine below tagged pick bundle_senders certified restart
+unfolding is_quorum is_weak proposer sha256 digest_bytes hash_after compress rounds schedule first_words hmac is_right number_bytes ranged limited repeat whole tx_fields_spelling tags_spelling tx_spelling value_spelling data_at op_after op_at tx_fields_at tx_kind_at tx_body_at tag_count_at tags_at tx_at value_at proposal_spelling vote_spelling ask_spelling precommit_spelling precommits_spelling bundle_head_spelling bundle_spelling valid_round_at proposal_at content_after content_at vote_at ask_at precommit_at precommits_at bundle_at body_after body_at message_at content_of message_of message_spelling frame_spelling id fifo valid right tx_is_right genuine below tagged pick bundle_senders certified restart
 value_of_event v e i = each_of (λ (x : Event). EventHas v x → greeting ≡ v) meeting (
   λ k. absurd k,
   (
@@ -220,7 +220,7 @@ value_of_event v e i = each_of (λ (x : Event). EventHas v x → greeting ≡ v)
 ) e i
 
 value_of_record : (v : Value) (p : ℕ) → IsCorrect four honesty p → (r : Record) → r ∈ ((run four (beginning four) meeting).nodes p).journal → RecordHas v r → greeting ≡ v
-unfolding is_quorum is_weak proposer sha256 digest_bytes hash_after compress rounds schedule first_words hmac is_right number_bytes mark_at ranged limited repeat whole tx_fields_spelling tags_spelling tx_spelling value_spelling data_at op_after op_at tx_fields_at tx_body_at tag_count_at tags_at tx_at value_at proposal_spelling vote_spelling ask_spelling precommit_spelling precommits_spelling bundle_head_spelling bundle_spelling valid_round_at proposal_at content_after content_at vote_at ask_at precommit_at precommits_at bundle_at body_after body_at message_at content_of message_of message_spelling frame_spelling id fifo valid right tx_is_right genuine below tagged pick bundle_senders certified restart
+unfolding is_quorum is_weak proposer sha256 digest_bytes hash_after compress rounds schedule first_words hmac is_right number_bytes ranged limited repeat whole tx_fields_spelling tags_spelling tx_spelling value_spelling data_at op_after op_at tx_fields_at tx_kind_at tx_body_at tag_count_at tags_at tx_at value_at proposal_spelling vote_spelling ask_spelling precommit_spelling precommits_spelling bundle_head_spelling bundle_spelling valid_round_at proposal_at content_after content_at vote_at ask_at precommit_at precommits_at bundle_at body_after body_at message_at content_of message_of message_spelling frame_spelling id fifo valid right tx_is_right genuine below tagged pick bundle_senders certified restart
 value_of_record v zero ok r i = each_of (λ (x : Record). RecordHas v x → greeting ≡ v) journal_of_0 (λ k. k, (λ k. k, (λ k. absurd k, (λ k. k, tt)))) r (subst (λ l. r ∈ l) met.saved_by_0 i)
 value_of_record v (suc zero) ok r i = each_of (λ (x : Record). RecordHas v x → greeting ≡ v) journal_of_1 (λ k. k, (λ k. k, (λ k. absurd k, tt))) r (subst (λ l. r ∈ l) met.saved_by_1 i)
 value_of_record v (suc (suc zero)) ok r i = absurd i

@@ -30,6 +30,7 @@ fn item_at(alloc: Global, position: u64) -> Result<Delivered, AllocError>
 {
     let item = Item {
         client: 7,
+        session: 0,
         number: position,
         op: Op::Bytes(Seq::from_vec(b"ab".to_vec(alloc)?)),
     };
@@ -105,6 +106,7 @@ fn first_item() -> Delivered
 {
     let item = Item {
         client: 7,
+        session: 0,
         number: 1,
         op: Op::Close,
     };

@@ -14,7 +14,7 @@ use transactions::{
 const SMALLEST: (usize, usize) = (0, 1);
 
 /// The bytes and tags of the largest transaction.
-const LARGEST: (usize, usize) = (1024, 64);
+const LARGEST: (usize, usize) = (1024, 128);
 
 /// The spelling of a transaction with this many bytes and tags.
 fn spelled_sized(alloc: Global, bytes: usize, tags: usize) -> Result<Vec<u8>, Fault> {
@@ -25,9 +25,10 @@ fn spelled_sized(alloc: Global, bytes: usize, tags: usize) -> Result<Vec<u8>, Fa
 /// Whether this is the transaction with the most of everything.
 fn is_largest(tx: &Tx) -> bool {
     tx.client == 1023
+        && tx.session == 0xffff_ffff
         && tx.number == 0x1_0000_0000_0000
         && matches!(&tx.op, Op::Bytes(contents) if contents.len() == 1024)
-        && tx.tags.len() == 64
+        && tx.tags.len() == 128
 }
 
 /// Whether these bytes spell the transaction with the most of everything, and it is spelled so.
@@ -37,10 +38,10 @@ fn spell_largest(alloc: Global, bytes: &[u8]) -> Result<bool, Fault> {
     })
 }
 
-/// Whether the transaction with the most of everything has 3,087 bytes, and is read.
+/// Whether the transaction with the most of everything has 5,139 bytes, and is read.
 fn largest_is_read(alloc: Global) -> Result<bool, Fault> {
-    let bytes = spelled_sized(alloc, 1024, 64)?;
-    Ok(bytes.len() == 3087 && spell_largest(alloc, &bytes)?)
+    let bytes = spelled_sized(alloc, 1024, 128)?;
+    Ok(bytes.len() == 5139 && spell_largest(alloc, &bytes)?)
 }
 
 #[test]
@@ -71,9 +72,10 @@ fn assert_faults_with(rt: &impl Abort, alloc: Global, cases: &[(usize, u8, Fault
 #[test]
 fn fields_out_of_range(rt: HostRuntime) {
     let cases = &[
-        // The kind, in its two neighbours.
+        // The kind, in its neighbours, and that of a later session, which would be 0.
         (0, 0, Fault::BadSpelling),
         (0, 2, Fault::BadSpelling),
+        (0, 3, Fault::BadSpelling),
         // The high byte of the client: 1,031 then.
         (1, 4, Fault::BadSpelling),
         // The number: 2^48 + 1, and 0.
@@ -97,8 +99,8 @@ fn fault_of_tag_count(alloc: Global, count: u8) -> Option<Fault> {
 #[test]
 fn tag_counts(rt: HostRuntime) {
     assert_fault(&rt, fault_of_tag_count(rt.alloc(), 0), Fault::BadSpelling);
-    assert_fault(&rt, fault_of_tag_count(rt.alloc(), 65), Fault::TooLong);
-    assert_fault(&rt, fault_of_tag_count(rt.alloc(), 64), Fault::Truncated);
+    assert_fault(&rt, fault_of_tag_count(rt.alloc(), 129), Fault::TooLong);
+    assert_fault(&rt, fault_of_tag_count(rt.alloc(), 128), Fault::Truncated);
 }
 
 /// How many bytes spell the value.
@@ -162,7 +164,8 @@ fn too_many_transactions(rt: HostRuntime) {
 fn counts_of_transactions(rt: HostRuntime) {
     assert_fault(&rt, value_fault(rt.alloc(), &[1, 1]), Fault::TooLong);
     assert_fault(&rt, value_fault(rt.alloc(), &[1, 0]), Fault::Truncated);
-    assert_fault(&rt, value_fault(rt.alloc(), &[0, 1, 2]), Fault::BadSpelling);
+    assert_fault(&rt, value_fault(rt.alloc(), &[0, 1, 2]), Fault::Truncated);
+    assert_fault(&rt, value_fault(rt.alloc(), &[0, 1, 3]), Fault::BadSpelling);
 }
 
 /// A count of the largest transactions, the size of one more, and how many bytes spell them, or why none do.
@@ -182,17 +185,17 @@ fn assert_lens(rt: &impl Abort, alloc: Global, cases: &[SizedValue]) {
 #[test]
 fn bytes_of_values(rt: HostRuntime) {
     let cases = &[
-        (160, LARGEST, Ok(497_009)),
-        (161, LARGEST, Err(Fault::TooLong)),
-        (161, (1024, 61), Ok(500_000)),
-        (161, (993, 62), Err(Fault::TooLong)),
+        (96, LARGEST, Ok(498_485)),
+        (97, LARGEST, Err(Fault::TooLong)),
+        (97, (1016, 15), Ok(500_000)),
+        (97, (1017, 15), Err(Fault::TooLong)),
     ];
     assert_lens(&rt, rt.alloc(), cases);
 }
 
 #[test]
 fn most_bytes(rt: HostRuntime) {
-    assert!(rt; count_of_value_of(rt.alloc(), 161, LARGEST, (1024, 61)) == Ok(162));
+    assert!(rt; count_of_value_of(rt.alloc(), 97, LARGEST, (1016, 15)) == Ok(98));
 }
 
 /// Adds so many like transactions with this many bytes and tags.
@@ -210,11 +213,11 @@ fn put_spelled(
     Ok(())
 }
 
-/// The bytes of a value with 161 of the largest transactions and one of 2,992 bytes: 500,001 in all.
+/// The bytes of a value with 97 of the largest transactions and one of 1,516 bytes: 500,001 in all.
 fn too_many_bytes(alloc: Global) -> Result<Vec<u8>, Fault> {
-    let mut bytes = [0, 162].to_vec(alloc)?;
-    put_spelled(&mut bytes, alloc, 161, 1024, 64)?;
-    put_spelled(&mut bytes, alloc, 1, 993, 62)?;
+    let mut bytes = [0, 98].to_vec(alloc)?;
+    put_spelled(&mut bytes, alloc, 97, 1024, 128)?;
+    put_spelled(&mut bytes, alloc, 1, 1017, 15)?;
     Ok(bytes)
 }
 
@@ -243,6 +246,7 @@ fn value_that_passes_its_limit(rt: HostRuntime) {
 fn close_of(alloc: Global, client: u16, number: u64, tags: usize) -> Result<Tx, AllocError> {
     Ok(Tx {
         client,
+        session: 0,
         number,
         op: Op::Close,
         tags: nines(alloc, tags)?,
@@ -273,7 +277,7 @@ fn things_without_spelling(rt: HostRuntime) {
         (1023, 0, 1, Fault::BadSpelling),
         (1023, 0x1_0000_0000_0001, 1, Fault::BadSpelling),
         (1023, 1, 0, Fault::BadSpelling),
-        (1023, 1, 65, Fault::TooLong),
+        (1023, 1, 129, Fault::TooLong),
     ];
     assert_no_spelling(&rt, rt.alloc(), cases);
 }
@@ -282,7 +286,7 @@ fn things_without_spelling(rt: HostRuntime) {
 fn long_contents_without_spelling(rt: HostRuntime) {
     assert_fault(
         &rt,
-        spelled_sized(rt.alloc(), 1025, 65).err(),
+        spelled_sized(rt.alloc(), 1025, 129).err(),
         Fault::TooLong,
     );
 }
@@ -301,7 +305,7 @@ fn with_contents(alloc: Global, before: &[u8], count: usize) -> Result<Vec<u8>, 
 
 /// Whether these bytes are a transaction with 1,024 bytes and no tags, without its kind.
 fn spell_longest_contents(alloc: Global, bytes: &[u8]) -> Result<bool, Fault> {
-    let (tx, rest) = tx_fields_of(alloc, bytes)?;
+    let (tx, rest) = tx_fields_of(alloc, false, bytes)?;
     Ok(
         matches!(&tx.op, Op::Bytes(contents) if contents.len() == 1024)
             && rest.is_empty()
@@ -317,7 +321,7 @@ fn longest_contents_are_read(alloc: Global) -> Result<bool, Fault> {
 
 #[test]
 fn lengths_of_contents(rt: HostRuntime) {
-    let cut = tx_fields_of(rt.alloc(), &BEFORE_CONTENTS).err();
+    let cut = tx_fields_of(rt.alloc(), false, &BEFORE_CONTENTS).err();
     assert_fault(&rt, cut, Fault::Truncated);
     assert_holds(&rt, longest_contents_are_read(rt.alloc()));
 }

@@ -1,8 +1,8 @@
 //! The readers and writers of parts, the lists and equality.
 
 use super::{
-    CLOSE, ONE_BYTE, assert_fault, assert_holds, is_same_as_its_copy, nines, of_tx, of_value,
-    value_of, with_tag,
+    CLOSE, LATER, ONE_BYTE, assert_fault, assert_holds, is_same_as_its_copy, nines, of_tx,
+    of_value, value_of, with_tag,
 };
 use std::alloc::{AllocError, Global};
 use transactions::fields::{array_at, slice_at, u8_at, u16_at, u32_at, u64_at};
@@ -76,13 +76,20 @@ fn numbers_are_written(rt: HostRuntime) {
 
 /// Whether the fields of the close are read, to the last byte.
 fn fields_of_close(alloc: Global) -> Result<bool, Fault> {
-    let (body, rest) = tx_fields_of(alloc, &CLOSE[1..])?;
-    Ok(rest.is_empty() && body.number == 2)
+    let (body, rest) = tx_fields_of(alloc, false, &CLOSE[1..])?;
+    Ok(rest.is_empty() && body.session == 0 && body.number == 2)
+}
+
+/// Whether the fields of the transaction of session 1 are read, to the last byte.
+fn fields_of_later(alloc: Global) -> Result<bool, Fault> {
+    let (body, rest) = tx_fields_of(alloc, true, &LATER[1..])?;
+    Ok(rest.is_empty() && body.session == 1 && body.number == 1)
 }
 
 #[test]
 fn fields_of_a_body_are_read(rt: HostRuntime) {
     assert_holds(&rt, fields_of_close(rt.alloc()));
+    assert_holds(&rt, fields_of_later(rt.alloc()));
 }
 
 /// How many tags are read where one was written.
@@ -145,6 +152,7 @@ fn body_is_written(rt: HostRuntime) {
         &rt,
         of_tx(alloc, &ONE_BYTE, |tx| is_body(alloc, &ONE_BYTE, tx)),
     );
+    assert_holds(&rt, of_tx(alloc, &LATER, |tx| is_body(alloc, &LATER, tx)));
 }
 
 /// One tag of nines, behind the count.
@@ -292,6 +300,7 @@ fn item_is_copied(alloc: Global, item: &Item) -> Result<bool, Fault> {
 fn equal_items(rt: HostRuntime) {
     let item = Item {
         client: 7,
+        session: 0,
         number: 1,
         op: Op::Close,
     };

@@ -174,6 +174,7 @@ fn transaction_of_a_client(rt: HostRuntime) -> Result<(), Fail> {
     let line = Tagged {
         item: Item {
             client: 7,
+            session: 0,
             number: 1,
             op: Op::Close,
         },

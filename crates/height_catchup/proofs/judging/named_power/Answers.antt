@@ -7,7 +7,7 @@ use Rattle.protocol.specs.Refusals.{named_senders}
 use Rattle.height_catchup.proofs.judging.named_power.Goals as goal
 
 pub loop-precommit-init : goal.loop-precommit-init
-loop-precommit-init c = record { marks = λ i small. get_or-replicate 64 i false false small; len = refl }
+loop-precommit-init c = record { marks = λ i small. get_or-replicate 128 i false false small; len = refl }
 
 pub returns : goal.returns
 returns c =

@@ -5,6 +5,6 @@ use Rattle.height_catchup.proofs.judging.named_power.Given as goal
 
 abbrev pub invariant-loop-precommit : goal.invariant-loop-precommit
 invariant-loop-precommit l = record {
-  marks : (i : ℕ) → i < 64 → get_or l.marks i false ≡ list_any (λ s. s.sender == i) (take l.precommit-index l.bundle.precommits);
-  len : length l.marks ≡ 64;
+  marks : (i : ℕ) → i < 128 → get_or l.marks i false ≡ list_any (λ s. s.sender == i) (take l.precommit-index l.bundle.precommits);
+  len : length l.marks ≡ 128;
 }

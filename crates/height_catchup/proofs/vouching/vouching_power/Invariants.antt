@@ -7,5 +7,5 @@ use Rattle.height_catchup.proofs.vouching.vouching_power.Given as goal
 abbrev pub invariant-loop-validator : goal.invariant-loop-validator
 invariant-loop-validator l = record {
   marks : (c : Setting) (p i : ℕ) → c.powers ≡ l.powers → IsRingOf c p l.ring → i < l.validator → get_or l.marks i false ≡ bundle_senders c p l.bundle i;
-  len : length l.marks ≡ 64;
+  len : length l.marks ≡ 128;
 }

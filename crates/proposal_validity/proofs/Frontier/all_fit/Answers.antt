@@ -1,9 +1,9 @@
 use Rattle.std.proofs.Common.{◌≡◌, ◌≤◌, true, false, length, length-set, refl, sym, ◌∙◌, ap, subst, arith}
 use Rattle.std.specs.Prelude.{take}
 use Rattle.transactions.specs.Grammar.{IsTx}
-use Rattle.protocol.specs.Values.{item}
+use Rattle.protocol.specs.Values.{item, fits}
 use Rattle.proposal_validity.specs.Standing.{Standing, standing}
-use Rattle.proposal_validity.specs.Course.{fits, after, items_of}
+use Rattle.proposal_validity.specs.Course.{after, items_of}
 use Rattle.proposal_validity.proofs.Follows.{all_fit_more, all_fit_not}
 use Rattle.proposal_validity.proofs.Places.{none_marked, marked, left_at_place, left_as_before}
 use Rattle.proposal_validity.proofs.Frontier.all_fit.Goals as goal

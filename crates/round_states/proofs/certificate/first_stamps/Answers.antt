@@ -5,7 +5,7 @@ use Rattle.round_states.proofs.certificate.first_stamps.Goals as goal
 use Rattle.round_states.proofs.certificate.first_stamps.Goals.{then-is_of, else-is_of}
 
 pub loop-place-init : goal.loop-place-init
-loop-place-init c = λ i lt. get_or-replicate 64 i None None lt
+loop-place-init c = λ i lt. get_or-replicate 128 i None None lt
 
 pub loop-place-preserved : goal.loop-place-preserved
 loop-place-preserved c = λ i lt.

@@ -23,7 +23,7 @@ pub returns-in-Ok-settle-clause-opened : goal.returns-in-Ok-settle-clause-opened
 returns-in-Ok-settle-clause-opened g c =
     let plan = c.in_ok-plan.plan in
     let seen : g.S.Store.seen c.read.new.self ≡ c.deref.result.now = c.in-Ok.ensures.bytes.0 ∙ sym c.deref.ensures.value in
-    let now : g.S.Store.seen c.settle.new.store ≡ take plan.keep c.deref.result.now ++ added plan.fresh = subst (λ (x : List ℕ). g.S.Store.seen c.settle.new.store ≡ take plan.keep x ++ added plan.fresh) seen c.in-Ok-settle.ensures.done.0 in
+    let now : g.S.Store.seen c.settle.new.store ≡ take plan.keep c.deref.result.now ++ added plan.fresh plan.marked = subst (λ (x : List ℕ). g.S.Store.seen c.settle.new.store ≡ take plan.keep x ++ added plan.fresh plan.marked) seen c.in-Ok-settle.ensures.done.0 in
     let here = subst (g.S.Store.may_leave c.args.store.now) (sym c.deref.ensures.value) c.in-Ok.ensures.bytes.1 in
     subst (λ (k : Kept). IsOpened c.args.powers.now c.args.me (g.S.Store.may_leave c.args.store.now) (g.S.Store.seen c.settle.new.store) k.decisions.items k.own.items) (sym c.into_kept.ensures)
     (plan_opened c.args.powers.now c.args.me c.deref.result.now (g.S.Store.seen c.settle.new.store) (g.S.Store.may_leave c.args.store.now) plan c.in_ok-plan.ensures here now)

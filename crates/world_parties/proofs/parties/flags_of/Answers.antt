@@ -7,7 +7,7 @@ use Rattle.world_parties.proofs.Sets.{none_in, one_more_in}
 use Rattle.world_parties.proofs.parties.flags_of.Goals as goal
 
 pub loop-liar-init : goal.loop-liar-init
-loop-liar-init c = (length-replicate 64 false, refl, λ q. none_in 64 q)
+loop-liar-init c = (length-replicate 128 false, refl, λ q. none_in 128 q)
 
 pub loop-liar-preserved : goal.loop-liar-preserved
 loop-liar-preserved c =

@@ -29,7 +29,7 @@ pub invariant_of-self-2 : goal.invariant_of-self-2
 invariant_of-self-2 g c =
     let core : Core = seen c.self.inside in
     let none = c.in_ok-submit.ensures.answer (setting_of core) core.machine.me core.machine.state.delivered (known core c.self.invariant) c.frontier.ensures in
-    rw c.in_ok-submit.ensures.ok (sound_queued core (record c.args.tx { tags = c.args.tags }) core.machine.state.delivered c.self.invariant (record { body = record { client = c.requires.body.client; first = c.requires.body.first; last = c.requires.body.last; op = c.requires.body.op }; tags = c.requires.tags }) none)
+    rw c.in_ok-submit.ensures.ok (sound_queued core (record c.args.tx { tags = c.args.tags }) core.machine.state.delivered c.self.invariant (record { body = record { client = c.requires.body.client; session = c.requires.body.session; first = c.requires.body.first; last = c.requires.body.last; op = c.requires.body.op }; tags = c.requires.tags }) none)
 
 pub returns-clause-answer : goal.returns-clause-answer
 returns-clause-answer g c =

@@ -22,6 +22,6 @@ loop-sender-preserved c =
 pub signed_by-requires : goal.signed_by-requires
 signed_by-requires c =
     let sender = c.loop-sender.sender in
-    let lt : sender < 64 = omega (arith, c.loop-sender-test.true, c.count-sender-end.ensures.count, c.count-sender-end.ensures.lawful.few) in
+    let lt : sender < 128 = omega (arith, c.loop-sender-test.true, c.count-sender-end.ensures.count, c.count-sender-end.ensures.lawful.few) in
     let place = c.first_stamps-firsts.ensures sender lt in
     rw (← c.self.view_is) ((rw (c.from.ensures, place, c.deref.ensures.value, c.deref-in-loop-sender.ensures.value) at c.stamp_at-first.ensures) ∙ first_there (is_stamp c.args.round c.args.id sender) c.self.inside.stamps.items)

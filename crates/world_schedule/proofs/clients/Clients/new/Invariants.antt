@@ -1,6 +1,6 @@
-use Rattle.std.proofs.Common.{[]}
+use Rattle.protocol.specs.Values.{fresh}
 use Rattle.world_schedule.specs.Worlds.{HaveSent}
 use Rattle.world_schedule.proofs.clients.Clients.new.Given as goal
 
 abbrev pub invariant-loop-client : goal.invariant-loop-client
-invariant-loop-client l = HaveSent l._client (λ client. []) l.each.items
+invariant-loop-client l = HaveSent l._client (λ client. fresh) l.each.items

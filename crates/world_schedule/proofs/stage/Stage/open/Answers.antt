@@ -1,8 +1,9 @@
-use Rattle.std.proofs.Common.{◌∙◌, List, [], ◌++◌, ℕ, map, refl, sym, ap, subst}
+use Rattle.std.proofs.Common.{◌∙◌, ◌++◌, ℕ, map, refl, sym, ap, subst}
 use Rattle.protocol.specs.History.{Settle}
-use Rattle.protocol.specs.Values.{Item}
+use Rattle.protocol.specs.Values.{fresh}
+use Rattle.protocol.specs.declared.standing.Standing.{Standing as Reached}
 use Rattle.world_parties.specs.Cast.{setting_of}
-use Rattle.world_schedule.specs.Reports.{told}
+use Rattle.world_schedule.specs.Reports.{stands_in, told}
 use Rattle.world_schedule.specs.Making.{Hands, beginning, scene_after, AreTurns}
 use Rattle.world_schedule.specs.Events.{asked_of}
 use Rattle.world_schedule.specs.Worlds.{HaveSent}
@@ -14,7 +15,7 @@ returns c =
     let cast = c.args.parties in
     let s = setting_of cast in
     let k = c.in_ok-validators.ensures.met.1 in
-    let none : ℕ → List Item = λ client. [] in
+    let none : ℕ → Reached = λ client. fresh in
     let each = c.in_ok-clients.clients.each.items in
     let sent : HaveSent cast.clients none each = subst (λ n. HaveSent n none each) (sym c.requires) c.in_ok-clients.ensures in record {
       made = k.made;
@@ -26,7 +27,7 @@ returns c =
         up = k.leads.up;
         places_are = c.in_ok-validators.ensures.places;
         holds = k.leads.holds;
-        sent = sent_same cast.clients none (scene_after s beginning k.made).standing.sent each (λ client. unsent_turns s beginning c.new-chronicle.result.event _ k.made client k.turn) sent;
+        sent = sent_same cast.clients none (stands_in (scene_after s beginning k.made).standing) each (λ client. unsent_turns s beginning c.new-chronicle.result.event _ k.made client k.turn) sent;
         brought = c.new-2.ensures;
       };
       told_is = k.leads.told ∙ ap (λ l. l ++ told s beginning.standing k.made) c.new-chronicle.ensures.told;
