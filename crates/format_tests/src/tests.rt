@@ -1,6 +1,7 @@
 mod equality;
 mod faults;
 mod frames;
+mod longest;
 mod pieces;
 mod replies;
 
@@ -41,7 +42,7 @@ const BUNDLE_FRONT: [u8; 49] = [
     7, 7, 7, 7, 7, 7, 7, 7, 7, 7, 7, 7, 7, 7, 7, 7, 0, 0,
 ];
 
-/// A body of each kind but a bundle, and two of transactions of a first session.
+/// Bodies of transactions of a first and a later session, a proposal, a prevote and an ask.
 const VECTORS: [&[u8]; 6] = [&ONE_BYTE, &CLOSE, &LATER, &PROPOSAL, &PREVOTE, &ASK];
 
 /// What was looked at is so.
@@ -72,15 +73,15 @@ fn letters(alloc: Global, count: usize) -> Result<Seq<u8>, AllocError> {
     Ok(contents)
 }
 
-/// A transaction of the last session, of 1,024 bytes and 128 tags.
-fn full_tx(alloc: Global) -> Result<Tx, AllocError> {
-    let contents = letters(alloc, 1024)?;
+/// A transaction of the last session, with so many bytes and tags.
+fn tx_of(alloc: Global, bytes: usize, tags: usize) -> Result<Tx, AllocError> {
+    let contents = letters(alloc, bytes)?;
     Ok(Tx {
         client: 1023,
         session: 0xffff_ffff,
         number: 1,
         op: Op::Bytes(contents),
-        tags: nines(alloc, 128)?,
+        tags: nines(alloc, tags)?,
     })
 }
 
@@ -94,7 +95,7 @@ fn copies_of(alloc: Global, tx: &Tx, count: usize) -> Result<Vec<Tx>, AllocError
 
 /// So many transactions, each of 1,024 bytes and 128 tags.
 fn full_txs(alloc: Global, count: usize) -> Result<Vec<Tx>, AllocError> {
-    let tx = full_tx(alloc)?;
+    let tx = tx_of(alloc, 1024, 128)?;
     copies_of(alloc, &tx, count)
 }
 
@@ -321,34 +322,6 @@ fn bundle_is_kept(alloc: Global) -> Result<bool, Fault> {
 #[test]
 fn bundle_there_and_back(rt: HostRuntime) {
     assert_holds(&rt, bundle_is_kept(rt.alloc()));
-}
-
-/// The spelling of a copy of a bundle with 97 transactions and 128 precommits, each with 128 tags.
-fn full_bundle(alloc: Global) -> Result<Vec<u8>, Fault> {
-    let bundle = bundle_of(alloc, 97, 128, 128)?;
-    let body = Body::Bundle(bundle.copy(alloc)?);
-    spell_body(alloc, &body)
-}
-
-/// Whether these bytes spell a bundle with 97 transactions and 128 precommits, each with 128 tags, and are its spelling.
-fn spell_full_bundle(alloc: Global, bytes: &[u8]) -> Result<bool, Fault> {
-    // The kind, 46 bytes, the value, the count, and 128 times a sender and 128 tags.
-    Ok(
-        bytes.len() == 1 + 46 + 498_485 + 1 + 128 * 4099
-            && spell_bundle(alloc, bytes, 97, 128)?
-            && there_and_back(alloc, bytes)?,
-    )
-}
-
-/// Whether a full bundle is spelled, and read again.
-fn full_bundle_is_kept(alloc: Global) -> Result<bool, Fault> {
-    let bytes = full_bundle(alloc)?;
-    spell_full_bundle(alloc, &bytes)
-}
-
-#[test]
-fn full_bundle_there_and_back(rt: HostRuntime) {
-    assert_holds(&rt, full_bundle_is_kept(rt.alloc()));
 }
 
 /// Whether the message has these tags, and a body with this spelling.

@@ -419,25 +419,63 @@ fn numbers_of_faults(rt: HostRuntime) {
     assert_eq!(rt; TallyFault::OutOfMemory.number(), 3);
 }
 
-/// Validators 0 and 64 of 128, and others of the second half of the masks, are apart.
-#[test]
-fn both_halves_of_the_masks(rt: HostRuntime) -> Result<(), Fail> {
-    let powers = Powers::new(vec![in rt.alloc(); 1; 128]?)?;
-    let mut tally = Tally::new(rt.alloc(), powers, 1);
-    for (power, sender) in [(1, 64), (2, 0), (3, 63), (4, 127)] {
-        assert!(rt; !tally.has_voted(sender, 0, Step::Prevote, Some(A)));
-        assert_eq!(rt; tally.add(prevote(0, sender, Some(A))), Ok(()));
-        assert_eq!(rt; tally.power_for(0, Step::Prevote, Some(A)), power);
-        assert_eq!(rt; tally.power_any(0, Step::Prevote), power);
-        assert_eq!(rt; tally.power_above(0), power);
+/// The empty tally of validator 1 among 128 of power 1.
+fn tally_of_128(alloc: Global) -> Result<Tally, Fail> {
+    let powers = Powers::new(vec![in alloc; 1; 128]?)?;
+    Ok(Tally::new(alloc, powers, 1))
+}
+
+/// Each of the senders is another validator than those before it: with its vote there is this much power.
+fn assert_apart(rt: &impl Abort, alloc: Global, votes: &[(u64, u16)]) -> Result<(), Fail> {
+    let mut tally = tally_of_128(alloc)?;
+    for (power, sender) in votes {
+        assert!(rt; !tally.has_voted(*sender, 0, Step::Prevote, Some(A)));
+        assert_eq!(rt; tally.add(prevote(0, *sender, Some(A))), Ok(()));
+        assert_eq!(rt; tally.power_for(0, Step::Prevote, Some(A)), *power);
+        assert_eq!(rt; tally.power_any(0, Step::Prevote), *power);
+        assert_eq!(rt; tally.power_above(0), *power);
     }
     Ok(())
 }
 
 #[test]
+fn both_halves_of_the_masks(rt: HostRuntime) -> Result<(), Fail> {
+    assert_apart(&rt, rt.alloc(), &[(1, 64), (2, 0), (3, 127), (4, 63)])?;
+    assert_apart(&rt, rt.alloc(), &[(1, 0), (2, 64), (3, 63), (4, 127)])
+}
+
+/// The tally tells these powers of the prevotes and precommits for A, and this of all messages of the round.
+fn assert_powers(rt: &impl Abort, tally: &Tally, prevotes: u64, precommits: u64, all: u64) {
+    assert_eq!(rt; tally.power_for(0, Step::Prevote, Some(A)), prevotes);
+    assert_eq!(rt; tally.power_for(0, Step::Precommit, Some(A)), precommits);
+    assert_eq!(rt; tally.power_above(0), all);
+}
+
+#[test]
+fn all_128_validators(rt: HostRuntime) -> Result<(), Fail> {
+    let mut tally = tally_of_128(rt.alloc())?;
+    for sender in 0..128u16 {
+        let before = u64::from(sender);
+        assert_powers(&rt, &tally, before, before, before);
+        let vote = prevote(0, sender, Some(A));
+        tally.keep(vote)?;
+        assert_powers(&rt, &tally, before + 1, before, before + 1);
+        let step = Step::Precommit;
+        tally.keep(Vote { step, ..vote })?;
+        assert_eq!(rt; tally.highest_weak().is_some(), before >= 42);
+        assert_eq!(rt; tally.decisive().is_empty(), before < 85);
+    }
+    for sender in [0u16, 63, 64, 127] {
+        let again = tally.fault_of(&prevote(0, sender, Some(A)));
+        assert_eq!(rt; again, Some(TallyFault::Repeat));
+    }
+    assert_powers(&rt, &tally, 128, 128, 128);
+    Ok(())
+}
+
+#[test]
 fn the_last_validator(rt: HostRuntime) -> Result<(), Fail> {
-    let powers = Powers::new(vec![in rt.alloc(); 1; 128]?)?;
-    let mut tally = Tally::new(rt.alloc(), powers, 1);
+    let mut tally = tally_of_128(rt.alloc())?;
     for sender in [127u16, 0, 64, 128] {
         assert_eq!(rt; tally.add(prevote(0, sender, Some(A))), Ok(()));
         assert_eq!(rt;

@@ -1,5 +1,6 @@
 mod limits;
 mod parts;
+mod sessions;
 
 use std::alloc::{AllocError, Global};
 use std::process::Abort;

@@ -9,8 +9,12 @@ use std::process::Abort;
 use std::test::Fail;
 use transactions::{Op, Seq, Shared, Tx, Value, spell_value};
 
-/// A transaction of this client and number, which closes or asks for two bytes.
-fn tx(alloc: Global, client: u16, number: u64, closes: bool) -> Result<Tx, Fail> {
+/// A transaction's client, its session, its number, and whether it closes the session.
+pub(crate) type Place = (u16, u32, u64, bool);
+
+/// A transaction at this place, which closes or asks for two bytes.
+pub(crate) fn tx(alloc: Global, place: Place) -> Result<Tx, Fail> {
+    let (client, session, number, closes) = place;
     let op = if closes {
         Op::Close
     } else {
@@ -20,20 +24,20 @@ fn tx(alloc: Global, client: u16, number: u64, closes: bool) -> Result<Tx, Fail>
     tags.push([9; 32])?;
     Ok(Tx {
         client,
-        session: 0,
+        session,
         number,
         op,
         tags,
     })
 }
 
-/// A value of transactions, each given as its client, its number and whether it closes.
-fn value(alloc: Global, list: &[(u16, u64, bool)]) -> Result<Value, Fail>
+/// A value of transactions at these places.
+fn value(alloc: Global, list: &[Place]) -> Result<Value, Fail>
     ensures { IfOk result (λ value. IsValue value) }
 {
     let mut txs = Vec::new(alloc);
-    for (client, number, closes) in list {
-        txs.push(tx(alloc, *client, *number, *closes)?)?;
+    for place in list {
+        txs.push(tx(alloc, *place)?)?;
     }
     let value = Value {
         txs: Shared::from_vec(alloc, txs)?,
@@ -43,16 +47,17 @@ fn value(alloc: Global, list: &[(u16, u64, bool)]) -> Result<Value, Fail>
 }
 
 /// Whether such a value may be delivered next.
-fn admits(alloc: Global, frontier: &Frontier, list: &[(u16, u64, bool)]) -> Result<bool, Fail> {
+pub(crate) fn admits(alloc: Global, frontier: &Frontier, list: &[Place]) -> Result<bool, Fail> {
     let value = value(alloc, list)?;
     Ok(frontier.valid(&value))
 }
 
-fn deliver(
+/// Delivers such a value.
+pub(crate) fn deliver(
     rt: &impl Abort,
     alloc: Global,
     frontier: &mut Frontier,
-    list: &[(u16, u64, bool)],
+    list: &[Place],
 ) -> Result<(), Fail> {
     let value = value(alloc, list)?;
     assert!(rt; frontier.valid(&value));
@@ -64,73 +69,79 @@ fn deliver(
 fn nothing_delivered(rt: HostRuntime) -> Result<(), Fail> {
     let frontier = Frontier::new(rt.alloc());
     for client in [0, 7, 1023, u16::MAX] {
+        assert_eq!(rt; frontier.session(client), 0);
         assert_eq!(rt; frontier.next(client), 1);
         assert!(rt; !frontier.is_closed(client));
     }
     assert!(rt; admits(rt.alloc(), &frontier, &[])?);
-    assert!(rt; admits(rt.alloc(), &frontier, &[(7, 1, false)])?);
-    assert!(rt; !admits(rt.alloc(), &frontier, &[(7, 2, false)])?);
+    assert!(rt; admits(rt.alloc(), &frontier, &[(7, 0, 1, false)])?);
+    assert!(rt; !admits(rt.alloc(), &frontier, &[(7, 0, 2, false)])?);
     Ok(())
 }
 
 #[test]
-fn nothing_follows_a_close(rt: HostRuntime) -> Result<(), Fail> {
+fn nothing_of_a_session_follows_its_close(rt: HostRuntime) -> Result<(), Fail> {
     let mut frontier = Frontier::new(rt.alloc());
     deliver(
         &rt,
         rt.alloc(),
         &mut frontier,
-        &[(7, 1, false), (7, 2, true)],
+        &[(7, 0, 1, false), (7, 0, 2, true)],
     )?;
     assert_eq!(rt; frontier.next(7), 3);
     assert!(rt; frontier.is_closed(7));
-    assert!(rt; !admits(rt.alloc(), &frontier, &[(7, 3, false)])?);
-    assert!(rt; !admits(rt.alloc(), &frontier, &[(7, 3, true)])?);
-    assert!(rt; admits(rt.alloc(), &frontier, &[(8, 1, false)])?);
-    assert!(rt; !admits(rt.alloc(), &frontier, &[(8, 1, false), (7, 3, false)])?);
+    assert!(rt; !admits(rt.alloc(), &frontier, &[(7, 0, 3, false)])?);
+    assert!(rt; !admits(rt.alloc(), &frontier, &[(7, 0, 3, true)])?);
+    assert!(rt; admits(rt.alloc(), &frontier, &[(8, 0, 1, false)])?);
+    assert!(rt; !admits(rt.alloc(), &frontier, &[(8, 0, 1, false), (7, 0, 3, false)])?);
     Ok(())
 }
 
 #[test]
 fn numbers_within_a_value(rt: HostRuntime) -> Result<(), Fail> {
     let frontier = Frontier::new(rt.alloc());
-    assert!(rt; admits(rt.alloc(), &frontier, &[(7, 1, false), (7, 2, false)])?);
-    assert!(rt; !admits(rt.alloc(), &frontier, &[(7, 1, false), (7, 3, false)])?);
-    assert!(rt; !admits(rt.alloc(), &frontier, &[(7, 1, false), (7, 1, false)])?);
-    assert!(rt; !admits(rt.alloc(), &frontier, &[(7, 2, false), (7, 1, false)])?);
-    assert!(rt; admits(rt.alloc(), &frontier, &[(7, 1, false), (7, 2, true)])?);
-    assert!(rt; !admits(rt.alloc(), &frontier, &[(7, 1, true), (7, 2, false)])?);
-    assert!(rt; admits(rt.alloc(), &frontier, &[(7, 1, true), (8, 1, false)])?);
+    assert!(rt; admits(rt.alloc(), &frontier, &[(7, 0, 1, false), (7, 0, 2, false)])?);
+    assert!(rt; !admits(rt.alloc(), &frontier, &[(7, 0, 1, false), (7, 0, 3, false)])?);
+    assert!(rt; !admits(rt.alloc(), &frontier, &[(7, 0, 1, false), (7, 0, 1, false)])?);
+    assert!(rt; !admits(rt.alloc(), &frontier, &[(7, 0, 2, false), (7, 0, 1, false)])?);
+    assert!(rt; admits(rt.alloc(), &frontier, &[(7, 0, 1, false), (7, 0, 2, true)])?);
+    assert!(rt; !admits(rt.alloc(), &frontier, &[(7, 0, 1, true), (7, 0, 2, false)])?);
+    assert!(rt; admits(rt.alloc(), &frontier, &[(7, 0, 1, true), (8, 0, 1, false)])?);
     Ok(())
 }
 
 #[test]
 fn two_clients_in_turn(rt: HostRuntime) -> Result<(), Fail> {
     let mut frontier = Frontier::new(rt.alloc());
-    let list = [(7, 1, false), (8, 1, false), (7, 2, false), (8, 2, true)];
+    let list = [
+        (7, 0, 1, false),
+        (8, 0, 1, false),
+        (7, 0, 2, false),
+        (8, 0, 2, true),
+    ];
     deliver(&rt, rt.alloc(), &mut frontier, &list)?;
     assert_eq!(rt; frontier.next(7), 3);
     assert!(rt; !frontier.is_closed(7));
     assert_eq!(rt; frontier.next(8), 3);
     assert!(rt; frontier.is_closed(8));
     assert_eq!(rt; frontier.next(6), 1);
-    assert!(rt; admits(rt.alloc(), &frontier, &[(6, 1, false), (7, 3, false)])?);
+    assert!(rt; admits(rt.alloc(), &frontier, &[(6, 0, 1, false), (7, 0, 3, false)])?);
     Ok(())
 }
 
 #[test]
 fn numbers_go_on_from_what_is_delivered(rt: HostRuntime) -> Result<(), Fail> {
     let mut frontier = Frontier::new(rt.alloc());
-    deliver(&rt, rt.alloc(), &mut frontier, &[(7, 1, false)])?;
-    assert!(rt; !admits(rt.alloc(), &frontier, &[(7, 1, false)])?);
-    assert!(rt; !admits(rt.alloc(), &frontier, &[(7, 1, false), (7, 2, false)])?);
-    assert!(rt; !admits(rt.alloc(), &frontier, &[(7, 3, false)])?);
-    assert!(rt; admits(rt.alloc(), &frontier, &[(7, 2, false), (7, 3, false)])?);
+    deliver(&rt, rt.alloc(), &mut frontier, &[(7, 0, 1, false)])?;
+    assert!(rt; !admits(rt.alloc(), &frontier, &[(7, 0, 1, false)])?);
+    assert!(rt; !admits(rt.alloc(), &frontier, &[(7, 0, 1, false), (7, 0, 2, false)])?);
+    assert!(rt; !admits(rt.alloc(), &frontier, &[(7, 0, 3, false)])?);
+    assert!(rt; admits(rt.alloc(), &frontier, &[(7, 0, 2, false), (7, 0, 3, false)])?);
     deliver(
         &rt,
         rt.alloc(),
         &mut frontier,
-        &[(1023, 1, false), (7, 2, false)],
+        &[(1023, 0, 1, false), (7, 0, 2, false)],
     )?;
     assert_eq!(rt; frontier.next(7), 3);
     assert_eq!(rt; frontier.next(1023), 2);
@@ -145,10 +156,10 @@ fn copies_are_equal(rt: HostRuntime) -> Result<(), Fail> {
         &rt,
         rt.alloc(),
         &mut frontier,
-        &[(7, 1, false), (8, 1, true)],
+        &[(7, 0, 1, false), (8, 0, 1, true)],
     )?;
     let copy = frontier.copy(rt.alloc())?;
-    deliver(&rt, rt.alloc(), &mut frontier, &[(7, 2, true)])?;
+    deliver(&rt, rt.alloc(), &mut frontier, &[(7, 0, 2, true)])?;
     assert_eq!(rt; copy.next(7), 2);
     assert!(rt; !copy.is_closed(7));
     assert!(rt; copy.is_closed(8));

@@ -51,7 +51,11 @@ fn assert_turns(rt: &impl Abort, powers: &Powers) {
         assert_eq!(rt; powers.proposer(u64::from(number), 0), proposer);
         assert_eq!(rt; powers.proposer(0, number), proposer);
     }
-    // 2^64 - 1 ends in 5, and so does 2^32 - 1.
+    // The height and the round are added: 5, 8 and 10.
+    for (height, round, proposer) in [(2, 3, 1), (1, 7, 2), (6, 4, 0)] {
+        assert_eq!(rt; powers.proposer(height, round), proposer);
+    }
+    // 2^64 - 1 ends in 5, and so does 2^32 - 1: the sums end in 0, and in 8, where 2^64 + 2 as 2 would give 0.
     assert_eq!(rt; powers.proposer(u64::MAX, u32::MAX), 0);
     assert_eq!(rt; powers.proposer(u64::MAX, 3), 2);
 }

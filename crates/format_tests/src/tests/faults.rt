@@ -70,6 +70,22 @@ fn unknown_kinds(rt: HostRuntime) {
 }
 
 #[test]
+fn kinds_alone(rt: HostRuntime) {
+    for kind in &[0x01u8, 0x02, 0x10, 0x11, 0x12, 0x13, 0x14] {
+        assert_fault(&rt, body_fault(rt.alloc(), &[*kind]), Fault::Truncated);
+    }
+}
+
+#[test]
+fn session_of_a_later_one(rt: HostRuntime) {
+    // Session 0 is told by no transaction, and stands before what is absent behind it.
+    let zero = &[2, 0, 7, 0, 0, 0, 0];
+    assert_fault(&rt, body_fault(rt.alloc(), zero), Fault::BadSpelling);
+    let last = &[2, 0, 7, 0xff, 0xff, 0xff, 0xff];
+    assert_fault(&rt, body_fault(rt.alloc(), last), Fault::Truncated);
+}
+
+#[test]
 fn flag_of_a_vote(rt: HostRuntime) {
     assert_fault_behind(&rt, rt.alloc(), &PREVOTE[..15], &[2], Fault::BadSpelling);
 }

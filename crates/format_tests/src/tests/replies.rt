@@ -10,6 +10,8 @@ fn replies_are_spelled(rt: HostRuntime) {
     assert!(rt; accepted == [0, 0, 0, 3, 0x20, 0, 0]);
     let gap = spell_reply(Reply { code: 13, inner: 4 });
     assert!(rt; gap == [0, 0, 0, 3, 0x20, 13, 4]);
+    let session_ahead = spell_reply(Reply { code: 13, inner: 9 });
+    assert!(rt; session_ahead == [0, 0, 0, 3, 0x20, 13, 9]);
 }
 
 /// These are the frames of replies, or of none for this cause.

@@ -22,31 +22,64 @@ fn spelled_sized(alloc: Global, bytes: usize, tags: usize) -> Result<Vec<u8>, Fa
     spell_tx(alloc, &tx)
 }
 
-/// Whether this is the transaction with the most of everything.
-fn is_largest(tx: &Tx) -> bool {
+/// The spelling of a transaction of this session with the most of everything else.
+fn spelled_largest(alloc: Global, session: u32) -> Result<Vec<u8>, Fault> {
+    let mut tx = sized(alloc, 1024, 128)?;
+    tx.session = session;
+    spell_tx(alloc, &tx)
+}
+
+/// Whether this is the transaction of this session with the most of everything else.
+fn is_largest(tx: &Tx, session: u32) -> bool {
     tx.client == 1023
-        && tx.session == 0xffff_ffff
+        && tx.session == session
         && tx.number == 0x1_0000_0000_0000
         && matches!(&tx.op, Op::Bytes(contents) if contents.len() == 1024)
         && tx.tags.len() == 128
 }
 
-/// Whether these bytes spell the transaction with the most of everything, and it is spelled so.
-fn spell_largest(alloc: Global, bytes: &[u8]) -> Result<bool, Fault> {
+/// Whether these bytes spell the transaction of this session with the most of everything else, and it is spelled so.
+fn spell_largest(alloc: Global, bytes: &[u8], session: u32) -> Result<bool, Fault> {
     of_spelled_tx(alloc, bytes, |tx| {
-        Ok(is_largest(tx) && is_spelling_of_tx(alloc, bytes, tx)?)
+        Ok(is_largest(tx, session) && is_spelling_of_tx(alloc, bytes, tx)?)
     })
 }
 
-/// Whether the transaction with the most of everything has 5,139 bytes, and is read.
-fn largest_is_read(alloc: Global) -> Result<bool, Fault> {
-    let bytes = spelled_sized(alloc, 1024, 128)?;
-    Ok(bytes.len() == 5139 && spell_largest(alloc, &bytes)?)
+/// Whether the transaction of this session with the most of everything else has so many bytes, and is read.
+fn largest_is_read(alloc: Global, session: u32, len: usize) -> Result<bool, Fault> {
+    let bytes = spelled_largest(alloc, session)?;
+    Ok(bytes.len() == len && spell_largest(alloc, &bytes, session)?)
 }
 
 #[test]
-fn largest_transaction(rt: HostRuntime) {
-    assert_holds(&rt, largest_is_read(rt.alloc()));
+fn largest_transactions(rt: HostRuntime) {
+    // The body, the count of the tags, and 128 tags; a session after the first is told.
+    assert_holds(&rt, largest_is_read(rt.alloc(), 0, 1038 + 1 + 4096));
+    assert_holds(&rt, largest_is_read(rt.alloc(), 1, 1042 + 1 + 4096));
+    assert_holds(&rt, largest_is_read(rt.alloc(), 0xffff_ffff, 5139));
+}
+
+/// Why the bytes of the largest transaction with one tag more spell none: the count stands behind this many bytes.
+fn fault_of_one_more_tag(alloc: Global, session: u32, body: usize) -> Result<Option<Fault>, Fault> {
+    let mut bytes = spelled_largest(alloc, session)?;
+    if let Some(count) = bytes.get_mut(body) {
+        *count = 129;
+    }
+    bytes.extend_from_slice(&[9u8; 32])?;
+    Ok(tx_fault(alloc, &bytes))
+}
+
+#[test]
+fn largest_transactions_with_one_more_tag(rt: HostRuntime) {
+    let first = fault_of_one_more_tag(rt.alloc(), 0, 1038);
+    assert!(rt; first == Ok(Some(Fault::TooLong)));
+    let later = fault_of_one_more_tag(rt.alloc(), 1, 1042);
+    assert!(rt; later == Ok(Some(Fault::TooLong)));
+    assert_fault(
+        &rt,
+        spelled_sized(rt.alloc(), 1024, 129).err(),
+        Fault::TooLong,
+    );
 }
 
 /// Why client 7's transaction 1 is none with this byte at this place.

@@ -1,0 +1,4 @@
+pub mod Numbered
+pub mod Walks
+pub mod Divisions
+pub mod Sessions
