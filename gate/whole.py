@@ -1,14 +1,16 @@
 #!/usr/bin/env python3
-"""The whole gate: every proof, every test and every wrong body, from nothing, on a copy of the sources.
+"""The whole gate: every proof, every test and every wrong body, on a copy of the sources.
 
-usage: gate/whole.py
+usage: gate/whole.py [--anew]
 
-Its stages run in turn, each of which says 'N passed, M failed' on its last line: the files' layout; what must not
-compile; `rt ci`, which proves and tests each crate and runs each program; the schedules, by the program as both
-compilers made it; one of them with each write of the validator's journal failing; random ones; what `tmnode` says of failures
-and what a cluster of it outlives, as processes; and the wrong bodies. Then come the
-processor seconds of each crate, and a last line that counts everything. Where the layout or `rt ci` fails, nothing behind
-it is tried.
+Its stages run in turn, each of which says 'N passed, M failed' on its last line: what the scripts take of the kit; the files'
+layout; what must not compile; `rt ci`, which proves and tests each crate and runs each program; the schedules, by the program as
+both compilers made it; one of them with each write of the validator's journal failing; random ones; what `tmnode` says of failures
+and what a cluster of it outlives, as processes; and the wrong bodies. Then come the processor seconds of each crate, and a last
+line that counts everything. Where the layout or `rt ci` fails, nothing behind it is tried.
+
+What this machine proved before of the same files, and what it told of the same edits, isn't done again; with --anew all is. Every
+test, program and schedule runs each time. The proved programs are left in bin/.
 """
 import os
 import re
@@ -21,8 +23,12 @@ import tempfile
 import threading
 import time
 
+sys.dont_write_bytecode = True
+from build import keep_programs
+
 TOP = os.path.dirname(os.path.dirname(os.path.realpath(__file__)))
 STAGES = {
+    "the kit's parts": ["gate/kit.py"],
     "layout": ["gate/layout.py"],
     "what must not compile": ["must-not-compile/run.sh"],
     "proofs, tests and programs": ["rt", "ci"],
@@ -38,7 +44,9 @@ ENDS = {
     "layout": "`rt fmt` in a crate's folder lays its files out. Until then nothing else is tried.",
     "proofs, tests and programs": "The stages behind stand on these proofs, so they are left out.",
 }
-# About what a whole run takes, in processor seconds; its table says what it took.
+# The stages that keep what they did.
+KEEP = ("rt", "gate/wrong_bodies.py")
+# About what a whole run takes where nothing is kept, in processor seconds; its table says what it took.
 USUAL = 26_000
 # The part of a crate's time that a check belongs to.
 PARTS = ("proof", "tests", "edits")
@@ -135,11 +143,12 @@ def show(table, whole):
 
 
 def main():
-    if sys.argv[1:]:
+    anew = sys.argv[1:]
+    if anew not in ([], ["--anew"]):
         print(__doc__, file=sys.stderr)
         return 2
     minutes = USUAL / 60 / len(os.sched_getaffinity(0)) * 1.1
-    print(f"This proves and tries everything from nothing, on a copy: about {minutes:.0f} minutes on these processors.", flush=True)
+    print(f"This takes about {minutes:.0f} minutes on these processors where nothing is kept of earlier runs.", flush=True)
     began, meter, passed, failed = time.time(), Meter(), 0, 0
     meter.start()
     with tempfile.TemporaryDirectory(prefix="gate-") as copy:
@@ -150,11 +159,13 @@ def main():
             if words[-1].endswith(".by-rattle") and not os.path.isfile(words[-1]):
                 print(f"== {name}: left out, since `rt ci` above made no such program", flush=True)
                 continue
-            well, badly = run_stage(name, words)
+            well, badly = run_stage(name, [*words, *anew] if words[0] in KEEP else words)
             passed, failed = passed + well, failed + badly
             if badly and name in ENDS:
                 print(ENDS[name])
                 break
+            if words[0] == "rt":
+                keep_programs(copy)
         os.chdir(TOP)
     meter.ended.set()
     used = resource.getrusage(resource.RUSAGE_CHILDREN)
