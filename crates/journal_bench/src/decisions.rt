@@ -12,8 +12,8 @@ use vote_journal::{Store, spell_record};
 /// How many transactions a decision has.
 const TXS: u64 = 256;
 
-/// What a journal begins with.
-const HEADER: &[u8] = b"TMJ1";
+/// What a journal begins with: its name, and the mark of the form with sessions, so that opening it adds nothing.
+const FRONT: &[u8] = b"TMJ1\0\0\0\x05\x04\0\0\0\x02";
 
 /// Writes the journal of so many decisions, and tells its bytes.
 pub(crate) fn filled(rt: &HostRuntime, path: &str, count: u32) -> Result<String, BenchFault> {
@@ -25,8 +25,8 @@ pub(crate) fn filled(rt: &HostRuntime, path: &str, count: u32) -> Result<String,
 
 /// Appends the decisions of so many heights, and syncs.
 fn fill(alloc: Global, store: &mut FileStore, count: u32) -> Result<usize, BenchFault> {
-    store.append(HEADER)?;
-    let mut written = HEADER.len();
+    store.append(FRONT)?;
+    let mut written = FRONT.len();
     for height in 0..count {
         let bytes = spell_record(alloc, ME, &decision(alloc, u64::from(height))?)?;
         store.append(&bytes)?;

@@ -2,4 +2,5 @@
 
 mod files;
 mod journals;
+mod marks;
 mod strikes;

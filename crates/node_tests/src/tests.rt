@@ -12,6 +12,7 @@ mod opening;
 mod proposer;
 mod queues;
 mod refusals;
+mod sessions;
 mod streams;
 mod timeouts;
 
@@ -123,8 +124,8 @@ impl Node {
         Node::failing(rt, alloc, 0, 0)
     }
 
-    /// It has begun, over a store whose call of this number fails, counted from 1: the first is the opening's append of the
-    /// header, and the second its sync.
+    /// It has begun, over a store whose call of this number fails, counted from 1: the first two are the opening's appends of
+    /// the header and of the mark, and the third is its sync.
     fn failing(rt: &impl Abort, alloc: Global, failing: u64, keep: usize) -> Result<Node, Fail> {
         let powers = powers_of(rt, vec![in alloc; 1, 1, 1, 1]?)?;
         let ring = ring_of(rt, alloc, KEYS, 3, 4)?;

@@ -3,3 +3,4 @@
 mod bundles;
 mod frames;
 mod queues;
+mod sessions;

@@ -86,6 +86,21 @@ fn opens_cut_anywhere(rt: &HostRuntime) -> Result<bool, Fail> {
     Ok(true)
 }
 
+/// Whether a file of the two records without a mark, which may be cut short, opens with both, and has it then.
+fn old_file_is_marked(rt: &HostRuntime) -> Result<bool, Fail> {
+    let powers = powers(rt)?;
+    let mut wanted = BYTES[..4].to_vec(rt.alloc())?;
+    wanted.extend_from_slice(&BYTES[13..])?;
+    wanted.extend_from_slice(&BYTES[4..13])?;
+    for len in 46..56 {
+        fs::write(rt, PATH, &wanted[..len.min(wanted.len())])?;
+        if count(rt, &powers)? != 2 || !holds(rt, &wanted)? {
+            return Ok(false);
+        }
+    }
+    Ok(true)
+}
+
 fn begin(rt: &HostRuntime, folder: &str) -> Result<(), Fail> {
     let _ = fs::remove_dir_all(rt, folder);
     fs::create_dir(rt, folder)?;
@@ -121,6 +136,7 @@ fn journals_in_files(rt: HostRuntime) -> Result<(), Fail> {
     assert!(rt; saves_both(&rt)?);
     assert!(rt; holds(&rt, &BYTES)?);
     assert!(rt; opens_cut_anywhere(&rt)?);
+    assert!(rt; old_file_is_marked(&rt)?);
     fs::remove_dir_all(&rt, FOLDER)?;
     Ok(())
 }

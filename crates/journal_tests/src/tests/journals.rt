@@ -8,16 +8,16 @@ use std::test::Fail;
 use transactions::{Named, Op, Seq, Shared, Tx, Value, value_id};
 use vote_journal::{Journal, MemoryStore, NotOpened, Opened, read_record, spell_record};
 
-const HEADER: [u8; 4] = *b"TMJ1";
+pub(super) const HEADER: [u8; 4] = *b"TMJ1";
 
 /// The header and the mark, of which a journal without records consists.
-const MARKED: [u8; 13] = *b"TMJ1\0\0\0\x05\x04\0\0\0\x02";
+pub(super) const MARKED: [u8; 13] = *b"TMJ1\0\0\0\x05\x04\0\0\0\x02";
 
 /// The header and the first byte of the mark.
 const HARDLY_MARKED: [u8; 5] = *b"TMJ1\0";
 
 /// The record of a prevote for nil by validator 2 at height 0 and round 0.
-const PREVOTE: [u8; 21] = [
+pub(super) const PREVOTE: [u8; 21] = [
     0, 0, 0, 0x11, 1, 0x11, 0, 0, 0, 0, 0, 0, 0, 0, 0, 0, 0, 0, 0, 2, 0,
 ];
 
@@ -30,29 +30,44 @@ fn tags(alloc: Global) -> Result<Seq<[u8; 32]>, AllocError> {
     Ok(tags)
 }
 
-/// Client 7's transaction of this number, which asks for the byte `a`.
-fn one_byte(alloc: Global, number: u64) -> Result<Tx, AllocError> {
-    let mut contents = Seq::new(alloc);
-    contents.push(b'a')?;
+/// Client 7's transaction of this session and number.
+fn tx_of(alloc: Global, session: u32, number: u64, op: Op) -> Result<Tx, AllocError> {
     Ok(Tx {
         client: 7,
-        session: 0,
+        session,
         number,
-        op: Op::Bytes(contents),
+        op,
         tags: tags(alloc)?,
     })
 }
 
-/// The value of that transaction alone.
+/// Client 7's transaction of this session and number, which asks for the byte `a`.
+fn one_byte(alloc: Global, session: u32, number: u64) -> Result<Tx, AllocError> {
+    let mut contents = Seq::new(alloc);
+    contents.push(b'a')?;
+    tx_of(alloc, session, number, Op::Bytes(contents))
+}
+
+/// The value of client 7's transaction of this number alone.
 fn value(alloc: Global, number: u64) -> Result<Value, AllocError> {
     let mut txs = Vec::new(alloc);
-    txs.push(one_byte(alloc, number)?)?;
+    txs.push(one_byte(alloc, 0, number)?)?;
     Ok(Value {
         txs: Shared::from_vec(alloc, txs)?,
     })
 }
 
-fn own(act: Act) -> Record {
+/// The value of client 7's close of its first session and its first transaction of the next one.
+pub(super) fn two_sessions(alloc: Global) -> Result<Value, AllocError> {
+    let mut txs = Vec::new(alloc);
+    txs.push(tx_of(alloc, 0, 1, Op::Close)?)?;
+    txs.push(one_byte(alloc, 1, 1)?)?;
+    Ok(Value {
+        txs: Shared::from_vec(alloc, txs)?,
+    })
+}
+
+pub(super) fn own(act: Act) -> Record {
     Record::Own(OwnMessage {
         height: 0,
         round: 0,
@@ -61,14 +76,18 @@ fn own(act: Act) -> Record {
 }
 
 /// Bytes of the record of a prevote for the value.
-fn prevote(alloc: Global) -> Result<Vec<u8>, Fail> {
+pub(super) fn prevote(alloc: Global) -> Result<Vec<u8>, Fail> {
     let id = value_id(alloc, &value(alloc, 1)?)?;
     Ok(spell_record(alloc, 3, &own(Act::Prevoting(Some(id))))?)
 }
 
 /// Bytes of the record of a precommit for the value.
-fn precommit(alloc: Global) -> Result<Vec<u8>, Fail> {
-    let value = value(alloc, 1)?;
+pub(super) fn precommit(alloc: Global) -> Result<Vec<u8>, Fail> {
+    lock_of(alloc, value(alloc, 1)?)
+}
+
+/// Bytes of the record of a precommit for this value.
+pub(super) fn lock_of(alloc: Global, value: Value) -> Result<Vec<u8>, Fail> {
     let id = value_id(alloc, &value)?;
     let named = Named::new(value, id);
     Ok(spell_record(alloc, 3, &own(Act::Precommitting(Some(named))))?)
@@ -87,8 +106,12 @@ fn certificate(alloc: Global) -> Result<Seq<Precommit>, AllocError> {
 }
 
 /// Bytes of the record of a decision of the transaction of this number.
-fn decision(alloc: Global, number: u64) -> Result<Vec<u8>, Fail> {
-    let value = value(alloc, number)?;
+pub(super) fn decision(alloc: Global, number: u64) -> Result<Vec<u8>, Fail> {
+    decision_of(alloc, value(alloc, number)?)
+}
+
+/// Bytes of the record of a decision of this value.
+pub(super) fn decision_of(alloc: Global, value: Value) -> Result<Vec<u8>, Fail> {
     let id = value_id(alloc, &value)?;
     let bundle = Bundle {
         height: 0,
@@ -113,12 +136,12 @@ fn decided(alloc: Global) -> Result<Vec<u8>, Fail> {
 /// What a call left: the number of its fault or 0, how many decisions and own messages are kept, whether the journal has
 /// failed, and the bytes.
 #[derive(Drop)]
-struct Outcome {
-    fault: u8,
+pub(super) struct Outcome {
+    pub(super) fault: u8,
     decisions: usize,
     own: usize,
     failed: bool,
-    bytes: Vec<u8>,
+    pub(super) bytes: Vec<u8>,
 }
 
 /// A store of these bytes, of which the call of this number fails and keeps one byte.
@@ -126,7 +149,7 @@ fn store(alloc: Global, bytes: &[u8], failing: u64) -> Result<MemoryStore, Alloc
     Ok(MemoryStore::new(bytes.to_vec(alloc)?, failing, 1))
 }
 
-fn outcome_of(
+pub(super) fn outcome_of(
     alloc: Global,
     opened: Result<Opened<MemoryStore>, NotOpened<MemoryStore>>,
 ) -> Result<Outcome, AllocError> {
@@ -161,13 +184,13 @@ fn open_at(alloc: Global, bytes: &[u8], me: u16, failing: u64) -> Result<Outcome
     Ok(outcome_of(alloc, Journal::open(alloc, store, me, &powers))?)
 }
 
-fn opened(alloc: Global, bytes: &[u8], me: u16) -> Result<Outcome, Fail> {
+pub(super) fn opened(alloc: Global, bytes: &[u8], me: u16) -> Result<Outcome, Fail> {
     open_at(alloc, bytes, me, 0)
 }
 
 /// Opens the journal of validator 2 and saves the prevote for nil: the fault of the save, and whether the journal has
 /// failed.
-fn save_at(alloc: Global, bytes: &[u8], failing: u64) -> Result<Outcome, Fail> {
+pub(super) fn save_at(alloc: Global, bytes: &[u8], failing: u64) -> Result<Outcome, Fail> {
     let powers = Powers::new(vec![in alloc; 1, 1, 1, 1]?)?;
     let store = store(alloc, bytes, failing)?;
     match Journal::open(alloc, store, 2, &powers) {
@@ -259,7 +282,7 @@ fn sizes_are(alloc: Global, sizes: &[usize; 4]) -> Result<bool, Fail> {
 }
 
 /// Whether an opening answered Ok, kept so many decisions and own messages, and left these bytes.
-fn has_opened(found: &Outcome, decisions: usize, own: usize, bytes: &[u8]) -> bool {
+pub(super) fn has_opened(found: &Outcome, decisions: usize, own: usize, bytes: &[u8]) -> bool {
     found.fault == 0
         && found.decisions == decisions
         && found.own == own
@@ -390,37 +413,11 @@ fn lengths_are_judged(alloc: Global) -> Result<bool, Fail> {
     )
 }
 
-/// Another mark than the one that there is, and that one twice.
-fn marks_are_judged(alloc: Global) -> Result<bool, Fail> {
-    Ok(
-        fault_of(alloc, &[0, 0, 0, 5, 4, 0, 0, 0, 3])? == 3
-            && fault_of(alloc, &[0, 0, 0, 5, 4, 0, 0, 0, 2])? == 3,
-    )
-}
-
-/// Whether the first bytes of the journal that decided, whose mark is taken away, open with the decision, and have the mark at
-/// their end.
-fn old_journal_is_marked(alloc: Global) -> Result<bool, Fail> {
-    let marked = decided(alloc)?;
-    let mut old = HEADER.to_vec(alloc)?;
-    old.extend_from_slice(&marked.as_slice()[13.min(marked.len())..])?;
-    let mut wanted = old.as_slice().to_vec(alloc)?;
-    wanted.extend_from_slice(&MARKED[4..])?;
-    for len in 848..858 {
-        let bytes = &wanted.as_slice()[..len.min(wanted.len())];
-        if !has_opened(&opened(alloc, bytes, 3)?, 1, 0, &wanted) {
-            return Ok(false);
-        }
-    }
-    Ok(old.len() == 848)
-}
-
 fn kinds_are_judged(alloc: Global) -> Result<bool, Fail> {
     // A kind that no record has; then a precommit for a value as one for nil, a bundle as an own message, and a prevote as
     // a decision.
     Ok(
         fault_of(alloc, &[0, 0, 0, 5, 5, 0, 0, 0, 2])? == 3
-            && marks_are_judged(alloc)?
             && refuses_a_lock_of_nil(alloc)?
             && refuses_each(alloc, &[(70, 1), (269, 1), (17, 3)])?,
     )
@@ -499,12 +496,6 @@ fn whole_journal(rt: HostRuntime) -> Result<(), Fail> {
 #[test]
 fn decision_cut_short(rt: HostRuntime) -> Result<(), Fail> {
     assert!(rt; opens_cut(rt.alloc(), 856, 0, 2, 265)?);
-    Ok(())
-}
-
-#[test]
-fn journal_without_a_mark(rt: HostRuntime) -> Result<(), Fail> {
-    assert!(rt; old_journal_is_marked(rt.alloc())?);
     Ok(())
 }
 

@@ -1,10 +1,12 @@
 //! Journals in memory, and stores whose calls are struck from outside.
 
+use super::journals::{HEADER, MARKED};
 use messages::{Body, Step, Vote};
+use powers::Powers;
 use protocol::{Act, OwnMessage, Record};
 use std::alloc::Global;
 use std::test::Fail;
-use vote_journal::{Journal, Store, Strikes, StrikingStore, body_of};
+use vote_journal::{Journal, JournalFault, Store, Strikes, StrikingStore, body_of};
 
 /// The prevote for nil at height 0 and round 0: its record has 21 bytes.
 fn nil_prevote() -> OwnMessage {
@@ -26,6 +28,29 @@ fn has_nil_prevote(alloc: Global) -> Result<bool, Fail> {
     match body_of(alloc, 2, &nil_prevote())? {
         Body::Vote(vote) => Ok(vote == expected),
         _ => Ok(false),
+    }
+}
+
+/// Whether journals in memory hold the header and the mark as they begin.
+fn begin_marked(alloc: Global) -> Result<bool, Fail> {
+    let plain = Journal::in_memory(alloc, 2)?.close();
+    let struck = Journal::struck_by(alloc, 2, Strikes::new(alloc)?)?.close();
+    Ok(plain.bytes() == MARKED.as_slice() && struck.bytes() == MARKED.as_slice())
+}
+
+/// Whether the opening of a store with the header alone fails where its append of the mark is struck, and so many bytes of the
+/// mark stand then.
+fn fails_marking(alloc: Global, keep: usize) -> Result<bool, Fail> {
+    let powers = Powers::new(vec![in alloc; 1, 1, 1, 1]?)?;
+    let strikes = Strikes::new(alloc)?;
+    strikes.strike(1, keep)?;
+    let store = StrikingStore::new(HEADER.to_vec(alloc)?, strikes);
+    match Journal::open(alloc, store, 2, &powers) {
+        Ok(_) => Ok(false),
+        Err(refused) => Ok(
+            refused.fault == JournalFault::Failed
+                && refused.store.bytes() == &MARKED[..keep.min(9) + 4],
+        ),
     }
 }
 
@@ -74,6 +99,20 @@ fn body_of_a_prevote(rt: HostRuntime) -> Result<(), Fail> {
 #[test]
 fn journal_in_memory(rt: HostRuntime) -> Result<(), Fail> {
     assert!(rt; saves_in_memory(rt.alloc())?);
+    Ok(())
+}
+
+#[test]
+fn journals_in_memory_begin(rt: HostRuntime) -> Result<(), Fail> {
+    assert!(rt; begin_marked(rt.alloc())?);
+    Ok(())
+}
+
+#[test]
+fn struck_mark(rt: HostRuntime) -> Result<(), Fail> {
+    for keep in 0..10 {
+        assert!(rt; fails_marking(rt.alloc(), keep)?);
+    }
     Ok(())
 }
 

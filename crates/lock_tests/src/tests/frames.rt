@@ -5,7 +5,9 @@ use messages::{Body, Bundle, Precommit, Proposal, Step as VoteStep, Vote, frame_
 use std::alloc::Global;
 use std::process::Abort;
 use std::test::Fail;
-use transactions::{Id, Seq, Value, read_value, value_id};
+use transactions::{
+    Id, Op, Seq, Shared, Tx, Value, len_of_tx_body, put_tx_body, read_value, value_id,
+};
 
 /// A value's bytes: those of its one transaction, of client 7 with this number, and the tags for validators 0 to 3.
 fn value_spelling(number: u8) -> [u8; 146] {
@@ -20,6 +22,24 @@ fn value_spelling(number: u8) -> [u8; 146] {
 
 fn value(alloc: Global, number: u8) -> Result<Value, Fail> {
     Ok(read_value(alloc, &value_spelling(number))?)
+}
+
+/// The value of client 7's transaction alone, with the right tag for validator 3.
+fn value_of(alloc: Global, session: u32, number: u64, op: Op) -> Result<Value, Fail> {
+    let mut tx = Tx {
+        client: 7,
+        session,
+        number,
+        op,
+        tags: Seq::new(alloc),
+    };
+    let mut body = Vec::with_capacity(alloc, len_of_tx_body(&tx)?)?;
+    put_tx_body(&mut body, &tx)?;
+    let tags = [[0; 32], [0; 32], [0; 32], hmac(&[0x77; 32], &body)];
+    tx.tags = Seq::from_vec(tags.to_vec(alloc)?);
+    Ok(Value {
+        txs: Shared::from_vec(alloc, vec![in alloc; tx]?)?,
+    })
 }
 
 fn id(alloc: Global, number: u8) -> Result<Id, Fail> {
@@ -84,18 +104,36 @@ fn precommit(alloc: Global, height: u64, id: Id, sender: u16, key: u8) -> Result
 
 /// Validator 0's bundle, by which this height decides client 7's transaction of the next number.
 pub(super) fn bundle(rt: &impl Abort, alloc: Global, height: u8) -> Result<Vec<u8>, Fail> {
-    let number = height.saturating_add(1);
-    let id = id(alloc, number)?;
+    let value = value(alloc, height.saturating_add(1))?;
+    bundle_of(rt, alloc, u64::from(height), value)
+}
+
+/// Validator 0's bundle, by which height 5 decides client 7's close of its first session, with number 6.
+pub(super) fn close(rt: &impl Abort, alloc: Global) -> Result<Vec<u8>, Fail> {
+    let value = value_of(alloc, 0, 6, Op::Close)?;
+    bundle_of(rt, alloc, 5, value)
+}
+
+/// Validator 0's bundle, by which height 6 decides client 7's first transaction of the next session.
+pub(super) fn next_session(rt: &impl Abort, alloc: Global) -> Result<Vec<u8>, Fail> {
+    let contents = Seq::from_vec(b"b".to_vec(alloc)?);
+    let value = value_of(alloc, 1, 1, Op::Bytes(contents))?;
+    bundle_of(rt, alloc, 6, value)
+}
+
+/// Validator 0's bundle, by which this height decides the value.
+fn bundle_of(rt: &impl Abort, alloc: Global, height: u64, value: Value) -> Result<Vec<u8>, Fail> {
+    let id = value_id(alloc, &value)?;
     let mut precommits = Seq::new(alloc);
     for (sender, key) in [(0, 0x00), (1, 0x11), (2, 0x22)] {
-        precommits.push(precommit(alloc, u64::from(height), id, sender, key)?)?;
+        precommits.push(precommit(alloc, height, id, sender, key)?)?;
     }
     let body = Body::Bundle(Bundle {
-        height: u64::from(height),
+        height,
         sender: 0,
         round: 0,
         id,
-        value: value(alloc, number)?,
+        value,
         precommits,
     });
     frame(rt, alloc, 0x00, &body)

@@ -8,7 +8,7 @@ ghost use Rattle.node_core.specs.Core.{Stands};
 ghost use Rattle.locked_node.specs.Locked.{count_of};
 
 use super::core_of;
-use super::frames::{bundle, proposal, vote};
+use super::frames::{bundle, close, next_session, proposal, vote};
 use super::taking::{assert_first, next_of};
 use locked_node::{LockedNode, SubscribeFault, Subscription, words_for};
 use messages::Step as VoteStep;
@@ -181,7 +181,7 @@ fn fills_from_within<J: Node, R: Abort + Wait>(
     Ok(())
 }
 
-/// The items of positions 3 and 4 are a piece of the delivered list, and with another number for the
+/// The items of positions 3 and 4 are a piece of the delivered list, and with another number or another session for the
 /// second they are none.
 fn are_met<J: Node, R: Abort + Wait>(
     rt: &R,
@@ -194,6 +194,33 @@ fn are_met<J: Node, R: Abort + Wait>(
     assert_eq!(rt; two[1].item.number, 5);
     two[1].item.number = 6;
     assert!(rt; !node.meet(rt, &*two).yes());
+    two[1].item.number = 5;
+    assert_eq!(rt; two[1].item.session, 0);
+    two[1].item.session = 1;
+    assert!(rt; !node.meet(rt, &*two).yes());
+}
+
+/// The client's close is decided, and its first item of the next session, which is none of the session before.
+fn sees_the_next_session<J: Node, R: Abort + Wait>(
+    rt: &R,
+    alloc: Global,
+    node: &LockedNode<MemoryStore, J>,
+) -> Result<(), Fail> {
+    let mut seat = node.seat(rt);
+    takes(rt, node, &mut seat, &close(rt, alloc)?);
+    takes(rt, node, &mut seat, &next_session(rt, alloc)?);
+    let mut subscription = node.subscribe(rt, 5, 2)?;
+    assert_eq!(rt; node.fill(rt, &subscription)?, 2);
+    let mut two = [
+        next_of(rt, &mut subscription),
+        next_of(rt, &mut subscription),
+    ];
+    assert_eq!(rt; (two[0].item.session, two[0].item.number), (0, 6));
+    assert_eq!(rt; (two[1].item.session, two[1].item.number), (1, 1));
+    assert!(rt; node.meet(rt, &two).yes());
+    two[1].item.session = 0;
+    assert!(rt; !node.meet(rt, &two).yes());
+    Ok(())
 }
 
 /// Rings at the list's end, behind it, and of no capacity.
@@ -222,7 +249,8 @@ fn with_rings<J: Node, R: Abort + Wait>(
     delivers_five(rt, alloc, &node)?;
     fills_from_the_beginning(rt, &node)?;
     fills_from_within(rt, &node)?;
-    refuses_rings(rt, &node)
+    refuses_rings(rt, &node)?;
+    sees_the_next_session(rt, alloc, &node)
 }
 
 #[test]

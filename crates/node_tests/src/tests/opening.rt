@@ -97,19 +97,19 @@ fn node_over(
 
 impl Node {
     /// Validator 3 over these bytes.
-    fn over(rt: &impl Abort, alloc: Global, bytes: &[u8]) -> Result<Node, Fail> {
+    pub(super) fn over(rt: &impl Abort, alloc: Global, bytes: &[u8]) -> Result<Node, Fail> {
         let core = node_over(rt, alloc, KEYS, 3, bytes)?;
         Ok(Node { alloc, core })
     }
 
     /// What its store holds at its end.
-    fn stored(self) -> Result<Vec<u8>, Fail> {
+    pub(super) fn stored(self) -> Result<Vec<u8>, Fail> {
         let Node { alloc, core } = self;
         Ok(core.close().bytes().to_vec(alloc)?)
     }
 
     /// It has these decisions, and stands in round 0 of the next height. No rule has fired.
-    fn stands(&mut self, rt: &impl Abort, decisions: usize) {
+    pub(super) fn stands(&mut self, rt: &impl Abort, decisions: usize) {
         assert_eq!(rt; self.core.height(), decisions as u64);
         assert_eq!(rt; self.core.round(), 0);
         assert_eq!(rt; self.core.decisions().len(), decisions);
@@ -226,8 +226,8 @@ fn locked_bytes(rt: &impl Abort, alloc: Global) -> Result<Vec<u8>, Fail> {
     node.stored()
 }
 
-/// What the store of a validator holds that has decided height 0: a header, the mark, the records of a prevote, of a precommit with the
-/// value that it locks, and of a decision with three precommits.
+/// What the store of a validator holds that has decided height 0: a header, the mark, the records of a prevote, of a
+/// precommit with the value that it locks, and of a decision with three precommits.
 fn decided_bytes(rt: &impl Abort, alloc: Global) -> Result<Vec<u8>, Fail> {
     let mut node = Node::new(rt, alloc)?;
     node.decides(rt)?;

@@ -44,7 +44,7 @@ fn halts_at_its_prevote(rt: &impl Abort, core: &mut NodeCore<MemoryStore>) {
 fn third_sync_fails(rt: HostRuntime) -> Result<(), Fail> {
     let powers = powers_of(&rt, vec![in rt.alloc(); 1, 1]?)?;
     let ring = ring_of(&rt, rt.alloc(), KEYS, 0, 2)?;
-    let journal = journal_of(&rt, rt.alloc(), 0, &powers, 6, 0);
+    let journal = journal_of(&rt, rt.alloc(), 0, &powers, 7, 0);
     let mut core = NodeCore::new(rt.alloc(), Config { me: 0, powers }, ring, journal);
     halts_at_its_prevote(&rt, &mut core);
     Ok(())

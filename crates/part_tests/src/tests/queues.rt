@@ -29,16 +29,16 @@ const TAG_OF_ZERO: [u8; 32] = [
 
 /// The first of some validators.
 #[derive(Drop)]
-struct Validator {
-    alloc: Global,
+pub(super) struct Validator {
+    pub(super) alloc: Global,
     count: u16,
-    ring: KeyRing,
-    frontier: Frontier,
-    mempool: Mempool,
+    pub(super) ring: KeyRing,
+    pub(super) frontier: Frontier,
+    pub(super) mempool: Mempool,
 }
 
 impl Validator {
-    fn new(alloc: Global, validators: u16) -> Result<Validator, Fail> {
+    pub(super) fn new(alloc: Global, validators: u16) -> Result<Validator, Fail> {
         let ring = ring_of(alloc, validators)?;
         Ok(Validator {
             alloc,
@@ -57,7 +57,11 @@ impl Validator {
     }
 
     /// Adds this tag, and one of zeros for each other validator.
-    fn put_tags(&self, tags: &mut Seq<[u8; 32]>, own: [u8; 32]) -> Result<(), AllocError> {
+    pub(super) fn put_tags(
+        &self,
+        tags: &mut Seq<[u8; 32]>,
+        own: [u8; 32],
+    ) -> Result<(), AllocError> {
         tags.push(own)?;
         for _ in 1..self.count {
             tags.push([0; 32])?;
@@ -66,10 +70,16 @@ impl Validator {
     }
 
     /// A transaction with the tag for this validator, and one of zeros for each other.
-    fn tagged(&self, client: u16, number: u64, op: Op) -> Result<Tx, Fail> {
+    pub(super) fn tagged(
+        &self,
+        client: u16,
+        session: u32,
+        number: u64,
+        op: Op,
+    ) -> Result<Tx, Fail> {
         let mut tx = Tx {
             client,
-            session: 0,
+            session,
             number,
             op,
             tags: Seq::new(self.alloc),
@@ -80,13 +90,13 @@ impl Validator {
     }
 
     /// An operation of this many bytes.
-    fn bytes(&self, len: usize) -> Result<Op, Fail> {
+    pub(super) fn bytes(&self, len: usize) -> Result<Op, Fail> {
         Ok(Op::Bytes(Seq::from_vec(vec![in self.alloc; 7; len]?)))
     }
 
     /// Client 7's transaction of this number, with the right tag or with another.
     fn sent_by_seven(&self, number: u64, is_right: bool) -> Result<Tx, Fail> {
-        let mut tx = self.tagged(7, number, self.bytes(2)?)?;
+        let mut tx = self.tagged(7, 0, number, self.bytes(2)?)?;
         if !is_right {
             tx.tags = Seq::new(self.alloc);
             self.put_tags(&mut tx.tags, TAG_OF_ZERO)?;
@@ -111,7 +121,7 @@ impl Validator {
         Ok(self.mempool.is_genuine(&self.ring, &value))
     }
 
-    fn submit(&mut self, tx: Tx) -> Result<(), SubmitFault> {
+    pub(super) fn submit(&mut self, tx: Tx) -> Result<(), SubmitFault> {
         self.mempool.submit(tx, &self.ring, &self.frontier)
     }
 
@@ -126,7 +136,7 @@ impl Validator {
             Some(len) => self.bytes(len)?,
             None => Op::Close,
         };
-        let tx = self.tagged(client, number, op)?;
+        let tx = self.tagged(client, 0, number, op)?;
         Ok(self.submit(tx))
     }
 
@@ -152,9 +162,10 @@ impl Validator {
     }
 
     /// The answer to a transaction with one tag, this one.
-    fn answer_to_tag(
+    pub(super) fn answer_to_tag(
         &mut self,
         client: u16,
+        session: u32,
         number: u64,
         op: Op,
         tag: &[u8; 32],
@@ -163,7 +174,7 @@ impl Validator {
         tags.push(*tag)?;
         let tx = Tx {
             client,
-            session: 0,
+            session,
             number,
             op,
             tags,
@@ -179,7 +190,7 @@ impl Validator {
         answer: Result<(), SubmitFault>,
     ) -> Result<(), Fail> {
         let op = Op::Bytes(Seq::from_vec(b"a".to_vec(self.alloc)?));
-        let found = self.answer_to_tag(7, 1, op, tag)?;
+        let found = self.answer_to_tag(7, 0, 1, op, tag)?;
         assert_eq!(rt; found, answer);
         Ok(())
     }
@@ -192,7 +203,12 @@ impl Validator {
     }
 
     /// A value of this many transactions and bytes is picked.
-    fn picks_so_many(&self, rt: &impl Abort, count: usize, bytes: usize) -> Result<(), Fail> {
+    pub(super) fn picks_so_many(
+        &self,
+        rt: &impl Abort,
+        count: usize,
+        bytes: usize,
+    ) -> Result<(), Fail> {
         let value = self.mempool.pick()?;
         assert!(rt; value.txs.len() == count);
         assert!(rt; len_of_value(&value) == Ok(bytes));
@@ -211,7 +227,7 @@ impl Validator {
     }
 
     /// Delivers a value.
-    fn take(&mut self, rt: &impl Abort, value: &Value) -> Result<(), Fail> {
+    pub(super) fn take(&mut self, rt: &impl Abort, value: &Value) -> Result<(), Fail> {
         let _spelling = spell_value(self.alloc, value)?;
         assert!(rt; self.frontier.valid(value));
         self.frontier.extend(value)?;
@@ -219,7 +235,7 @@ impl Validator {
     }
 
     /// Delivers what is picked.
-    fn deliver(&mut self, rt: &impl Abort) -> Result<(), Fail> {
+    pub(super) fn deliver(&mut self, rt: &impl Abort) -> Result<(), Fail> {
         let value = self.mempool.pick()?;
         self.take(rt, &value)?;
         self.mempool.drop_delivered(&self.frontier);
@@ -268,9 +284,10 @@ fn on_validator<F: FnOnce(&mut Validator) -> Result<(), Fail>>(
 
 /// Client 7 fills its queue.
 fn fill_queue(rt: &impl Abort, validator: &mut Validator) -> Result<(), Fail> {
-    for number in 1..65 {
-        assert!(rt; validator.mempool.reached(7, &validator.frontier).last + 1 == number);
-        validator.answers(rt, &[(7, number, Ok(()))])?;
+    for sent in 0..64 {
+        let reached = validator.mempool.reached(7, &validator.frontier);
+        assert_eq!(rt; reached.last, sent);
+        validator.answers(rt, &[(7, sent + 1, Ok(()))])?;
     }
     assert!(rt; validator.mempool.waiting(7).len() == 64);
     Ok(())
@@ -358,7 +375,7 @@ fn one_tag_for_each_validator(rt: HostRuntime) -> Result<(), Fail> {
 
 /// Contents of 1,025 bytes are refused before the client, who is unknown.
 fn refuse_too_long(rt: &impl Abort, validator: &mut Validator) -> Result<(), Fail> {
-    let mut too_long = validator.tagged(10, 1, Op::Close)?;
+    let mut too_long = validator.tagged(10, 0, 1, Op::Close)?;
     too_long.op = validator.bytes(1025)?;
     assert!(rt; validator.submit(too_long) == Err(SubmitFault::TooLong));
     Ok(())
@@ -367,7 +384,7 @@ fn refuse_too_long(rt: &impl Abort, validator: &mut Validator) -> Result<(), Fai
 /// Contents of 1,024 bytes are right, and are taken.
 fn take_longest(rt: &impl Abort, validator: &mut Validator) -> Result<(), Fail> {
     let op = validator.bytes(1024)?;
-    let longest = validator.tagged(7, 1, op)?;
+    let longest = validator.tagged(7, 0, 1, op)?;
     let answer = validator
         .mempool
         .check(&longest, &validator.ring, &validator.frontier);
@@ -411,7 +428,7 @@ fn refuse_fields(
     cases: &[(u16, u64, SubmitFault)],
 ) -> Result<(), Fail> {
     for (client, number, fault) in cases {
-        let found = validator.answer_to_tag(*client, *number, Op::Close, &TAG_OF_ZERO)?;
+        let found = validator.answer_to_tag(*client, 0, *number, Op::Close, &TAG_OF_ZERO)?;
         assert_eq!(rt; found, Err(*fault), "client {client}, number {number}");
     }
     Ok(())

@@ -1,6 +1,6 @@
 //! What no contract says: that the calls of both ends get on.
 
-ghost use Rattle.std.specs.Prelude.{◌≡◌, true, [], ◌∷◌, IfOk};
+ghost use Rattle.std.specs.Prelude.{◌≡◌, true, [], ◌∷◌};
 ghost use Rattle.protocol.specs.Values.{fifo};
 ghost use Rattle.subscriber_ring.specs.Order.{items_of};
 
@@ -25,28 +25,30 @@ enum Answer {
 }
 
 /// The item of this position: two bytes of client 7.
-fn item_at(alloc: Global, position: u64) -> Result<Delivered, AllocError>
-    ensures { IfOk result (λ d. d.position ≡ position) }
-{
-    let item = Item {
+fn item_at(alloc: Global, position: u64) -> Result<Item, AllocError> {
+    Ok(Item {
         client: 7,
         session: 0,
         number: position,
         op: Op::Bytes(Seq::from_vec(b"ab".to_vec(alloc)?)),
-    };
-    Ok(Delivered { position, item })
+    })
 }
 
 /// Offers the next item.
 fn offer_next<R: Wait>(rt: &R, alloc: Global, feeder: &mut Feeder) -> Answer {
+    match item_at(alloc, feeder.next()) {
+        Ok(item) => offer_item(rt, feeder, item),
+        Err(_) => Answer::OutOfMemory,
+    }
+}
+
+/// Offers an item at the next position.
+fn offer_item<R: Wait>(rt: &R, feeder: &mut Feeder, item: Item) -> Answer {
     let position = feeder.next();
     if feeder.first() == 0 || position >= 1000 {
         return Answer::NotMade;
     }
-    let Ok(delivered) = item_at(alloc, position) else {
-        return Answer::OutOfMemory;
-    };
-    match feeder.offer(rt, delivered) {
+    match feeder.offer(rt, Delivered { position, item }) {
         Ok(()) => Answer::Taken,
         Err(OfferFault::Full(back)) => Answer::Full(back.position),
         Err(gone) => Answer::Gone(gone.into_item().position),
@@ -111,6 +113,32 @@ fn first_item() -> Delivered
         op: Op::Close,
     };
     Delivered { position: 0, item }
+}
+
+/// Client 7's close of this session.
+fn close_of(session: u32) -> Item {
+    Item {
+        client: 7,
+        session,
+        number: 1,
+        op: Op::Close,
+    }
+}
+
+#[test]
+fn items_of_many_sessions(rt: HostRuntime) -> Result<(), Fail> {
+    let (mut feeder, mut subscription) = ring(rt.alloc(), 5, 3)?;
+    for session in [0, 1, u32::MAX] {
+        let answer = offer_item(&rt, &mut feeder, close_of(session));
+        assert_eq!(rt; answer, Answer::Taken);
+    }
+    for session in [0, 1, u32::MAX] {
+        let Some(delivered) = subscription.try_take(&rt) else {
+            panic!(rt; "an item waits");
+        };
+        assert_eq!(rt; delivered.item, close_of(session));
+    }
+    Ok(())
 }
 
 #[test]

@@ -1,0 +1,452 @@
+//! Client 7 closes a session and goes on in the next.
+
+use super::queues::Validator;
+use protocol::{Standing, SubmitFault};
+use std::process::Abort;
+use std::test::Fail;
+use transactions::{Op, Seq, Shared, Tx, Value, spell_value};
+
+/// The tag of client 7's transaction of session 1 with number 1, the byte 62, by Python's module `hmac`.
+const TAG_OF_BYTES: [u8; 32] = [
+    0x37, 0xc7, 0x1d, 0xc0, 0x6c, 0x14, 0x45, 0xcb, 0x8b, 0xa8, 0x46, 0x04, 0xb4, 0x1a, 0x40, 0x13,
+    0x4c, 0x58, 0x8a, 0xac, 0xe3, 0x84, 0x0d, 0x06, 0xc3, 0x27, 0xf5, 0x08, 0x3f, 0x4d, 0xd0, 0xcb,
+];
+
+/// The tag of client 7's close of session 1 with number 0, by the same.
+const TAG_OF_ZERO: [u8; 32] = [
+    0x4e, 0x8d, 0xe3, 0x42, 0x0b, 0xaa, 0x4b, 0xd9, 0x56, 0x89, 0xa6, 0xda, 0x0f, 0xe1, 0x97, 0xd8,
+    0xa4, 0xc7, 0x05, 0x3d, 0x96, 0x85, 0x92, 0x91, 0x32, 0xe7, 0x79, 0xf5, 0xc4, 0x94, 0x15, 0xc3,
+];
+
+/// A transaction of client 7, by its session and its number.
+#[derive(Clone, Copy, Debug, PartialEq, Eq)]
+enum Sent {
+    Bytes(u32, u64),
+    Close(u32, u64),
+}
+
+use Sent::{Bytes, Close};
+
+type Answer = Result<(), SubmitFault>;
+
+const OLD: Answer = Err(SubmitFault::OldNumber);
+
+const CLOSED: Answer = Err(SubmitFault::Closed);
+
+const AHEAD: Answer = Err(SubmitFault::SessionAhead);
+
+const GAP: Answer = Err(SubmitFault::Gap);
+
+const FULL: Answer = Err(SubmitFault::QueueFull);
+
+/// Where nothing is delivered, and nothing waits.
+const AT_FIRST: [(Sent, Answer); 5] = [
+    (Bytes(1, 1), AHEAD),
+    (Bytes(2, 5), AHEAD),
+    (Close(u32::MAX, 1), AHEAD),
+    (Bytes(0, 2), GAP),
+    (Close(0, 1), Ok(())),
+];
+
+/// Where session 0 is closed by its transaction 1, of which it doesn't matter whether it waits or is delivered.
+const AFTER_A_CLOSE: [(Sent, Answer); 8] = [
+    (Bytes(0, 1), OLD),
+    (Bytes(0, 2), CLOSED),
+    (Close(0, 3), CLOSED),
+    (Bytes(2, 1), AHEAD),
+    (Bytes(2, 2), AHEAD),
+    (Bytes(u32::MAX, 1), AHEAD),
+    (Bytes(1, 2), GAP),
+    (Bytes(1, 1), Ok(())),
+];
+
+/// And then transaction 1 of session 1 waits, so that session 0 is closed and isn't the last.
+const IN_THE_NEXT_SESSION: [(Sent, Answer); 7] = [
+    (Bytes(0, 1), OLD),
+    (Bytes(0, 2), CLOSED),
+    (Bytes(1, 1), OLD),
+    (Bytes(1, 3), GAP),
+    (Bytes(2, 1), AHEAD),
+    (Bytes(2, 5), AHEAD),
+    (Close(1, 2), Ok(())),
+];
+
+/// And then transaction 1 of session 1 is delivered too, so that all of session 0 is old; the close of session 1 waits.
+const WITH_THE_NEXT_DELIVERED: [(Sent, Answer); 6] = [
+    (Bytes(0, 2), OLD),
+    (Close(1, 2), OLD),
+    (Bytes(1, 3), CLOSED),
+    (Bytes(3, 1), AHEAD),
+    (Bytes(2, 2), GAP),
+    (Bytes(2, 1), Ok(())),
+];
+
+/// Where 64 transactions wait, 32 of session 0 and 32 of session 1, which is closed.
+const WHERE_THE_QUEUE_IS_FULL: [(Sent, Answer); 6] = [
+    (Bytes(0, 32), OLD),
+    (Bytes(0, 33), CLOSED),
+    (Bytes(1, 33), CLOSED),
+    (Bytes(3, 1), AHEAD),
+    (Bytes(2, 2), GAP),
+    (Bytes(2, 1), FULL),
+];
+
+/// What waits before another's value is delivered: the ends of two sessions, and the beginning of a third.
+const QUEUED: [Sent; 6] = [
+    Bytes(0, 1),
+    Bytes(0, 2),
+    Close(0, 3),
+    Bytes(1, 1),
+    Close(1, 2),
+    Bytes(2, 1),
+];
+
+/// What is delivered then, whoever sent it, and what waits behind it.
+const DELIVERIES: [(&[Sent], &[Sent]); 10] = [
+    (&[], &QUEUED),
+    (
+        &[Bytes(0, 1)],
+        &[
+            Bytes(0, 2),
+            Close(0, 3),
+            Bytes(1, 1),
+            Close(1, 2),
+            Bytes(2, 1),
+        ],
+    ),
+    // The session ends where it ends here, too.
+    (
+        &[Bytes(0, 1), Bytes(0, 2), Close(0, 3)],
+        &[Bytes(1, 1), Close(1, 2), Bytes(2, 1)],
+    ),
+    // It ends earlier, so that what waits next is none of a session that goes on.
+    (&[Close(0, 1)], &[]),
+    (&[Bytes(0, 1), Close(0, 2)], &[]),
+    // It doesn't end yet.
+    (&[Bytes(0, 1), Bytes(0, 2), Bytes(0, 3)], &[]),
+    // What is delivered ends within the next session.
+    (
+        &[Bytes(0, 1), Bytes(0, 2), Close(0, 3), Bytes(1, 1)],
+        &[Close(1, 2), Bytes(2, 1)],
+    ),
+    (&[Close(0, 1), Bytes(1, 1)], &[Close(1, 2), Bytes(2, 1)]),
+    // That one ends earlier too, or all that waits is delivered.
+    (&[Bytes(0, 1), Close(0, 2), Close(1, 1)], &[]),
+    (&[Close(0, 1), Bytes(1, 1), Close(1, 2), Bytes(2, 1)], &[]),
+];
+
+impl Sent {
+    /// The transaction, as it waits or is proposed.
+    fn of(tx: &Tx) -> Sent {
+        match tx.op {
+            Op::Bytes(_) => Bytes(tx.session, tx.number),
+            Op::Close => Close(tx.session, tx.number),
+        }
+    }
+}
+
+/// Whether these are the transactions of these clients, in this order.
+fn are_of_clients(txs: &[Tx], sent: &[(u16, Sent)]) -> bool {
+    txs.len() == sent.len()
+        && txs
+            .iter()
+            .zip(sent)
+            .all(|(tx, sent)| tx.client == sent.0 && Sent::of(tx) == sent.1)
+}
+
+/// Whether these are client 7's transactions, in this order.
+fn are_of_seven(txs: &[Tx], sent: &[Sent]) -> bool {
+    txs.len() == sent.len()
+        && txs
+            .iter()
+            .zip(sent)
+            .all(|(tx, sent)| tx.client == 7 && Sent::of(tx) == *sent)
+}
+
+impl Validator {
+    /// The transaction with the tag for this validator.
+    fn of_seven(&self, sent: Sent) -> Result<Tx, Fail> {
+        match sent {
+            Bytes(session, number) => self.tagged(7, session, number, self.bytes(2)?),
+            Close(session, number) => self.tagged(7, session, number, Op::Close),
+        }
+    }
+
+    /// The value of these.
+    fn value_of_seven(&self, sent: &[Sent]) -> Result<Value, Fail> {
+        let mut txs = Vec::new(self.alloc);
+        for each in sent {
+            txs.push(self.of_seven(*each)?)?;
+        }
+        Ok(Value {
+            txs: Shared::from_vec(self.alloc, txs)?,
+        })
+    }
+
+    /// Each gets its answer.
+    fn answers_seven(&mut self, rt: &impl Abort, cases: &[(Sent, Answer)]) -> Result<(), Fail> {
+        for (sent, answer) in cases {
+            let tx = self.of_seven(*sent)?;
+            assert_eq!(rt; self.submit(tx), *answer, "{sent:?}");
+        }
+        Ok(())
+    }
+
+    fn queues(&mut self, rt: &impl Abort, sent: &[Sent]) -> Result<(), Fail> {
+        for each in sent {
+            self.answers_seven(rt, &[(*each, Ok(()))])?;
+        }
+        Ok(())
+    }
+
+    /// A value of these is delivered, which another may have proposed.
+    fn delivers(&mut self, rt: &impl Abort, sent: &[Sent]) -> Result<(), Fail> {
+        let value = self.value_of_seven(sent)?;
+        self.take(rt, &value)?;
+        self.mempool.drop_delivered(&self.frontier);
+        Ok(())
+    }
+
+    /// These wait, in this order.
+    fn waits(&self, rt: &impl Abort, sent: &[Sent]) {
+        assert!(rt; are_of_seven(self.mempool.waiting(7), sent), "{sent:?}");
+    }
+
+    /// Client 7 stands so after what is delivered and what waits.
+    fn reaches(&self, rt: &impl Abort, session: u32, last: u64, closed: bool) {
+        let reached = Standing {
+            session,
+            last,
+            closed,
+        };
+        assert_eq!(rt; self.mempool.reached(7, &self.frontier), reached);
+    }
+}
+
+/// The close of session 0 waits, and then it is delivered.
+fn closes_first_session(rt: &impl Abort, validator: &mut Validator) -> Result<(), Fail> {
+    validator.answers_seven(rt, &AT_FIRST)?;
+    validator.reaches(rt, 0, 1, true);
+    validator.answers_seven(rt, &AFTER_A_CLOSE[..7])?;
+    validator.delivers(rt, &[Close(0, 1)])?;
+    validator.reaches(rt, 0, 1, true);
+    validator.answers_seven(rt, &AFTER_A_CLOSE)?;
+    validator.reaches(rt, 1, 1, false);
+    validator.waits(rt, &[Bytes(1, 1)]);
+    Ok(())
+}
+
+#[test]
+fn causes_after_a_delivered_close(rt: HostRuntime) -> Result<(), Fail> {
+    let mut validator = Validator::new(rt.alloc(), 4)?;
+    closes_first_session(&rt, &mut validator)?;
+    validator.answers_seven(&rt, &IN_THE_NEXT_SESSION)?;
+    validator.delivers(&rt, &[Bytes(1, 1)])?;
+    validator.answers_seven(&rt, &WITH_THE_NEXT_DELIVERED)?;
+    validator.waits(&rt, &[Close(1, 2), Bytes(2, 1)]);
+    Ok(())
+}
+
+#[test]
+fn causes_after_a_queued_close(rt: HostRuntime) -> Result<(), Fail> {
+    let mut validator = Validator::new(rt.alloc(), 4)?;
+    validator.queues(&rt, &[Close(0, 1)])?;
+    validator.answers_seven(&rt, &AFTER_A_CLOSE)?;
+    validator.answers_seven(&rt, &IN_THE_NEXT_SESSION)?;
+    validator.delivers(&rt, &[Close(0, 1), Bytes(1, 1)])?;
+    validator.answers_seven(&rt, &WITH_THE_NEXT_DELIVERED)?;
+    validator.waits(&rt, &[Close(1, 2), Bytes(2, 1)]);
+    Ok(())
+}
+
+/// Two sessions of 32 transactions fill the queue.
+fn fill_queue(rt: &impl Abort, validator: &mut Validator) -> Result<(), Fail> {
+    for session in 0..2 {
+        for number in 1..32 {
+            validator.queues(rt, &[Bytes(session, number)])?;
+        }
+        validator.queues(rt, &[Close(session, 32)])?;
+    }
+    assert_eq!(rt; validator.mempool.waiting(7).len(), 64);
+    Ok(())
+}
+
+#[test]
+fn all_sessions_share_a_queue(rt: HostRuntime) -> Result<(), Fail> {
+    let mut validator = Validator::new(rt.alloc(), 4)?;
+    fill_queue(&rt, &mut validator)?;
+    validator.answers_seven(&rt, &WHERE_THE_QUEUE_IS_FULL)?;
+    validator.delivers(&rt, &[Bytes(0, 1)])?;
+    validator.answers_seven(&rt, &[(Bytes(2, 1), Ok(()))])
+}
+
+/// What is too long, of an unknown client or under a tag that isn't its own is refused for that, whatever its session.
+fn judge_before_sessions(rt: &impl Abort, validator: &mut Validator) -> Result<(), Fail> {
+    let mut too_long = validator.tagged(10, 5, 9, Op::Close)?;
+    too_long.op = validator.bytes(1025)?;
+    assert_eq!(rt; validator.submit(too_long), Err(SubmitFault::TooLong));
+    let unknown = validator.tagged(10, 5, 9, Op::Close)?;
+    assert_eq!(rt; validator.submit(unknown), Err(SubmitFault::UnknownClient));
+    let mut moved = validator.of_seven(Bytes(0, 1))?;
+    moved.session = 1;
+    assert_eq!(rt; validator.submit(moved), Err(SubmitFault::BadTag));
+    let mut moved = validator.of_seven(Bytes(5, 9))?;
+    moved.session = 0;
+    assert_eq!(rt; validator.submit(moved), Err(SubmitFault::BadTag));
+    Ok(())
+}
+
+#[test]
+fn causes_before_those_of_sessions(rt: HostRuntime) -> Result<(), Fail> {
+    let mut validator = Validator::new(rt.alloc(), 4)?;
+    judge_before_sessions(&rt, &mut validator)
+}
+
+/// Known tags of session 1, which number 0 does not begin, and number 1 does.
+fn judge_known_tags(rt: &impl Abort, validator: &mut Validator) -> Result<(), Fail> {
+    validator.queues(rt, &[Close(0, 1)])?;
+    let zero = validator.answer_to_tag(7, 1, 0, Op::Close, &TAG_OF_ZERO)?;
+    assert_eq!(rt; zero, GAP);
+    let other = Op::Bytes(Seq::from_vec(b"b".to_vec(validator.alloc)?));
+    let found = validator.answer_to_tag(7, 2, 1, other, &TAG_OF_BYTES)?;
+    assert_eq!(rt; found, Err(SubmitFault::BadTag));
+    let first = Op::Bytes(Seq::from_vec(b"b".to_vec(validator.alloc)?));
+    let found = validator.answer_to_tag(7, 1, 1, first, &TAG_OF_BYTES)?;
+    assert_eq!(rt; found, Ok(()));
+    let zero = validator.answer_to_tag(7, 1, 0, Op::Close, &TAG_OF_ZERO)?;
+    assert_eq!(rt; zero, OLD);
+    Ok(())
+}
+
+#[test]
+fn known_tags_of_a_later_session(rt: HostRuntime) -> Result<(), Fail> {
+    let mut validator = Validator::new(rt.alloc(), 1)?;
+    judge_known_tags(&rt, &mut validator)
+}
+
+#[test]
+fn what_waits_goes_on_from_what_is_delivered(rt: HostRuntime) -> Result<(), Fail> {
+    for (delivered, waiting) in &DELIVERIES {
+        let mut validator = Validator::new(rt.alloc(), 4)?;
+        validator.queues(&rt, &QUEUED)?;
+        validator.delivers(&rt, delivered)?;
+        validator.waits(&rt, waiting);
+    }
+    Ok(())
+}
+
+/// Another's close, or another's transaction in place of the own close, has dropped all: the client goes on from there.
+#[test]
+fn the_next_follows_what_is_delivered(rt: HostRuntime) -> Result<(), Fail> {
+    let mut validator = Validator::new(rt.alloc(), 4)?;
+    validator.queues(&rt, &QUEUED)?;
+    validator.delivers(&rt, &[Bytes(0, 1), Close(0, 2)])?;
+    validator.answers_seven(
+        &rt,
+        &[
+            (Close(0, 3), CLOSED),
+            (Bytes(2, 1), AHEAD),
+            (Bytes(1, 1), Ok(())),
+        ],
+    )?;
+    let mut validator = Validator::new(rt.alloc(), 4)?;
+    validator.queues(&rt, &QUEUED)?;
+    validator.delivers(&rt, &[Bytes(0, 1), Bytes(0, 2), Bytes(0, 3)])?;
+    validator.answers_seven(
+        &rt,
+        &[
+            (Close(0, 3), OLD),
+            (Bytes(1, 1), AHEAD),
+            (Close(0, 4), Ok(())),
+        ],
+    )
+}
+
+/// Client 8's transactions stand between those of two sessions of client 7.
+fn pick_two_sessions(rt: &impl Abort, validator: &mut Validator) -> Result<(), Fail> {
+    validator.queues(rt, &[Close(0, 1), Bytes(1, 1), Close(1, 2)])?;
+    for number in [1, 2] {
+        let other = validator.tagged(8, 0, number, Op::Bytes(Seq::new(validator.alloc)))?;
+        assert_eq!(rt; validator.submit(other), Ok(()));
+    }
+    let wanted = &[
+        (7, Close(0, 1)),
+        (8, Bytes(0, 1)),
+        (7, Bytes(1, 1)),
+        (8, Bytes(0, 2)),
+        (7, Close(1, 2)),
+    ];
+    let value = validator.mempool.pick()?;
+    assert!(rt; are_of_clients(value.txs.as_slice(), wanted));
+    Ok(())
+}
+
+#[test]
+fn a_value_spans_sessions(rt: HostRuntime) -> Result<(), Fail> {
+    let mut validator = Validator::new(rt.alloc(), 4)?;
+    pick_two_sessions(&rt, &mut validator)?;
+    validator.deliver(&rt)?;
+    validator.waits(&rt, &[]);
+    validator.reaches(&rt, 1, 2, true);
+    validator.answers_seven(&rt, &[(Bytes(0, 2), OLD), (Bytes(2, 1), Ok(()))])
+}
+
+/// Whether a value of this transaction alone is genuine.
+fn is_genuine(validator: &Validator, tx: Tx) -> Result<bool, Fail> {
+    let mut txs = Vec::new(validator.alloc);
+    txs.push(tx)?;
+    let value = Value {
+        txs: Shared::from_vec(validator.alloc, txs)?,
+    };
+    let _spelling = spell_value(validator.alloc, &value)?;
+    Ok(validator.mempool.is_genuine(&validator.ring, &value))
+}
+
+/// Transactions of two sessions that wait have one number, and one that doesn't wait is of a third.
+fn judge_genuine(rt: &impl Abort, validator: &mut Validator) -> Result<(), Fail> {
+    validator.queues(rt, &[Close(0, 1), Bytes(1, 1)])?;
+    for sent in [
+        Close(0, 1),
+        Bytes(0, 1),
+        Bytes(1, 1),
+        Close(1, 1),
+        Bytes(2, 1),
+    ] {
+        let right = validator.of_seven(sent)?;
+        assert!(rt; is_genuine(validator, right)?, "{sent:?}");
+        let mut wrong = validator.of_seven(sent)?;
+        wrong.tags = Seq::new(validator.alloc);
+        validator.put_tags(&mut wrong.tags, [9; 32])?;
+        assert!(rt; !is_genuine(validator, wrong)?, "{sent:?}");
+    }
+    Ok(())
+}
+
+#[test]
+fn sessions_that_wait_are_genuine_by_their_tags(rt: HostRuntime) -> Result<(), Fail> {
+    let mut validator = Validator::new(rt.alloc(), 4)?;
+    judge_genuine(&rt, &mut validator)
+}
+
+/// Clients 1 to 5 have closed session 0, and each has sent twenty of the longest transactions of session 1.
+fn fill_with_longest(rt: &impl Abort, validator: &mut Validator) -> Result<(), Fail> {
+    for client in 1..6 {
+        let close = validator.tagged(client, 0, 1, Op::Close)?;
+        assert_eq!(rt; validator.submit(close), Ok(()));
+    }
+    validator.deliver(rt)?;
+    for number in 1..21 {
+        for client in 1..6 {
+            let longest = validator.tagged(client, 1, number, validator.bytes(1024)?)?;
+            assert_eq!(rt; validator.submit(longest), Ok(()));
+        }
+    }
+    Ok(())
+}
+
+#[test]
+fn most_bytes_of_later_sessions(rt: HostRuntime) -> Result<(), Fail> {
+    let mut validator = Validator::new(rt.alloc(), 128)?;
+    fill_with_longest(&rt, &mut validator)?;
+    validator.picks_so_many(&rt, 97, 498_485)
+}
