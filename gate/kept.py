@@ -1,8 +1,9 @@
 """What earlier runs of the gate on this machine told of edits, by the sum of all that their checks read.
 
 It lies in ~/.cache/pomtsjef-gate/edits, or in the folder that GATE_KEPT names, for its user alone. An entry's name is a sum of
-the kit, of the scripts that try edits, of the crate's own files, of the libraries below it as they were built, and of the edits;
-so none goes stale, and one that can't be read counts for nothing. Only what went well is kept.
+the kit, of the scripts that try edits, of the crate's own files, of the libraries below it as they were built, and of the edit;
+so none goes stale, and one that can't be read counts for nothing. Edits that stand in one check say nothing of one another, so
+each has an entry of its own. Only what went well is kept.
 """
 import contextlib
 import hashlib
@@ -41,59 +42,65 @@ class Kept:
     def __init__(self, is_anew):
         self.is_anew, self.given, self.libraries = is_anew, 0, {}
         self.scripts = sum_of(*(rt.rtlib.sum_of(f"{TOP}/gate/{it}") for it in SCRIPTS))
+        # (a crate's own sum has what HANDLES allows, which `rt ci` notes here)
+        rt.Crate.allowed = rt.handles_of(TOP)
         with contextlib.suppress(OSError):
             os.makedirs(STORE, 0o700, exist_ok=True)
         self.is_ours = os.path.isdir(STORE) and os.stat(STORE).st_uid == os.geteuid()
 
-    def key(self, crate, edits):
-        """Returns the sum of all that the check of these edits reads."""
+    def below(self, crate, anew=False):
+        """Returns the names and sums of the libraries below a crate, each looked at once where it isn't wanted anew."""
         for it in crate.below():
-            if it.name not in self.libraries:
+            if anew or it.name not in self.libraries:
                 self.libraries[it.name] = sum_of_library(it)
-        below = [(it.name, self.libraries[it.name]) for it in crate.below()]
-        return sum_of(self.scripts, rt.own_sum(crate), below, [(it.label, it.text) for it in edits])
+        return [(it.name, self.libraries[it.name]) for it in crate.below()]
 
-    def lines_of(self, key):
-        """Returns the lines that an earlier run told under this key, or None."""
+    def front(self, crate, anew=False):
+        """Returns the sum of all that the check of an edit reads beside the edit."""
+        return sum_of(self.scripts, rt.own_sum(crate), self.below(crate, anew))
+
+    def line_of(self, key):
+        """Returns the line that an earlier run told under this key, or None."""
         if self.is_anew or not self.is_ours:
             return None
         try:
             with open(f"{STORE}/{key}", encoding="utf-8") as it:
                 found = json.load(it)
             os.utime(f"{STORE}/{key}")
-            return found["lines"] if found["key"] == key else None
+            return found["line"] if found["key"] == key else None
         except (OSError, ValueError, KeyError, TypeError):
             return None
 
     def told(self, crate, edits, tried, say):
-        """Returns whether all is well with each of these edits, and prints a line for each. `tried` tries them, and is handed what is to be called
-        with each line."""
-        key = self.key(crate, edits)
-        lines = self.lines_of(key)
-        if lines is not None and len(lines) == len(edits):
-            self.given += len(edits)
-            for line in lines:
+        """Returns whether all is well with each of these edits, and prints a line for each. `tried` tries those of which nothing is kept, and is
+        handed what is to be called with an edit, whether all is well with it, and its line."""
+        front, left, found = self.front(crate), [], []
+        for edit in edits:
+            line = self.line_of(sum_of(front, edit.label, edit.text))
+            if line is None:
+                left.append(edit)
+            else:
+                self.given += 1
                 say(f"{line} (kept)")
-            return [True] * len(edits)
-        lines = []
 
-        def note(line):
-            lines.append(line)
+        def note(edit, well, line):
+            found.append((edit, well, line))
             say(line)
 
-        wells = tried(crate, edits, note)
-        self.libraries = {}
-        if all(wells) and len(lines) == len(edits) and self.key(crate, edits) == key:
-            self.keep(key, lines)
-        return wells
+        if left:
+            tried(crate, left, note)
+            if self.front(crate, anew=True) == front:
+                for edit, _, line in (it for it in found if it[1]):
+                    self.keep(sum_of(front, edit.label, edit.text), line)
+        return [True] * (len(edits) - len(left)) + [well for _, well, _ in found]
 
-    def keep(self, key, lines):
+    def keep(self, key, line):
         """Writes an entry apart and then renames it, so that no other run meets half of it."""
         if not self.is_ours:
             return
         with contextlib.suppress(OSError):
             with tempfile.NamedTemporaryFile("w", prefix="new-", dir=STORE, delete=False, encoding="utf-8") as it:
-                json.dump({"key": key, "lines": lines}, it)
+                json.dump({"key": key, "line": line}, it)
             os.replace(it.name, f"{STORE}/{key}")
 
     def shrink(self):

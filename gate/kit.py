@@ -40,6 +40,7 @@ FUNCTIONS = {
     "checked": "crate texts flags kept",
     "copy_crates": "root to",
     "edited": "text file",
+    "handles_of": "root",
     "in_lanes": "tasks",
     "must_fail": "crate edit flags kept",
     "need": "crate",

@@ -14,8 +14,7 @@ whole check of its crate is dear, that function alone is checked.
 Beside them stand the edits of crates/NAME/equal/, which say the same in other words: each has to be proved, so that a
 run can't call everything refused.
 
-What a run told is kept on this machine (`gate/kept.py`), so that a later one tries only what changed; --anew tries all. An edit of
-definitions is kept by itself, a crate's edits of code together.
+What a run told of an edit is kept on this machine (`gate/kept.py`), so that a later one tries only what changed; --anew tries all.
 
 All is tried on copies. --built takes the libraries as `rt ci` left them in out/; without it this works in a copy of the
 checkout, over the libraries that `rt ci` keeps on this machine, and proves first what it lacks. The last line is 'N passed, M
@@ -419,34 +418,28 @@ def verdict_by_law(crate, edit):
 
 
 def tried_by_law(crate, edits, note):
-    """Tries an edit of definitions, notes what it comes to, and returns in a list whether all is well."""
-    well, text = verdict_by_law(crate, edits[0])
-    note(text)
-    return [well]
+    """Tries edits of definitions, and notes what each comes to."""
+    for edit in edits:
+        note(edit, *verdict_by_law(crate, edit))
 
 
 def tried(crate, edits, note):
-    """Tries a crate's edits of code, and returns for each whether all is well. Each verdict is noted as it is known."""
-    wells, left, alone, is_first = [], [it for it in edits if it.functions], [it for it in edits if not it.functions], True
-
-    def tell(well, text):
-        wells.append(well)
-        note(text)
+    """Tries a crate's edits of code. Each verdict is noted as it is known."""
+    left, alone, is_first = [it for it in edits if it.functions], [it for it in edits if not it.functions], True
 
     with tempfile.TemporaryDirectory(prefix="wrong-bodies-") as kept:
-        while len(left) > 1:
+        while len(left) > (0 if is_first else 1):
             untold = []
             for together in grouped(crate, left, is_first):
                 group = Group(together, kept)
                 for edit in together.places:
                     verdict = group.verdict(edit)
-                    tell(*verdict) if verdict else untold.append(edit)
+                    note(edit, *verdict) if verdict else untold.append(edit)
             if len(untold) == len(left) and not is_first:
                 break
             left, is_first = untold, False
         for edit in [*left, *alone]:
-            tell(*tried_alone(crate, edit, kept))
-    return wells
+            note(edit, *tried_alone(crate, edit, kept))
 
 
 def edits_of(crate, names):
