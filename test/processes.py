@@ -30,13 +30,17 @@ from validators import (
     Failed,
     Heading,
     LeftOut,
+    MARK,
+    POWERS,
     Tap,
     Wires,
+    decisions_in,
     dial,
     free_addresses,
     hold,
     limited,
     peak_of,
+    proposals_in,
     read,
     records_of,
     saved_by,
@@ -273,6 +277,99 @@ def kills(cluster, is_long):
         want(sent and sent <= set(saved_by(path)), f"validator {me} has sent what isn't in its journal")
 
 
+def goes_on_in_its_next_session(cluster, is_long):
+    """A client closes and goes on in its next session, while a validator is killed and started again over a journal that has some
+    of its sessions. All have the same list, and the client is told which session is next."""
+    for me in range(4):
+        cluster.start(me)
+    wanted = []
+    for session in range(20 if is_long else 4):
+        sender = f"7.{session}" if session else "7"
+        in_session = ("--session", str(session))
+        cluster.send_until_taken(7, 0, 1, *in_session, "--data", "61")
+        cluster.kill(3)
+        cluster.send_until_taken(7, 1, 2, *in_session, "--data", "")
+        cluster.send_until_taken(7, 2, 3, *in_session, "--close")
+        cluster.start(3)
+        wanted += [f"{sender} 1 61", f"{sender} 2 -", f"{sender} 3 close"]
+        lines = cluster.want_same(len(wanted), *range(4))
+        want(lines == [f"{at} {it}" for at, it in enumerate(wanted)], f"the list is {lines}")
+        for words, answer in (
+            ((4, *in_session, "--data", "61"), "refused 13 5"),
+            ((3, *in_session, "--close"), "refused 13 3"),
+            ((1, "--session", str(session + 2), "--data", "61"), "refused 13 9"),
+            ((2, "--session", str(session + 1), "--data", "61"), "refused 13 4"),
+        ):
+            told = cluster.send(7, 3, *words)
+            want(told == (1, answer), f"{words} is told {told} after session {session}")
+    status, told = cluster.send_file(9, 1, cluster.file_of(["61", "close", "62"]))
+    answers = {tuple(it.split(" ", 2)[1:]) for it in told.splitlines()}
+    want(status == 1 and ("3", "refused 13 5") in answers, f"a file with a line behind its close is told {status}, {told}")
+    cluster.want_same(len(wanted) + 2, *range(4))
+    status, told = cluster.send_file(9, 1, cluster.file_of(["62", "close"]), "--session", "1")
+    lines = cluster.want_same(len(wanted) + 4, *range(4))
+    listed = [it.split(" ", 1)[1] for it in lines[len(wanted) :]]
+    want(listed == ["9 1 61", "9 2 close", "9.1 1 62", "9.1 2 close"], f"the files are listed as {listed}")
+
+
+def a_journal_of_before_sessions(cluster, _):
+    """A journal without the mark, as one that was written before there were sessions, is carried over when it is opened."""
+    journal = cluster.path("v3.journal")
+    for me in range(4):
+        cluster.start(me)
+    cluster.send_until_taken(7, 0, 1, "--data", "61")
+    cluster.send_until_taken(7, 0, 2, "--close")
+    cluster.want_same(2, *range(4))
+    cluster.kill(3)
+    with open(journal, "rb") as it:
+        held = it.read()
+    with open(journal, "wb") as it:
+        # (the mark is the first record, of five bytes, behind a header of four)
+        it.write(held[:4] + held[13:])
+    want(all(it[0] != MARK for it in records_of(journal)), "the mark isn't the first record")
+    before = records_of(journal)
+    cluster.start(3)
+    cluster.send_until_taken(7, 3, 1, "--session", "1", "--data", "62")
+    lines = cluster.want_same(3, *range(4))
+    want(lines == ["0 7 1 61", "1 7 2 close", "2 7.1 1 62"], f"the list is {lines}")
+    after = records_of(journal)
+    want(after[: len(before)] == before, "a record of before is another one now")
+    want([at for at, it in enumerate(after) if it[0] == MARK] == [len(before)], "the mark doesn't stand once, behind what was there")
+
+
+def among(powers):
+    """Has a test run with validators of these powers."""
+
+    def with_powers(test):
+        test.powers = powers
+        return test
+
+    return with_powers
+
+
+@among("5,1,1,1,1,1,1")
+def proposers_by_power(cluster, is_long):
+    """Of eleven heights in turn the first validator of seven proposes five, and each other one of them one."""
+    for me in range(7):
+        cluster.start(me, {"start": 1_000, "idle": 0})
+    cluster.send_until_taken(7, 6, 1, "--data", "61")
+    cluster.want_same(1, *range(7))
+    for me in range(7):
+        cluster.wait_for_heights(110 if is_long else 33, me, PATIENCE)
+    cluster.end()
+    proposed = {it: me for me in range(7) for it in proposals_in(cluster.path(f"v{me}.journal"))}
+    for (height, turn), me in proposed.items():
+        # (validator 0 has the turns 0 to 4 of eleven, and validator 1 the next one)
+        place = (height + turn) % 11
+        wanted = 0 if place < 5 else place - 4
+        want(me == wanted, f"height {height} has in round {turn} a proposal of validator {me}, and not {wanted}")
+    for me in range(7):
+        decided = decisions_in(cluster.path(f"v{me}.journal"))
+        want(all(it in proposed for it in decided), f"validator {me} has decided what nobody proposed")
+        want([it[0] for it in decided] == list(range(len(decided))), f"validator {me} has decided {decided}")
+    want(set(proposed.values()) == set(range(7)), f"only {sorted(set(proposed.values()))} have proposed")
+
+
 def cut_off(cluster, is_long):
     """Links delay all that they carry, and for a while nothing comes to or from a validator: it prints a beginning of the list,
     and catches up."""
@@ -448,6 +545,14 @@ def the_example(cluster, _):
     want(told == (0, "accepted\n1 7 1 68656c6c6f\n"), f"the example is told {told}")
     ran = subprocess.run(words, stdin=subprocess.DEVNULL, capture_output=True, text=True, timeout=30, check=False)
     want((ran.returncode, ran.stdout) == (1, "") and "refused 13 3" in ran.stderr, f"an old number is told {ran}")
+    cluster.send_until_taken(7, 1, 2, "--close")
+    cluster.want_same(3, *range(4))
+    words[2] = "7.1"
+    with subprocess.Popen(["tail", "-n", "+1", "-f", cluster.list_of(0)], stdout=subprocess.PIPE) as follower:
+        ran = subprocess.run(words, stdin=follower.stdout, capture_output=True, text=True, timeout=30, check=False)
+        follower.kill()
+    told = ran.returncode, ran.stdout + ran.stderr
+    want(told == (0, "accepted\n3 7.1 1 68656c6c6f\n"), f"the example is told {told} in the next session")
 
 
 def framed_noise(chance):
@@ -520,6 +625,9 @@ TESTS = (
     a_file_that_may_not_grow,
     a_full_disk,
     kills,
+    goes_on_in_its_next_session,
+    a_journal_of_before_sessions,
+    proposers_by_power,
     cut_off,
     far_behind,
     a_prevote_that_reached_one_alone,
@@ -533,7 +641,7 @@ TESTS = (
 def tried(test, program, is_long):
     """Runs a test in a folder of its own, and returns whether it passed, or None where it was left out."""
     folder, began = tempfile.mkdtemp(prefix=f"{test.__name__}."), time.monotonic()
-    cluster = Cluster(program, folder)
+    cluster = Cluster(program, folder, getattr(test, "powers", POWERS))
     try:
         cluster.begin()
         test(cluster, is_long)

@@ -13,7 +13,7 @@ POWERS = "1,1,1,1"
 PATIENCE = 120
 # The first byte of a body, and that of a record of a journal (docs/FORMATS.md).
 PROPOSAL, PREVOTE, PRECOMMIT = 0x10, 0x11, 0x12
-LOCK, DECISION = 0x02, 0x03
+OWN, LOCK, DECISION, MARK = 0x01, 0x02, 0x03, 0x04
 
 
 class Failed(Exception):
@@ -95,7 +95,7 @@ def limited(**limits):
 
 def saved_by(path):
     """Returns the bodies of the own messages in a journal, in order: what the validator may have said."""
-    return [it[1 : 49 if it[0] == LOCK else None] for it in records_of(path) if it[0] != DECISION]
+    return [it[1 : 49 if it[0] == LOCK else None] for it in records_of(path) if it[0] in (OWN, LOCK)]
 
 
 def want_one_for_each_step(path):
@@ -113,12 +113,24 @@ def transaction_frame(client, number, data, keys):
     return len(message).to_bytes(4, "big") + message
 
 
-class Cluster:
-    """Four validators with their keys, in a folder."""
+def proposals_in(path):
+    """Returns the height and the round of each own proposal in a journal, in order."""
+    return [(int.from_bytes(it[1:9], "big"), int.from_bytes(it[9:13], "big")) for it in saved_by(path) if it[0] == PROPOSAL]
 
-    def __init__(self, program, folder):
-        self.program, self.folder = program, folder
-        self.addresses, self.running, self.starts = free_addresses(4), {}, [0] * 4
+
+def decisions_in(path):
+    """Returns the height and the round of each decision in a journal, in order."""
+    decided = (it for it in records_of(path) if it[0] == DECISION)
+    return [(int.from_bytes(it[2:10], "big"), int.from_bytes(it[12:16], "big")) for it in decided]
+
+
+class Cluster:
+    """Validators of these powers with their keys, in a folder."""
+
+    def __init__(self, program, folder, powers=POWERS):
+        self.program, self.folder, self.powers = program, folder, powers
+        self.count = len(powers.split(","))
+        self.addresses, self.running, self.starts = free_addresses(self.count), {}, [0] * self.count
 
     def begin(self, clients=10):
         told = self.make_keys(clients)
@@ -128,8 +140,8 @@ class Cluster:
         return os.path.join(self.folder, name)
 
     def make_keys(self, clients=10):
-        """Makes the key files of four validators and so many clients, and returns the status and what was told."""
-        words = ["keys", "--validators", "4", "--clients", str(clients), "--out", self.path("keys")]
+        """Makes the key files of the validators and of so many clients, and returns the status and what was told."""
+        words = ["keys", "--validators", str(self.count), "--clients", str(clients), "--out", self.path("keys")]
         ran = subprocess.run([self.program, *words], capture_output=True, text=True, timeout=30, check=False)
         return ran.returncode, ran.stdout + ran.stderr
 
@@ -139,12 +151,12 @@ class Cluster:
     def tag_keys_of(self, client):
         """Returns a client's keys with the validators in turn."""
         keys = dict(it.split()[1:] for it in read(self.keys_of(f"c{client}")).splitlines())
-        return [bytes.fromhex(keys[f"v{it}"]) for it in range(4)]
+        return [bytes.fromhex(keys[f"v{it}"]) for it in range(self.count)]
 
     def words(self, me, **changed):
         given = {
             "id": me,
-            "powers": POWERS,
+            "powers": self.powers,
             "keys": self.keys_of(f"v{me}"),
             "journal": self.path(f"v{me}.journal"),
             "peers": ",".join(self.addresses),
@@ -169,14 +181,14 @@ class Cluster:
 
     def decisions_of(self, me):
         """Returns how many heights a validator has decided, as its journal tells."""
-        return sum(it[0] == DECISION for it in records_of(self.path(f"v{me}.journal")))
+        return len(decisions_in(self.path(f"v{me}.journal")))
 
     def wait_for_precommit(self, me):
         """Returns the round of a validator's first precommit, and whether it is for a value."""
         ends = time.monotonic() + PATIENCE
         while time.monotonic() < ends:
             for it in records_of(self.path(f"v{me}.journal")):
-                if it[0] != DECISION and it[1] == PRECOMMIT:
+                if it[0] in (OWN, LOCK) and it[1] == PRECOMMIT:
                     return int.from_bytes(it[10:14], "big"), it[16] == 1
             time.sleep(0.02)
         raise Failed(f"validator {me} has not precommitted")
@@ -200,7 +212,7 @@ class Cluster:
             self.kill(me)
 
     def words_of_send(self, client, to, number, *what):
-        words = ["send", "--id", client, "--validators", 4, "--keys", self.keys_of(f"c{client}"), "--to", self.addresses[to], "--number", number, *what]
+        words = ["send", "--id", client, "--validators", self.count, "--keys", self.keys_of(f"c{client}"), "--to", self.addresses[to], "--number", number, *what]
         return [self.program, *map(str, words)]
 
     def send(self, client, to, number, *what):
@@ -213,9 +225,9 @@ class Cluster:
             out.writelines(f"{it}\n" for it in lines)
         return self.path("lines")
 
-    def send_file(self, client, number, file):
+    def send_file(self, client, number, file, *what):
         """Sends the transactions of a file to all validators, and returns what is told of them."""
-        words = self.words_of_send(client, 0, number, "--file", file)
+        words = self.words_of_send(client, 0, number, "--file", file, *what)
         words[words.index("--to") + 1] = ",".join(self.addresses)
         ran = subprocess.run(words, capture_output=True, text=True, timeout=PATIENCE, check=False)
         return ran.returncode, (ran.stdout + ran.stderr).strip()

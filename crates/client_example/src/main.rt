@@ -1,36 +1,37 @@
-//! A client, to be copied: it sends a text to a validator as its transaction, and waits until that stands in the list.
+//! A client, to be copied: it sends a text to a validator as a transaction of one of its sessions, and waits until that
+//! stands in the list.
 #![tactic(auto)]
 
 use anyhow::{Context, Result, bail};
 use authenticators::{KeyRing, Party};
-use list_client::{Connection, frame_of, item_of};
+use list_client::{Connection, Sender, frame_of, item_of};
 use std::net::TcpStream;
 use std::rt::{Env, Files};
 use std::{env, fs};
 use transactions::{Op, Seq};
 
 const USAGE: &str =
-    "usage: client_example KEYS CLIENT VALIDATORS ADDRESS NUMBER TEXT, with a validator's list as input";
+    "usage: client_example KEYS CLIENT[.SESSION] VALIDATORS ADDRESS NUMBER TEXT, with a validator's list as input";
 
 fn main(rt: HostRuntime) -> Result<()> {
     let words = words_of(&rt)?;
-    let [_, keys, client, validators, address, number, text] = words.as_slice() else {
+    let [_, keys, sender, validators, address, number, text] = words.as_slice() else {
         bail!("{USAGE}");
     };
-    let client = client.as_str().parse().context("the client")?;
+    let sender = Sender::named(sender.as_str()).context("the client")?;
     let number = number.as_str().parse().context("the number")?;
     let validators = validators.as_str().parse().context("the validators")?;
-    let keys = keys_of(&rt, keys.as_str(), client, validators).context("the keys")?;
+    let keys = keys_of(&rt, keys.as_str(), sender.client, validators).context("the keys")?;
 
     let op = Op::Bytes(Seq::from_vec(text.as_bytes().to_vec(rt.alloc())?));
-    let frame = frame_of(rt.alloc(), &keys, client, number, op).context("the transaction")?;
+    let frame = frame_of(rt.alloc(), &keys, sender, number, op).context("the transaction")?;
     let stream = TcpStream::connect(&rt, address.as_str()).context("the validator")?;
     let reply = Connection::new(rt.alloc(), stream).ask(&frame)?;
     match reply.code {
         0 => println!(rt; "accepted")?,
         code => bail!("refused {code} {}", reply.inner),
     }
-    wait_for(&rt, client, number)
+    wait_for(&rt, sender, number)
 }
 
 /// The words of the command line.
@@ -54,11 +55,11 @@ fn keys_of(
     Ok(ring)
 }
 
-/// Prints the line of the list, which comes as input, that has this transaction of the client.
-fn wait_for(rt: &(impl Input + Print + AllocGlobal), client: u16, number: u64) -> Result<()> {
+/// Prints the line of the list, which comes as input, that has this transaction of the sender.
+fn wait_for(rt: &(impl Input + Print + AllocGlobal), sender: Sender, number: u64) -> Result<()> {
     for line in rt.lines(rt.alloc()) {
         let line = line?;
-        if item_of(&line) == Some((client, number)) {
+        if item_of(&line) == Some((sender, number)) {
             println!(rt; "{line}")?;
             return Ok(());
         }

@@ -13,19 +13,19 @@ use Rattle.node_settings.specs.declared.failure.Failure.{Failure}
 use Rattle.node_settings.specs.declared.failure.Failure.TheVariants.{OutOfMemory, Line}
 
 -- a transaction as a body, whose tags stand behind it
-abbrev pub sent_tx : ℕ → ℕ → Op → Body
-sent_tx client number op = Tx (record { client = client; number = number; op = op; tags = [] })
+abbrev pub sent_tx : ℕ → ℕ → ℕ → Op → Body
+sent_tx client session number op = Tx (record { client = client; session = session; number = number; op = op; tags = [] })
 
 -- the body with its sender's tag for each validator
 abbrev pub sent_message : Ring → Body → Message
 sent_message ring body = record { body = body; tags = tags_of ring (body_spelling body) }
 
--- a frame is that of the transaction which a line tells, under this number
-pub record IsFrameOfLine (ring : Ring) (client number : ℕ) (line frame : List ℕ) : Type 0 where
+-- a frame is that of the transaction which a line tells, in this session and under this number
+pub record IsFrameOfLine (ring : Ring) (client session number : ℕ) (line frame : List ℕ) : Type 0 where
   pub op : Op
   pub told : line_op line ≡ Ok op
   pub numbered : number ≤ 2 ^ 48
-  pub spells : SpellsFrame frame (sent_message ring (sent_tx client number op))
+  pub spells : SpellsFrame frame (sent_message ring (sent_tx client session number op))
 
 -- what is told of a line that gives no frame, unless memory runs out
 abbrev pub IsOfLine : Failure → Type 0

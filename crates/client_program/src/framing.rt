@@ -26,11 +26,12 @@ fn failure_of(fault: Fault) -> Failure
 }
 
 /// The transaction as a body.
-fn body_of(alloc: Global, client: u16, number: u64, op: Op) -> Body
-    ensures { result ≡ sent_tx client number op }
+fn body_of(alloc: Global, client: u16, session: u32, number: u64, op: Op) -> Body
+    ensures { result ≡ sent_tx client session number op }
 {
     Body::Tx(Tx {
         client,
+        session,
         number,
         op,
         tags: Seq::new(alloc),
@@ -57,20 +58,22 @@ fn frame_with(alloc: Global, ring: &KeyRing, body: Body) -> Result<Vec<u8>, Fail
     }
 }
 
-/// Who sends: a client, and its keys.
+/// Who sends: a client in one of its sessions, and its keys.
 #[derive(Clone, Copy)]
 pub(crate) struct Sender<'k> {
     pub(crate) client: u16,
+    pub(crate) session: u32,
     pub(crate) ring: &'k KeyRing,
 }
 
 impl Sender<'_> {
-    /// The frame of the client's transaction of this number.
+    /// The frame of the session's transaction of this number.
     pub(crate) fn frame_of(&self, alloc: Global, number: u64, op: Op) -> Result<Vec<u8>, Failure>
-        ensures ok { IfOk result (λ frame. SpellsFrame frame.items (sent_message self.now.ring.now (sent_tx self.now.client number op))) }
-        ensures only { (bytes : List ℕ) → SpellsFrame bytes (sent_message self.now.ring.now (sent_tx self.now.client number op)) → IfErr result (λ failure. failure ≡ OutOfMemory) }
+        ensures ok { IfOk result (λ frame. SpellsFrame frame.items (sent_message self.now.ring.now (sent_tx self.now.client self.now.session number op))) }
+        ensures only { (bytes : List ℕ) → SpellsFrame bytes (sent_message self.now.ring.now (sent_tx self.now.client self.now.session number op)) → IfErr result (λ failure. failure ≡ OutOfMemory) }
     {
-        frame_with(alloc, self.ring, body_of(alloc, self.client, number, op))
+        let body = body_of(alloc, self.client, self.session, number, op);
+        frame_with(alloc, self.ring, body)
     }
 
     /// The frames of the transactions that the lines of a text are, numbered from `first` on. The failure is `Line` for the
@@ -99,7 +102,7 @@ impl Sender<'_> {
         place: u64,
         line: &str,
     ) -> Result<Vec<u8>, Failure>
-        ensures ok { IfOk result (λ frame. IsFrameOfLine self.now.ring.now self.now.client (first + place) line.now frame.items) }
+        ensures ok { IfOk result (λ frame. IsFrameOfLine self.now.ring.now self.now.client self.now.session (first + place) line.now frame.items) }
         ensures past { 2 ^ 48 < first + place → IfErr result IsOfLine }
         ensures none { line_op line.now ≡ Err Usage → IfErr result IsOfLine }
     {

@@ -68,11 +68,13 @@ pub fn send<
         keys,
         to,
         number,
+        session,
         sending,
     } = settings;
     let ring = read_ring(rt, keys, Party::Client(client), validators)?;
     let sender = Sender {
         client,
+        session,
         ring: &ring,
     };
     match sending {

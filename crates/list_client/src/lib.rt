@@ -26,24 +26,48 @@ pub enum ClientFault {
     Ended,
 }
 
-/// The frame of a client's transaction of this session and number, with a tag for each validator under the client's keys.
+/// A client in one of its sessions.
+#[derive(Clone, Copy, Debug, PartialEq, Eq)]
+pub struct Sender {
+    pub client: u16,
+    /// 0, and one more after each close.
+    pub session: u32,
+}
+
+impl Sender {
+    /// The sender that the list names so: `CLIENT` in the client's first session, and `CLIENT.SESSION` in a later one.
+    pub fn named(name: &str) -> Option<Sender> {
+        let (client, session) = match name.split_once('.') {
+            Some((client, session)) => (client, session.parse().ok()?),
+            None => (name, 0),
+        };
+        if session == 0 && client.len() < name.len() {
+            return None;
+        }
+        Some(Sender {
+            client: client.parse().ok()?,
+            session,
+        })
+    }
+}
+
+/// The frame of a sender's transaction of this number, with a tag for each validator under the client's keys.
 ///
 /// Faults: that of the transaction, where its numbers or its bytes are out of range; `OutOfMemory`.
 pub fn frame_of(
     alloc: Global,
     keys: &KeyRing,
-    client: u16,
-    session: u32,
+    sender: Sender,
     number: u64,
     op: Op,
 ) -> Result<Vec<u8>, Fault>
-    ensures ok { IfOk result (λ frame. SpellsFrame frame.items (sent keys.now client session number op)) }
+    ensures ok { IfOk result (λ frame. SpellsFrame frame.items (sent keys.now sender number op)) }
     // What has a frame is given it, unless memory runs out.
-    ensures only { (bytes : List ℕ) → SpellsFrame bytes (sent keys.now client session number op) → Gives (λ v. v.items) result (Ok bytes) }
+    ensures only { (bytes : List ℕ) → SpellsFrame bytes (sent keys.now sender number op) → Gives (λ v. v.items) result (Ok bytes) }
 {
     let body = Body::Tx(Tx {
-        client,
-        session,
+        client: sender.client,
+        session: sender.session,
         number,
         op,
         tags: Seq::new(alloc),
@@ -100,15 +124,10 @@ impl<S: Read + Write> Connection<S> {
     }
 }
 
-/// Whose transaction stands in a line of the list, `POSITION CLIENT NUMBER HEX`, where CLIENT may be `CLIENT.SESSION`: the
-/// client, the session and the number.
-pub fn item_of(line: &str) -> Option<(u16, u32, u64)> {
+/// Whose transaction stands in a line of the list, `POSITION SENDER NUMBER HEX`, and its number.
+pub fn item_of(line: &str) -> Option<(Sender, u64)> {
     let mut words = line.split(' ').skip(1);
-    let sender = words.next()?;
-    let (client, session) = match sender.split_once('.') {
-        Some((client, session)) => (client.parse().ok()?, session.parse().ok()?),
-        None => (sender.parse().ok()?, 0),
-    };
+    let sender = Sender::named(words.next()?)?;
     let number = words.next()?.parse().ok()?;
-    Some((client, session, number))
+    Some((sender, number))
 }

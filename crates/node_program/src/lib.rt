@@ -2,8 +2,7 @@
 //! their key files.
 //!
 //! `tmnode run` reads its key file, opens its journal, and serves. From position 0 on, also after a restart, it prints each
-//! delivered item as a line `POSITION CLIENT NUMBER HEX`, with `close` for a close and `-` for no bytes. `tmnode send` prints
-//! what the validators answered. `tmnode keys` writes the key file of each validator and client, `v0.keys` and so on and
+//! delivered item as its line (`ItemLine`). `tmnode send` prints what the validators answered. `tmnode keys` writes the key file of each validator and client, `v0.keys` and so on and
 //! `c0.keys` and so on, and prints nothing. A failure is a line on standard error, and the exit status tells which it was.
 #![tactic(auto)]
 

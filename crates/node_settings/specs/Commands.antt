@@ -28,7 +28,7 @@ run_app = with_rules (new_app (codes "run"))
 abbrev pub send_app : App
 send_app = with_rules (new_app (codes "send"))
     (option (codes "id") true ∷ option (codes "validators") true ∷ option (codes "keys") true ∷ option (codes "to") true ∷ option (codes "number") true
-    ∷ option (codes "data") false ∷ option (codes "file") false ∷ flag (codes "close") ∷ [])
+    ∷ option (codes "session") false ∷ option (codes "data") false ∷ option (codes "file") false ∷ flag (codes "close") ∷ [])
 
 abbrev pub keys_app : App
 keys_app = with_rules (new_app (codes "keys"))

@@ -29,6 +29,7 @@ pub record IsLawfulSend (s : SendSettings) : Type 0 where
   pub few : s.validators ≤ 128
   pub first : 1 ≤ s.number
   pub last : s.number ≤ 2 ^ 48
+  pub session : s.session < 2 ^ 32
   pub sending : IsLawfulSending s.sending
 
 -- of the parties whose key files are made: as many as a cluster may have

@@ -50,6 +50,7 @@ pub record Send : Type 0 where
   pub keys : Text
   pub to : List Text
   pub number : ℕ
+  pub session : ℕ
   pub sent : Sent
 
 pub record Keys : Type 0 where
@@ -89,6 +90,7 @@ send_words s = record {
   keys = s.keys.now;
   to = map (λ address. address.now) s.to.items;
   number = s.number;
+  session = s.session;
   sent = sent_words s.sending;
 }
 
@@ -148,6 +150,16 @@ run_of rows = do
 unfoldable pub validators_of : List Row → Result ℕ SettingsFault
 validators_of rows = number_given 2 128 (codes "validators") rows
 
+-- the session in which a client sends: its first, or another
+abbrev pub session_or_first : Option ℕ → ℕ
+session_or_first None = 0
+session_or_first (Some session) = session
+
+unfoldable pub session_of : List Row → Result ℕ SettingsFault
+session_of rows = do
+  session ← number_or_none 0 (2 ^ 32 - 1) (codes "session") rows
+  Ok (session_or_first session)
+
 -- what is sent: one of `--data`, `--close` and `--file` is there
 abbrev pub sent_of : Option Text → Bool → Option Text → Result Sent SettingsFault
 sent_of digits close None = do
@@ -163,8 +175,9 @@ send_of rows = do
   key_file ← given (codes "keys") rows
   to ← given (codes "to") rows
   number ← number_given 1 (2 ^ 48) (codes "number") rows
+  session ← session_of rows
   sent ← sent_of (first_of (codes "data") rows) (is_flagged (codes "close") rows) (first_of (codes "file") rows)
-  Ok (record { client = client; validators = validators; keys = key_file; to = slice_split is_comma to; number = number; sent = sent })
+  Ok (record { client = client; validators = validators; keys = key_file; to = slice_split is_comma to; number = number; session = session; sent = sent })
 
 unfoldable pub keys_of : List Row → Result Keys SettingsFault
 keys_of rows = do

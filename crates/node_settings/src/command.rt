@@ -89,7 +89,7 @@ static RUN: [WordOption; 11] = [
     },
 ];
 
-static SEND: [WordOption; 7] = [
+static SEND: [WordOption; 8] = [
     WordOption {
         name: "id",
         is_required: true,
@@ -118,7 +118,13 @@ static SEND: [WordOption; 7] = [
         name: "number",
         is_required: true,
         value: "M",
-        help: "The place among the client's transactions, from 1 on; of a file's first one",
+        help: "The place among the session's transactions, from 1 on; of a file's first one",
+    },
+    WordOption {
+        name: "session",
+        is_required: false,
+        value: "S",
+        help: "The session, which a close ends, at most 4294967295; else the client's first, 0",
     },
     WordOption {
         name: "data",
@@ -187,7 +193,7 @@ fn send_command<'a>(alloc: Global) -> Result<Command<'a>, AllocError>
     let command = Command::new(alloc, "send").about("Sends transactions of a client");
     let close = Arg::new(alloc, "close")
         .long("close")
-        .help("Send the client's last transaction")
+        .help("Send the session's last transaction")
         .action(ArgAction::SetTrue);
     with_options(alloc, command, SEND.as_slice())?.arg(close)
 }

@@ -6,7 +6,7 @@ ghost use Rattle.transactions.specs.Grammar.{IsOp};
 ghost use Rattle.node_settings.specs.Words.{Gives, op_of, line_op};
 ghost use Rattle.node_settings.specs.Failures.{settings_number};
 ghost use Rattle.node_settings.specs.Lawful.{IsLawful, IsLawfulRun, IsLawfulSending, IsLawfulSend, IsLawfulKeys};
-ghost use Rattle.node_settings.specs.Settings.{run_words, sent_words, send_words, keys_words, invocation_words, idle_of, level_of, run_of, validators_of, sent_of, send_of, keys_of, cluster_of, entered_of, settings_of, asked_by};
+ghost use Rattle.node_settings.specs.Settings.{run_words, sent_words, send_words, keys_words, invocation_words, idle_of, level_of, run_of, validators_of, session_of, sent_of, send_of, keys_of, cluster_of, entered_of, settings_of, asked_by};
 
 use crate::command::node_command;
 use crate::lists::{bytes_of, powers_of, words_of};
@@ -109,8 +109,10 @@ pub struct SendSettings<'a> {
     pub keys: &'a str,
     /// The address of each validator that it is sent to.
     pub to: Vec<&'a str>,
-    /// The place of the first among the client's transactions, from 1 to 2^48.
+    /// The place of the first among the session's transactions, from 1 to 2^48.
     pub number: u64,
+    /// The client's session in which all of it is sent. Its first is 0.
+    pub session: u32,
     /// What is sent.
     pub sending: Sending<'a>,
 }
@@ -278,6 +280,17 @@ fn validators_of(found: &ArgMatches<'_>) -> Result<u16, SettingsFault>
     Ok(number(found, "validators", 2, MOST_VALIDATORS as u64)? as u16)
 }
 
+/// The session in which a client sends: its first, 0, where none is named.
+#[tactic(auto, unfolding(crate::specs::Settings::session_of))]
+fn session_of(found: &ArgMatches<'_>) -> Result<u32, SettingsFault>
+    ensures { result ≡ session_of (rows_of (found_of found.now)) }
+{
+    match number_or_none(found, "session", 0, u64::from(u32::MAX))? {
+        Some(session) => Ok(session as u32),
+        None => Ok(0),
+    }
+}
+
 impl<'a> SendSettings<'a> {
     /// Those of the words behind `send`.
     #[tactic(auto, unfolding(crate::specs::Settings::send_of))]
@@ -290,6 +303,7 @@ impl<'a> SendSettings<'a> {
         let keys = word(found, "keys")?;
         let to = words_of(alloc, word(found, "to")?)?;
         let number = number(found, "number", 1, LAST_NUMBER)?;
+        let session = session_of(found)?;
         let close = is_flagged(found, "close");
         let sending = sending_of(alloc, word_of(found, "data"), close, word_of(found, "file"))?;
         Ok(SendSettings {
@@ -298,6 +312,7 @@ impl<'a> SendSettings<'a> {
             keys,
             to,
             number,
+            session,
             sending,
         })
     }

@@ -4,8 +4,8 @@
 //! - `tmnode run --id I --powers P,P,.. --keys FILE --journal FILE --peers ADDR,ADDR,.. --start MS --delta MS
 //!   [--idle MS] [--stop K] [--log LEVEL] [--status ADDR]`
 //!   is a validator: number I of those with these powers and addresses.
-//! - `tmnode send --id C --validators N --keys FILE --to ADDR,ADDR,.. --number M` with one of `--data HEX`, `--close` and
-//!   `--file FILE` sends transactions of client C.
+//! - `tmnode send --id C --validators N --keys FILE --to ADDR,ADDR,.. --number M [--session S]` with one of `--data HEX`,
+//!   `--close` and `--file FILE` sends transactions of one session of client C.
 //! - `tmnode keys --validators N --clients C --out DIR` makes the key file of each of so many validators and clients.
 //! - `--help`, also behind `run`, `send` or `keys`, and `--version` ask for a page.
 //!

@@ -9,7 +9,7 @@ use Rattle.list_client.proofs.frame_of.Goals as goal
 
 pub returns-in_err-spelled-clause-only : goal.returns-in_err-spelled-clause-only
 returns-in_err-spelled-clause-only c = λ bytes spells.
-    let only = subst (λ it. (b : List ℕ) → SpellsBody b (Tx (record { client = c.args.client; session = c.args.session; number = c.args.number; op = c.args.op; tags = it })) → Fails c.in_err-spelled.field-0.0 (Ok b)) c.new.ensures c.in_err-spelled.ensures.only in
-    let body : List ℕ = body_spelling (body_of c.args.client c.args.session c.args.number c.args.op) in
+    let only = subst (λ it. (b : List ℕ) → SpellsBody b (Tx (record { client = c.args.sender.client; session = c.args.sender.session; number = c.args.number; op = c.args.op; tags = it })) → Fails c.in_err-spelled.field-0.0 (Ok b)) c.new.ensures c.in_err-spelled.ensures.only in
+    let body : List ℕ = body_spelling (body_of c.args.sender c.args.number c.args.op) in
     let p = err_from_is_err_and c.from_residual.result c.from_residual.ensures.1 in
     rw (p.1, p.2) (fails_too c.in_err-spelled.field-0.0 body bytes (only body (record { lawful = spells.lawful.body; same = refl })))

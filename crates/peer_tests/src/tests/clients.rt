@@ -1,6 +1,8 @@
 //! Clients whose transactions are answered, beside validators.
 
-use super::frames::{ACCEPTED, OLD_NUMBER, deciding, own_vote, transaction};
+use super::frames::{
+    ACCEPTED, OLD_NUMBER, SESSION_AHEAD, close, deciding, later, own_vote, transaction,
+};
 use super::running::{Course, Peers, STILL, Told, count, run};
 use log::Log;
 use messages::Step as VoteStep;
@@ -44,6 +46,35 @@ fn a_link_that_waits_delays_no_other(rt: HostRuntime) -> Result<(), Fail> {
     assert_eq!(rt; told.ending, Ending::Ended);
     assert_eq!(rt; count(&rt, &told, 0, &ACCEPTED), 1);
     assert_eq!(rt; count(&rt, &told, 1, &ACCEPTED), 1);
+    Ok(())
+}
+
+/// A client that closes, goes on in its next session, says that again, and leaves a session out.
+fn two_sessions(alloc: Global) -> Result<Peers, Fail> {
+    let mut peers = Peers::new(alloc);
+    let wire = peers.wire()?;
+    peers.add_steps(
+        wire,
+        [
+            Step::Bytes(transaction(alloc, 0, 1)?),
+            Step::Bytes(close(alloc, 0, 2)?),
+            Step::Bytes(later(alloc, 0, 1, 1)?),
+            Step::Bytes(later(alloc, 0, 1, 1)?),
+            Step::Bytes(later(alloc, 0, 3, 1)?),
+            Step::End,
+        ],
+    )?;
+    Ok(peers)
+}
+
+#[test]
+fn transactions_of_later_sessions_are_answered(rt: HostRuntime) -> Result<(), Fail> {
+    let alloc = rt.alloc();
+    let told = run(&rt, alloc, two_sessions(alloc)?, STILL)?;
+    assert_eq!(rt; told.ending, Ending::Ended);
+    assert_eq!(rt; count(&rt, &told, 0, &ACCEPTED), 3);
+    assert_eq!(rt; count(&rt, &told, 0, &OLD_NUMBER), 1);
+    assert_eq!(rt; count(&rt, &told, 0, &SESSION_AHEAD), 1);
     Ok(())
 }
 

@@ -15,6 +15,9 @@ pub(super) const ACCEPTED: [u8; 7] = [0, 0, 0, 3, 0x20, 0, 0];
 /// The reply to one whose number was queued before.
 pub(super) const OLD_NUMBER: [u8; 7] = [0, 0, 0, 3, 0x20, 13, 3];
 
+/// The reply to one whose session is ahead of the one that is open.
+pub(super) const SESSION_AHEAD: [u8; 7] = [0, 0, 0, 3, 0x20, 13, 9];
+
 /// Client C's transaction of this number, of the byte 61.
 fn tx_body(client: u8, number: u8) -> [u8; 15] {
     [1, 0, client, 0, 0, 0, 0, 0, 0, 0, number, 0, 0, 1, 0x61]
@@ -27,6 +30,22 @@ fn client_key(client: u8) -> [u8; 32] {
 /// A client's frame.
 pub(super) fn transaction(alloc: Global, client: u8, number: u8) -> Result<Vec<u8>, Fail> {
     let body = tx_body(client, number);
+    let tags = [[0; 32], [0; 32], [0; 32], hmac(&client_key(client), &body)];
+    Ok(frame_of(alloc, &body, &tags)?)
+}
+
+/// The frame of a client's close of its first session, with this number.
+pub(super) fn close(alloc: Global, client: u8, number: u8) -> Result<Vec<u8>, Fail> {
+    let body = [1, 0, client, 0, 0, 0, 0, 0, 0, 0, number, 1];
+    let tags = [[0; 32], [0; 32], [0; 32], hmac(&client_key(client), &body)];
+    Ok(frame_of(alloc, &body, &tags)?)
+}
+
+/// The frame of a client's transaction of a later session, of the byte 61.
+pub(super) fn later(alloc: Global, client: u8, session: u8, number: u8) -> Result<Vec<u8>, Fail> {
+    let body = [
+        2, 0, client, 0, 0, 0, session, 0, 0, 0, 0, 0, 0, 0, number, 0, 0, 1, 0x61,
+    ];
     let tags = [[0; 32], [0; 32], [0; 32], hmac(&client_key(client), &body)];
     Ok(frame_of(alloc, &body, &tags)?)
 }

@@ -52,7 +52,7 @@ fn shown_send(alloc: Global, send: &SendSettings<'_>) -> Result<String, AllocErr
         Sending::One(op) => shown_op(alloc, op)?,
         Sending::Lines(file) => format!(in alloc; "lines of {file}")?,
     };
-    let mut text = format!(in alloc; "{} to", send.client)?;
+    let mut text = format!(in alloc; "{}.{} to", send.client, send.session)?;
     for address in &send.to {
         text = format!(in alloc; "{text} {address}")?;
     }
@@ -162,25 +162,50 @@ fn send_lines(rt: HostRuntime) -> Result<(), Fail> {
         &rt,
         alloc,
         "tmnode send --id 1023 --validators 128 --keys k --to a:1 --number 281474976710656 --data 61fF",
-        "1023 to a:1 of 128, k, 281474976710656 [97, 255]",
+        "1023.0 to a:1 of 128, k, 281474976710656 [97, 255]",
     )?;
     assert_asked(
         &rt,
         alloc,
         "tmnode send --id 0 --validators 2 --keys k --to a:1 --number 1 --data ",
-        "0 to a:1 of 2, k, 1 []",
+        "0.0 to a:1 of 2, k, 1 []",
     )?;
     assert_asked(
         &rt,
         alloc,
         "tmnode send --close --id 7 --validators 4 --keys k --to a:1 --number 2",
-        "7 to a:1 of 4, k, 2 close",
+        "7.0 to a:1 of 4, k, 2 close",
     )?;
     assert_asked(
         &rt,
         alloc,
         "tmnode send --id 7 --validators 4 --keys k --to a:1,b:2 --number 2 --file f",
-        "7 to a:1 b:2 of 4, k, 2 lines of f",
+        "7.0 to a:1 b:2 of 4, k, 2 lines of f",
+    )
+}
+
+#[test]
+fn sessions_of_send_lines(rt: HostRuntime) -> Result<(), Fail> {
+    let alloc = rt.alloc();
+    for (words, wanted) in [
+        ("--session 0 --data 61", "7.0 to a:1 of 4, k, 2 [97]"),
+        ("--session=007 --close", "7.7 to a:1 of 4, k, 2 close"),
+        (
+            "--session 4294967295 --file f",
+            "7.4294967295 to a:1 of 4, k, 2 lines of f",
+        ),
+    ] {
+        let line = format!(in alloc;
+            "tmnode send --id 7 --validators 4 --keys k --to a:1 --number 2 {words}"
+        )?;
+        assert_asked(&rt, alloc, line.as_str(), wanted)?;
+    }
+    assert_usage(
+        &rt,
+        alloc,
+        "tmnode send --id 7 --validators 4 --keys k --to a --number 2 --close ",
+        "--session 4294967296\n--session -1\n--session 1.0\n--session \n--session\n\
+--session 1 --session 1",
     )
 }
 
@@ -300,7 +325,10 @@ fn pages(rt: HostRuntime) -> Result<(), Fail> {
     );
     let page = asked(alloc, "tmnode send --help")?;
     assert!(rt;
-        page.contains("--data <HEX>") && page.contains("--close") && page.contains("--file <FILE>"),
+        page.contains("--data <HEX>")
+            && page.contains("--close")
+            && page.contains("--file <FILE>")
+            && page.contains("--session <S>"),
         "{page}"
     );
     let page = asked(alloc, "tmnode keys --help")?;
