@@ -2,6 +2,7 @@
 
 use crate::open_links::{OpenLinks, Place};
 use peer_links::{Link, LinkFailed, Links, Next, PIECE_BYTES, Peer, Received};
+use std::alloc::AllocError;
 use std::sync::Wait;
 use std::time::Clock;
 
@@ -37,6 +38,12 @@ pub struct CountedLinks<'a, L> {
 
 impl<'a, L: Links> Links for CountedLinks<'a, L> {
     type Link = CountedLink<'a, L::Link>;
+
+    type Dialer = L::Dialer;
+
+    fn dialer(&mut self) -> Result<L::Dialer, AllocError> {
+        self.links.dialer()
+    }
 
     fn next<R: Wait + Clock>(&mut self, rt: &R) -> Next<CountedLink<'a, L::Link>> {
         match self.links.next(rt) {

@@ -1,3 +1,4 @@
 pub mod Links
 pub mod Passing
 pub mod Placing
+pub mod Turning

@@ -12,6 +12,7 @@ mod fault;
 mod height_frames;
 mod held;
 mod link_frames;
+mod turn;
 
 pub use catch_up::CatchUp;
 pub use early::{EarlyFrames, LinkId, MOST_LINKS};
@@ -19,3 +20,4 @@ pub use fault::{KeepFault, PassFault};
 pub use height_frames::{HeightFrames, MOST_SENDER_BYTES, MOST_SENDER_FRAMES, SentFrame};
 pub use held::HeldProposal;
 pub use link_frames::{MOST_LINK_BYTES, MOST_LINK_FRAMES};
+pub use turn::{MOST_TURN_BYTES, MOST_TURN_FRAMES, Turn, turn_from};

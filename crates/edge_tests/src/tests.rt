@@ -1,5 +1,7 @@
 //! That frames come out as they went in, and what no contract says: that a call can succeed.
 
+mod turns;
+
 use bytes::Bytes;
 use edge_frames::{
     CatchUp, EarlyFrames, HeightFrames, KeepFault, LinkId, MOST_LINK_FRAMES, MOST_LINKS,

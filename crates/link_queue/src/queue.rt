@@ -1,6 +1,6 @@
 //! The queue of a link, as threads share it.
 
-ghost use Rattle.std.specs.Prelude.{◌≡◌, true, IfOk, IfErr};
+ghost use Rattle.std.specs.Prelude.{◌≡◌, ◌≤◌, true, IfOk, IfErr};
 ghost use Rattle.link_queue.specs.Answers.{given_back, is_end};
 
 use crate::waiting::{Dropped, Queued, Sent, Untaken, Waiting};
@@ -76,6 +76,13 @@ impl<S: Sent> LinkQueue<S> {
         ensures sent { IfOk result S.sent }
     {
         self.shared.waiting.lock(rt).take()
+    }
+
+    /// How many frames wait now. It waits for the queue's lock alone.
+    pub fn waiting<R: Wait>(&self, rt: &R) -> usize
+        ensures { result ≤ 1024 }
+    {
+        self.shared.waiting.lock(rt).count()
     }
 
     /// Takes nothing in from now on. What waits can still be taken, and whoever waits is told.

@@ -1,6 +1,6 @@
 //! What waits on a link, as it stands under the queue's lock, and the answers that it alone makes.
 
-ghost use Rattle.std.specs.Prelude.{◌≡◌, ℕ, false, true, Some, None, [], length, IfOk, MatchResult, MatchBool};
+ghost use Rattle.std.specs.Prelude.{◌≡◌, ◌≤◌, ℕ, false, true, Some, None, [], length, IfOk, MatchResult, MatchBool};
 ghost use Rattle.link_queue.specs.Line.{line, IsInOrder, with_accepted, Handed, HasEnded, IsIdle};
 
 use crate::history::Frames;
@@ -145,6 +145,14 @@ impl<S: Sent> Waiting<S> {
         ensures answer { MatchBool result (IsIdle self.now) (IsIdle self.now → ⊥) }
     {
         !self.is_closed && self.frames.is_empty()
+    }
+
+    /// How many frames wait.
+    pub fn count(&self) -> usize
+        ensures count { result ≡ length self.now.queued }
+        ensures within { result ≤ 1024 }
+    {
+        self.frames.len()
     }
 
     /// Takes a frame in, or drops it where the queue is closed or full, in this order. It takes no

@@ -12,7 +12,7 @@ mod memory_link;
 mod wire;
 
 pub use clock::Clock;
-pub use link::{Link, LinkFailed, Links, Next, PIECE_BYTES, Peer, Received};
+pub use link::{Dialed, Dialer, Link, LinkFailed, Links, Next, PIECE_BYTES, Peer, Received};
 pub use memory_clock::MemoryClock;
-pub use memory_link::{MemoryLink, MemoryLinks, Step};
+pub use memory_link::{MemoryDialer, MemoryLink, MemoryLinks, Step};
 pub use wire::Wire;

@@ -3,6 +3,7 @@
 ghost use Rattle.std.specs.Prelude.{◌≡◌, ℕ, OnOk, OnErr};
 ghost use Rattle.peer_links.specs.Link.{IsPiece, Counts, Grew};
 
+use std::alloc::AllocError;
 use std::sync::Wait;
 use std::time;
 use thiserror::Error;
@@ -72,6 +73,26 @@ pub enum Next<L: Drop> {
 pub trait Links {
     type Link: Link + Send + Drop;
 
-    /// The next peer. After `None` none comes.
+    type Dialer: Dialer + Send + Drop;
+
+    /// What dials the peers that are to be dialed. Once it was given, another one has nobody to dial.
+    fn dialer(&mut self) -> Result<Self::Dialer, AllocError>;
+
+    /// The next peer, of those that came and those that the dialer reached. After `None` none comes.
     fn next<R: Wait + time::Clock>(&mut self, rt: &R) -> Next<Self::Link>;
+}
+
+/// What dials peers, on a thread of its own, so that it holds up nobody who comes.
+pub trait Dialer {
+    /// Dials the next peer, and waits for it, or says that none is left. Whom it reached the source gives.
+    fn dial<R: Wait + time::Clock>(&mut self, rt: &R) -> Dialed;
+}
+
+/// Whether a dialer has dialed.
+#[derive(Clone, Copy, Debug, PartialEq, Eq)]
+pub enum Dialed {
+    /// It has dialed one peer, which it reached or not.
+    One,
+    /// No peer is left to be dialed.
+    Nobody,
 }

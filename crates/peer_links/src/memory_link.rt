@@ -4,7 +4,7 @@ ghost use Rattle.std.specs.Prelude.{◌≡◌};
 ghost use Rattle.peer_links.specs.Link.{IsPiece, Counts, Grew};
 ghost use Rattle.peer_links.specs.Turn.{IsTurn};
 
-use crate::link::{Link, LinkFailed, Links, Next, PIECE_BYTES, Peer, Received};
+use crate::link::{Dialed, Dialer, Link, LinkFailed, Links, Next, PIECE_BYTES, Peer, Received};
 use crate::wire::Wire;
 use std::alloc::{AllocError, Global};
 use std::collections::VecDeque;
@@ -12,7 +12,7 @@ use std::sync::{Arc, Wait};
 use std::thread;
 use std::time::{Clock, Duration};
 
-/// How long a link waits where nothing comes, in milliseconds.
+/// How long a link waits where nothing comes, in milliseconds, unless it is told another time.
 const TURN_MS: u64 = 1;
 
 /// What a link in memory brings next.
@@ -45,6 +45,7 @@ pub struct MemoryLink {
     /// How many bytes go through before it fails.
     budget: usize,
     turns: u64,
+    turn_ms: u64,
     failures: u64,
 }
 
@@ -61,8 +62,17 @@ impl MemoryLink {
             piece: piece.clamp(1, PIECE_BYTES),
             budget: usize::MAX,
             turns,
+            turn_ms: TURN_MS,
             failures: 0,
         }
+    }
+
+    /// Lets a turn behind the last step last so many milliseconds: many links that wait so leave the
+    /// processors to others.
+    pub fn set_turn(&mut self, milliseconds: u64)
+        ensures { self.new.failures ≡ self.old.failures }
+    {
+        self.turn_ms = milliseconds;
     }
 
     /// Adds what it brings next.
@@ -100,7 +110,7 @@ impl MemoryLink {
             Some(Step::Hold { .. }) => Turn::Waited,
             Some(Step::End) => Turn::Ended,
             None => {
-                thread::sleep(rt, Duration::from_millis(TURN_MS));
+                thread::sleep(rt, Duration::from_millis(self.turn_ms));
                 Turn::Waited
             }
         }
@@ -224,8 +234,24 @@ impl MemoryLinks {
     }
 }
 
+/// Dials nobody.
+#[derive(Drop)]
+pub struct MemoryDialer;
+
+impl Dialer for MemoryDialer {
+    fn dial<R: Wait + Clock>(&mut self, _rt: &R) -> Dialed {
+        Dialed::Nobody
+    }
+}
+
 impl Links for MemoryLinks {
     type Link = MemoryLink;
+
+    type Dialer = MemoryDialer;
+
+    fn dialer(&mut self) -> Result<MemoryDialer, AllocError> {
+        Ok(MemoryDialer)
+    }
 
     fn next<R: Wait + Clock>(&mut self, rt: &R) -> Next<MemoryLink> {
         if let Some(peer) = self.peers.pop_front() {

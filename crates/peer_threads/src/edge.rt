@@ -1,7 +1,9 @@
 //! What is kept beside the node, as it stands under its lock.
 
 use bytes::Bytes;
-use edge_frames::{CatchUp, EarlyFrames, HeightFrames, KeepFault, LinkId, PassFault};
+use edge_frames::{
+    CatchUp, EarlyFrames, HeightFrames, KeepFault, LinkId, PassFault, SentFrame, turn_from,
+};
 use std::alloc::Global;
 
 /// How long a node that is one height behind waits before it asks, in milliseconds.
@@ -26,6 +28,8 @@ pub(crate) enum Errand {
 pub(crate) struct Edge {
     early: EarlyFrames,
     taken: HeightFrames,
+    /// The place of the frame of the height that is passed on next.
+    turn: usize,
     catch_up: CatchUp,
     /// The highest height that a call of the node told.
     height: u64,
@@ -39,6 +43,7 @@ impl Edge {
         Edge {
             early: EarlyFrames::new(alloc),
             taken: HeightFrames::new(alloc),
+            turn: 0,
             catch_up: CatchUp::new(MOMENT_MS),
             height: 0,
             since: now,
@@ -54,6 +59,7 @@ impl Edge {
         self.since = now;
         self.early.forget_below(own);
         self.taken.clear();
+        self.turn = 0;
         self.catch_up.advanced(own);
         true
     }
@@ -106,11 +112,14 @@ impl Edge {
         Errand::Nothing
     }
 
-    /// The frames to be passed on now, which are none where the height has moved within a second.
-    pub(crate) fn still_frames(&self, now: u64) -> &[edge_frames::SentFrame] {
+    /// The frames to be passed on now, which are none where the height has moved within a second. The next
+    /// ones begin behind them.
+    pub(crate) fn next_turn(&mut self, now: u64) -> &[SentFrame] {
         if now.saturating_sub(self.since) < STILL_MS {
             return &[];
         }
-        self.taken.frames()
+        let turn = turn_from(self.taken.frames(), self.turn);
+        self.turn = turn.next;
+        turn.frames
     }
 }

@@ -1,4 +1,4 @@
-//! The threads around a node: one reads and one writes for each peer, and one is for the time.
+//! The threads around a node: one reads and one writes for each peer, one is for the time, and one dials.
 //!
 //! [`serve`] runs them until enough is delivered, no peer is left, or the node has halted. They share
 //! the node, which is locked for each call, the queues of what is to be sent, the timeouts that wait,

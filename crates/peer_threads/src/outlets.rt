@@ -1,14 +1,22 @@
 //! The links that are open, as they stand under their lock.
 
 use bytes::Bytes;
-use edge_frames::{LinkId, MOST_LINKS};
-use link_queue::{Anything, Cause, LinkQueue};
+use edge_frames::{LinkId, MOST_LINKS, SentFrame};
+use link_queue::{Anything, Cause, LinkQueue, MOST_FRAMES};
 use std::alloc::{AllocError, AllocFailed, Global};
 use std::sync::{Arc, Wait};
 use thiserror::Error;
 
 /// How many links a node has at most, those among them that are closing.
+///
+/// Both of two validators dial, so among 128 a node has 254 links to the others, and 130 are left for clients.
+/// A link has two threads and two file descriptors. All of them have 768 descriptors, and peers that are
+/// dialed and not yet linked one each, 127 at most: 895 of the 1,024 that a process may usually open.
 pub const MOST_OPEN_LINKS: usize = MOST_LINKS;
+
+/// How many frames wait on a link at most for frames of others to be passed on to it. These are a quarter
+/// of a queue in each turn, so that they leave a quarter to the node's own.
+const MOST_BEFORE_PASSING: usize = MOST_FRAMES / 2;
 
 /// How many threads a link has: one reads and one writes.
 const HALVES: u8 = 2;
@@ -54,7 +62,7 @@ struct Outlet {
     halves: u8,
 }
 
-/// The links that have a thread, at most 384: two for each other validator, and the rest for clients.
+/// The links that have a thread, at most 384.
 #[derive(Drop)]
 pub(crate) struct Outlets {
     alloc: Global,
@@ -143,6 +151,29 @@ impl Outlets {
         }
         dropped
     }
+
+    /// Offers a turn of frames of others to each link that isn't behind with what it sends: how many of them
+    /// found no room.
+    pub(crate) fn pass_on<R: Wait>(&self, rt: &R, frames: &[SentFrame]) -> u64 {
+        let mut dropped = 0u64;
+        for outlet in self.outlets.iter() {
+            if outlet.queue.waiting(rt) <= MOST_BEFORE_PASSING {
+                dropped = dropped.saturating_add(pass_on_to(rt, &outlet.queue, frames));
+            }
+        }
+        dropped
+    }
+}
+
+/// Offers frames to a queue: how many found no room.
+fn pass_on_to<R: Wait>(rt: &R, queue: &Queue, frames: &[SentFrame]) -> u64 {
+    let mut dropped = 0u64;
+    for sent in frames {
+        if !offered(rt, queue, &sent.frame) {
+            dropped = dropped.saturating_add(1);
+        }
+    }
+    dropped
 }
 
 /// Offers a frame to a queue: false where there is no room for it. A closed queue needs none.

@@ -9,7 +9,7 @@ use crate::shared::{Ending, Shared};
 use edge_frames::{HeldProposal, LinkId};
 use locked_node::LockedNode;
 use log::{Log, info, warn};
-use peer_links::{Clock, Link, Links, Next, Peer};
+use peer_links::{Clock, Dialed, Dialer, Link, Links, Next, Peer};
 use status_words::{Node, Seat};
 use std::alloc::Global;
 use std::sync::{Mutex, Wait};
@@ -34,8 +34,8 @@ pub struct Pace {
 }
 
 /// Serves peers until `stop` items are delivered (`Stopped`), the source of peers has none any more
-/// and every link has ended (`Ended`), a call of the node answered 17 or 15 (`Halted`), or no thread
-/// can be started for the time (`OutOfMemory`).
+/// and every link has ended (`Ended`), a call of the node answered 17 or 15 (`Halted`), or there is no
+/// memory for the dialer, no thread for it or none for the time (`OutOfMemory`).
 ///
 /// The node settles first. Each peer has a thread that reads and hands in whole frames, and one that
 /// sends what its queue holds. What the node releases goes to every link, and a reply to the link that
@@ -113,20 +113,27 @@ impl<'n, S: Store + Drop + Send, J: Node + Send + Sync, C: Clock + Sync> Shared<
         (*self.ending.lock(rt)).unwrap_or(Ending::Ended)
     }
 
-    /// The timer and the peers, in one scope.
+    /// The timer, the dialer and the peers, in one scope.
     fn run_threads<L: Links, R: Threads + Wait + time::Clock + Log + Sync>(
         &self,
         rt: &R,
         seat: &mut Seat<J>,
         links: &mut L,
     ) {
+        let Ok(dialer) = links.dialer() else {
+            self.end(rt, Ending::OutOfMemory);
+            return;
+        };
         thread::scope(
             thread::scope_env(),
             rt,
             |scope|
-                requires { IsSend L.Link.row }
+                requires links { IsSend L.Link.row }
+                requires dialer { IsSend L.Dialer.row }
             {
-                if scope.spawn(move || self.run_timer(rt)).is_err() {
+                let timer = scope.spawn(move || self.run_timer(rt));
+                let dialing = scope.spawn(move || self.run_dialer(rt, dialer));
+                if timer.is_err() || dialing.is_err() {
                     self.end(rt, Ending::OutOfMemory);
                 }
                 for _ in rt.forever() {
@@ -139,6 +146,15 @@ impl<'n, S: Store + Drop + Send, J: Node + Send + Sync, C: Clock + Sync> Shared<
                 self.end(rt, Ending::Ended);
             },
         );
+    }
+
+    /// Dials who is to be dialed, until nobody is left or all is to end.
+    fn run_dialer<D: Dialer + Drop, R: Wait + time::Clock>(&self, rt: &R, mut dialer: D) {
+        for _ in rt.forever() {
+            if self.has_ended(rt) || dialer.dial(rt) == Dialed::Nobody {
+                break;
+            }
+        }
     }
 
     /// Waits until every link has ended, or all is to end.

@@ -23,7 +23,7 @@ pub enum Ending {
     Ended,
     /// The journal's device failed, in a call (17) or before (15).
     Halted,
-    /// No thread can be started for the timer.
+    /// No thread can be started for the timer or the dialer, or no memory is left for this one.
     OutOfMemory,
 }
 

@@ -66,14 +66,11 @@ impl<S: Store + Drop, J: Node, C: Clock> Shared<'_, S, J, C> {
         now.saturating_add(TICK_MS)
     }
 
-    /// Sends the frames of the height again where it hasn't moved for a second.
+    /// Passes on a turn of the height's frames where it hasn't moved for a second.
     fn pass_on<R: Wait + Log>(&self, rt: &R, now: u64) {
-        let edge = self.edge.lock(rt);
+        let mut edge = self.edge.lock(rt);
         let outlets = self.outlets.lock(rt);
-        let mut dropped = 0u64;
-        for sent in edge.still_frames(now) {
-            dropped = dropped.saturating_add(outlets.offer(rt, &sent.frame));
-        }
+        let dropped = outlets.pass_on(rt, edge.next_turn(now));
         if dropped > 0 {
             warn!(rt; "{dropped} frames are not passed on, since a link has no room");
         }

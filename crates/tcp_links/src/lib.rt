@@ -1,13 +1,16 @@
 //! Links to peers over TCP, and the time by the host's clock.
 //!
-//! A node listens on its own address, dials each other one once, and then takes what dials it. No call
-//! waits longer than for a moment where nothing comes, so that who reads can look whether it is to end.
+//! A node listens on its own address and takes what dials it, while its dialer dials each other address
+//! once. No call but the dialer's waits longer than for a moment where nothing comes, so that who reads can
+//! look whether it is to end.
 #![tactic(auto)]
 
+mod dialing;
 mod host_clock;
 mod source;
 mod tcp_link;
 
+pub use dialing::TcpDialer;
 pub use host_clock::HostClock;
 pub use source::TcpLinks;
 pub use tcp_link::TcpLink;

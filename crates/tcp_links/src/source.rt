@@ -1,7 +1,8 @@
 //! Where peers come from.
 
-ghost use Rattle.std.specs.Prelude.{◌≡◌, ◌<◌, ◌+◌, ◌++◌, drop, length, take, IfOk};
+ghost use Rattle.std.specs.Prelude.{◌≡◌, ◌<◌, ◌+◌, ◌++◌, [], drop, length, take, IfOk};
 
+use crate::dialing::{ReachedPeers, TcpDialer};
 use crate::tcp_link::TcpLink;
 use log::{Log, warn};
 use peer_links::{Links, Next, Peer};
@@ -9,26 +10,23 @@ use std::alloc::{AllocError, Global};
 use std::collections::VecDeque;
 use std::fmt::Display;
 use std::io::ErrorKind;
-use std::net::{Net, TcpListener, TcpStream, ToSocketAddrs};
-use std::sync::Wait;
+use std::net::{Net, TcpListener, TcpStream};
+use std::sync::{Arc, Wait};
 use std::time::{Clock, Duration};
-use std::{io, thread};
-
-/// How long a dial waits for its peer, in milliseconds.
-const DIAL_MS: u64 = 1_000;
+use std::{io, mem, thread};
 
 /// How long it waits where nobody dials, in milliseconds.
 const ACCEPT_MS: u64 = 10;
 
-/// The peers of a node: those that it dials, each once, and then those that dial it. What fails is
-/// logged, and is not tried again.
+/// The peers of a node: those that its dialer reaches, and those that dial it. What fails is logged.
 #[derive(Drop)]
 pub struct TcpLinks<'a, N> {
     alloc: Global,
     net: &'a N,
     listener: TcpListener,
-    /// The addresses that are still to be dialed.
+    /// The addresses that are to be dialed, until the dialer has them.
     others: VecDeque<&'a str>,
+    reached: Arc<ReachedPeers<'a>>,
 }
 
 /// All addresses but this one, in order.
@@ -60,23 +58,22 @@ impl<'a, N: Log + Net<Stream = TcpStream, Listener = TcpListener>> TcpLinks<'a, 
         let others = others_of(alloc, peers, me)?;
         let listener = TcpListener::bind(net, peers[me])?;
         listener.set_nonblocking(true)?;
+        let reached = Arc::new(alloc, ReachedPeers::new(alloc))?;
         Ok(TcpLinks {
             alloc,
             net,
             listener,
             others,
+            reached,
         })
     }
 
-    /// Dials an address.
-    fn dial(&self, address: &str) -> Next<TcpLink> {
-        match connect(self.net, address) {
-            Ok(stream) => self.peer(stream, &address),
-            Err(error) => {
-                warn!(self.net; "{address}: cannot be reached: {error}");
-                Next::Idle
-            }
-        }
+    /// The addresses that are to be dialed, which it then no longer has.
+    fn take_others(&mut self) -> VecDeque<&'a str>
+        ensures given { result.items ≡ self.old.others.items }
+        ensures empty { self.new.others.items ≡ [] }
+    {
+        mem::replace(&mut self.others, VecDeque::new(self.alloc))
     }
 
     /// Takes who dials, or waits for a moment where nobody does.
@@ -105,14 +102,6 @@ impl<'a, N: Log + Net<Stream = TcpStream, Listener = TcpListener>> TcpLinks<'a, 
     }
 }
 
-/// A connection to the first of the socket addresses that an address stands for.
-fn connect<N: Net<Stream = TcpStream>>(net: &N, address: &str) -> io::Result<TcpStream> {
-    match address.to_socket_addrs(net)?.next() {
-        Some(address) => TcpStream::connect_timeout(net, &address, Duration::from_millis(DIAL_MS)),
-        None => Err(ErrorKind::AddrNotAvailable.into()),
-    }
-}
-
 /// Both halves of a connection, under the name of the address.
 fn peer_of<A: Display>(alloc: Global, stream: TcpStream, address: &A) -> io::Result<Peer<TcpLink>> {
     let (reader, writer) = TcpLink::halves(stream)?;
@@ -124,12 +113,24 @@ fn peer_of<A: Display>(alloc: Global, stream: TcpStream, address: &A) -> io::Res
     })
 }
 
-impl<N: Log + Net<Stream = TcpStream, Listener = TcpListener>> Links for TcpLinks<'_, N> {
+impl<'a, N: Log + Net<Stream = TcpStream, Listener = TcpListener> + Sync> Links
+    for TcpLinks<'a, N> {
     type Link = TcpLink;
 
+    type Dialer = TcpDialer<'a, N>;
+
+    fn dialer(&mut self) -> Result<TcpDialer<'a, N>, AllocError> {
+        let reached = Arc::try_clone(&self.reached)?;
+        Ok(TcpDialer {
+            net: self.net,
+            others: self.take_others(),
+            reached,
+        })
+    }
+
     fn next<R: Wait + Clock>(&mut self, rt: &R) -> Next<TcpLink> {
-        match self.others.pop_front() {
-            Some(address) => self.dial(address),
+        match self.reached.take(rt) {
+            Some(peer) => self.peer(peer.stream, &peer.address),
             None => self.accept(rt),
         }
     }

@@ -1,5 +1,6 @@
 //! What threads share, each by itself, and links.
 
+mod dialing;
 mod links;
 mod queue;
 mod ring;

@@ -98,10 +98,12 @@ fn a_store_that_fails_halts(rt: HostRuntime) -> Result<(), Fail> {
     Ok(())
 }
 
-/// A link that brings a transaction and then nothing, until it fails.
+/// A link that brings a transaction and then nothing, until it fails after five seconds: long enough for
+/// all others to be opened meanwhile, on a busy machine too.
 fn add_lasting(alloc: Global, peers: &mut Peers) -> Result<(), Fail> {
     let wire = peers.wire()?;
-    let mut half = peers.half_of_turns(&wire, 4_096, 1_000)?;
+    let mut half = peers.half_of_turns(&wire, 4_096, 50)?;
+    half.set_turn(100);
     half.add(Step::Bytes(transaction(alloc, 0, 1)?))?;
     peers.add(wire, half)
 }
