@@ -12,11 +12,13 @@
 //! - `value NAME ITEM ..`, any number: a value by name, one to eight letters A to Z, each name
 //!   once. An item is `CLIENT:NUMBER:BYTES` or `CLIENT:NUMBER:close`, and its tags are right for
 //!   every validator; with `/LIST` behind it, for the listed ones alone, and the others are zeros.
+//!   In a session after the client's first, from 1 on, it begins with `CLIENT.SESSION`.
 //!   With no item it is the empty value.
 //!
 //! Then the world begins, and the executed lines follow, each an event of it:
 //!
 //! - `send C BYTES` and `close C`: client C sends its next transaction, which is a message with a number.
+//! - `open C`: client C, which has closed its session, begins its next one.
 //! - `deliver M P`: message number M comes to the correct validator P.
 //! - `pass`: each message so far comes to each correct validator but its sender to which it wasn't brought.
 //! - `propose S P H R VR NAME`: liar S's proposal of height H and round R comes to P. VR, the valid round, is -1

@@ -7,6 +7,8 @@
 //! - 02: the body of an own precommit for a value, and then the value.
 //! - 03: the bundle body of a decision under the own number, with the precommits that decided, in order of sender, each
 //!   once.
+//! - 04: the mark, once: the number of the form in four bytes, which is 2. Only behind it do transactions of later sessions
+//!   stand in records. It says nothing of the validator, and what is told of a journal's records passes over it.
 //!
 //! Bodies and values are spelled as `messages` and `transactions` spell them. A stop may cut the last record short: what is
 //! left of it is less than a whole record, and is cut away when the journal is opened again.

@@ -215,12 +215,14 @@ impl<S: Store + Drop> Journal<S> {
     /// Opens the journal of validator `me` on a store, as a stop or a `close` left it.
     ///
     /// What a stop left of a record that was cut short is cut away, a header that is missing or cut short is written,
-    /// and all is synced, whatever was done. What is kept is of the records that its bytes spell.
+    /// the mark is appended where there is none, and all is synced, whatever was done. What is kept is of the records that
+    /// its bytes spell.
     ///
     /// Faults, with the store: `Failed` (1) where its device failed; `OutOfMemory` (2); `BadRecord` (3) where the bytes
     /// are no journal of this validator under these powers, cut short or not: another header, or a fault of a record as
     /// [`read_record`](crate::read_record) has it, a length of 0 or above 1,100,000, or a record that may not follow those
-    /// before it. A refusal may have done the cut and have written the header; it leaves every whole record.
+    /// before it. A refusal may have done the cut, and have written the header, and the mark or a part of it; it leaves
+    /// every whole record.
     pub fn open(
         alloc: Global,
         mut store: S,
