@@ -6,12 +6,14 @@ usage: random_runs.py [--count N] [--seed S] [--with PROGRAM]
 A schedule is made in three parts: after each it is run from its beginning, and the next part goes on from where the report says
 that the validators stand. Of each report the delivered lists have to begin one another, where the liars have less than a third
 of the power; then those of an earlier part begin the later ones too, and the items of a client that nobody invents begin what it
-sent. Among any liars each list has to keep every client's order: numbers from one, and nothing after a close. Schedule number I
-of a seed is the same on each machine. Without PROGRAM the tmsim in bin/ is taken (./build.sh builds it). A breach is printed
-with its schedule. The last line is 'N passed, M failed'.
+sent. Among any liars each list has to keep every client's order: sessions from zero, each but the first behind the close of the
+one before it, and in each numbers from one. Schedule number I of a seed is the same on each machine. Without PROGRAM the tmsim
+in bin/ is taken (./build.sh builds it). A breach is printed with its schedule. The last line is 'N passed, M failed'.
 """
 import argparse
+import collections
 import concurrent.futures
+import dataclasses
 import os
 import pathlib
 import random
@@ -28,6 +30,31 @@ KINDS = ("propose", "prevote", "precommit")
 POWERS = ([1, 1, 1, 1], [1, 1, 1, 1], [1, 1], [2, 1, 1, 1], [3, 3, 3, 1], [1, 1, 1, 1, 1, 1, 1], [5, 3, 2, 4])
 
 
+def item_text(client, session, number, what):
+    sender = f"{client}.{session}" if session else f"{client}"
+    return f"{sender}:{number}:{what}"
+
+
+@dataclasses.dataclass
+class Standing:
+    """Where a client stands: the session and number of its last transaction, and whether that closed the session."""
+
+    session: int = 0
+    last: int = 0
+    closed: bool = False
+
+    def wanted(self):
+        """Returns the session and number of the next transaction."""
+        return (self.session + 1, 1) if self.closed else (self.session, self.last + 1)
+
+    def take(self, session, number, what):
+        self.session, self.last, self.closed = session, number, what == "close"
+
+    def begin(self):
+        """Begins the session behind the close."""
+        self.session, self.last, self.closed = self.session + 1, 0, False
+
+
 class Schedule:
     """A random schedule, and what is known of its run so far."""
 
@@ -38,6 +65,8 @@ class Schedule:
         self.liars = self.some_liars(list(everyone))
         self.correct = [validator for validator in everyone if validator not in self.liars]
         self.sent = {client: [] for client in range(CLIENTS)}
+        self.clients = [Standing() for _ in range(CLIENTS)]
+        self.invented = [Standing() for _ in range(HONEST)]
         self.names = ["E"]
         self.lines = [f"powers {' '.join(map(str, self.powers))}", f"clients {CLIENTS}"]
         if self.liars:
@@ -57,25 +86,43 @@ class Schedule:
         count = self.random.choice((0, 0, 1, 1, 1, 2, len(everyone) - 1))
         return sorted(self.random.sample(everyone, min(count, len(everyone) - 1)))
 
-    def item(self, number):
+    def op(self):
+        return self.random.choice(("61", "62", "-", "close"))
+
+    def wrong_tag(self):
+        return f"/{self.random.randrange(len(self.powers))}" if self.random.random() < 0.2 else ""
+
+    def item(self):
+        """An item of a client that is invented, of any session and number."""
         client = self.random.randrange(HONEST)
-        what = self.random.choice(("61", "62", "-", "close"))
-        wrong = f"/{self.random.randrange(len(self.powers))}" if self.random.random() < 0.2 else ""
-        return f"{client}:{number}:{what}{wrong}"
+        session, number = self.random.choice((0, 0, 0, 1, 1, 2)), self.random.choice((1, 1, 1, 2, 3))
+        return item_text(client, session, number, self.op()) + self.wrong_tag()
+
+    def next_item(self):
+        """An item that goes on behind those of the values before it."""
+        client = self.random.randrange(HONEST)
+        session, number = self.invented[client].wanted()
+        what = self.op()
+        self.invented[client].take(session, number, what)
+        return item_text(client, session, number, what) + self.wrong_tag()
 
     def items(self):
-        return [self.item(self.random.choice((1, 1, 1, 2, 3))) for _ in range(self.random.randrange(1, 4))]
+        draw = self.random.choice((self.item, self.next_item, self.next_item))
+        return [draw() for _ in range(self.random.randrange(1, 4))]
 
     def client_line(self):
         client = self.random.randrange(CLIENTS)
-        if self.sent[client][-1:] == ["close"]:
-            return "pass"
-        if self.random.random() < 0.2:
-            self.sent[client].append("close")
-            return f"close {client}"
-        data = self.random.choice(("-", "61", "6263"))
-        self.sent[client].append(data)
-        return f"send {client} {data}"
+        standing = self.clients[client]
+        if standing.closed:
+            if self.random.random() < 0.5:
+                return "pass"
+            standing.begin()
+            return f"open {client}"
+        what = "close" if self.random.random() < 0.25 else self.random.choice(("-", "61", "6263"))
+        session, number = standing.wanted()
+        self.sent[client].append(item_text(client, session, number, what))
+        standing.take(session, number, what)
+        return f"close {client}" if what == "close" else f"send {client} {what}"
 
     def place_of(self, validator):
         """Returns a height and a round, mostly those at which the validator stood."""
@@ -107,7 +154,7 @@ class Schedule:
         if kind == "fail":
             return f"fail {validator} {self.random.randrange(1, 9)} {self.random.choice(('-', '4', '30', '200', '5000'))}"
         if kind == "tx":
-            return f"tx {validator} {self.item(self.random.choice((1, 1, 2)))}"
+            return f"tx {validator} {self.item()}"
         if kind == "raw":
             return f"raw {validator} {self.random.choice(('-', '00000000', '000000017f', '0000000113'))}"
         return f"{kind} {validator}"
@@ -142,22 +189,27 @@ def begins(one, other):
     return other[: len(one)] == one
 
 
+def fields_of(item):
+    """Returns the client, session, number and bytes of an item."""
+    sender, number, what = item.split(":")
+    client, _, session = sender.partition(".")
+    return int(client), int(session or 0), int(number), what
+
+
 def keeps_order(items):
-    """Whether each client's numbers go up from one, and nothing follows its close."""
-    last, closed = {}, set()
-    for client, number, what in (item.split(":") for item in items):
-        if client in closed or int(number) != last.get(client, 0) + 1:
+    """Whether each client's sessions stand in order, each but the first behind a close, and in each its numbers from one."""
+    standings = collections.defaultdict(Standing)
+    for client, session, number, what in map(fields_of, items):
+        if (session, number) != standings[client].wanted():
             return False
-        last[client] = int(number)
-        if what == "close":
-            closed.add(client)
+        standings[client].take(session, number, what)
     return True
 
 
 def begins_sent(items, sent):
     """Whether the items of the clients that nobody invents begin what they sent."""
     for client in range(HONEST, CLIENTS):
-        mine = [item.split(":")[2] for item in items if item.startswith(f"{client}:")]
+        mine = [item for item in items if fields_of(item)[0] == client]
         if not begins(mine, sent[client]):
             return False
     return True

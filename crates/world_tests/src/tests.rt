@@ -3,6 +3,7 @@
 mod calls;
 mod failures;
 mod parties;
+mod sessions;
 mod worlds;
 
 use powers::Powers;

@@ -115,6 +115,17 @@ value N 7:1:Close
 value N 07:1:61
 value N :1:61
 value N 65536:1:61
+value N 7.0:1:61
+value N 7.:1:61
+value N .1:1:61
+value N .:1:61
+value N 7.01:1:61
+value N 7.1.1:1:61
+value N 7.-:1:61
+value N 7.4294967296:1:61
+value N 07.1:1:61
+value N 65536.1:1:61
+value N 7:1.1:61
 value N 7:18446744073709551616:61
 value N 7:1:61\x20
 value N 7:1:61/
@@ -169,6 +180,7 @@ tx 3 A
 tx 3 7:1:61 7:2:61
 tx 3 7:1:61/4
 tx 3 65536:1:61
+tx 3 7.0:1:61
 tx 0 7:1:61
 raw 3
 raw 3\x20
@@ -193,6 +205,12 @@ send 7 61 62
 close
 close 7 7
 close -
+close 7.1
+open
+open 7 7
+open -
+open 7.1
+open x
 deliver 0
 deliver 0 2
 deliver x 3

@@ -70,6 +70,8 @@ fn each_fault(rt: HostRuntime) -> Result<(), Fail> {
 2 tx 4 1024:1:61
 4 tx 3 1024:1:61
 4 tx 3 7:0:61/0
+4 tx 3 7.1:0:61
+4 tx 3 1024.1:1:61
 2 raw 4 -
 2 timeout 4 propose 0 0
 2 ask 18446744073709551616
@@ -81,7 +83,10 @@ fn each_fault(rt: HostRuntime) -> Result<(), Fail> {
 1 deliver 99999999999999999999 4
 2 deliver 0 4
 2 send 8 61
-2 close 18446744073709551616";
+2 close 18446744073709551616
+6 open 7
+2 open 8
+2 open 18446744073709551616";
     assert_each_fails(&rt, rt.alloc(), rows)
 }
 

@@ -155,3 +155,93 @@ vote 1 3 prevote 0 0 nil
     let report = "0 v3 prevote 0 0 nil\n1 v3 precommit 0 0 nil\nv3 at 0 0:\n";
     assert_report(&rt, rt.alloc(), lines, report)
 }
+
+/// A client goes on in a next session only behind its close, and with number 1.
+#[test]
+fn sessions(rt: HostRuntime) -> Result<(), Fail> {
+    let lines = "\
+value A 7:1:close
+value B 7.1:1:62
+bundle 0 3 0 0 A A 0,1,2
+tx 3 7:2:63
+tx 3 7.2:1:61
+tx 3 7.1:2:62
+tx 3 7:1:close
+bundle 0 3 1 0 B B 0,1,2
+tx 3 7:2:63
+";
+    let report = "\
+v3 decides 0 0 A
+v3 refuses 13 5
+v3 refuses 13 9
+v3 refuses 13 4
+v3 refuses 13 3
+v3 decides 1 0 B
+v3 refuses 13 3
+v3 at 2 0: 7:1:close 7.1:1:62
+";
+    assert_report(&rt, rt.alloc(), lines, report)
+}
+
+/// Each session's numbers are counted from one, and a message tells of its session but of a client's first.
+#[test]
+fn begun_sessions(rt: HostRuntime) -> Result<(), Fail> {
+    let lines = "\
+send 7 61
+close 7
+open 7
+close 7
+send 6 -
+open 7
+send 7 62
+send 7 63
+";
+    let report = "\
+0 c7 tx 1 61
+1 c7 tx 2 close
+2 c7.1 tx 1 close
+3 c6 tx 1 -
+4 c7.2 tx 1 62
+5 c7.2 tx 2 63
+v3 at 0 0:
+";
+    assert_report(&rt, rt.alloc(), lines, report)
+}
+
+/// The last session that an item may name.
+#[test]
+fn last_session(rt: HostRuntime) -> Result<(), Fail> {
+    let lines = "tx 3 7.4294967295:1:61\n";
+    assert_report(&rt, rt.alloc(), lines, "v3 refuses 13 9\nv3 at 0 0:\n")
+}
+
+/// A validator with two fifths of the power proposes at two heights of five, one behind the other.
+#[test]
+fn proposers_by_power(rt: HostRuntime) {
+    let schedule = b"powers 2 1 1 1\nclients 8\nvalue E\npass\npass\npass\n";
+    let out = "\
+0 v0 proposal 0 0 -1 E
+1 v0 prevote 0 0 E
+2 v1 prevote 0 0 E
+3 v2 prevote 0 0 E
+4 v3 prevote 0 0 E
+5 v2 precommit 0 0 E
+6 v3 precommit 0 0 E
+7 v0 precommit 0 0 E
+8 v1 precommit 0 0 E
+v0 decides 0 0 E
+9 v0 proposal 1 0 -1 E
+10 v0 prevote 1 0 E
+v1 decides 0 0 E
+v2 decides 0 0 E
+v3 decides 0 0 E
+v0 refuses 7
+v2 refuses 7
+v3 refuses 7
+v0 at 1 0:
+v1 at 1 0:
+v2 at 1 0:
+v3 at 1 0:
+";
+    assert_run(&rt, rt.alloc(), schedule, 0, out, "");
+}

@@ -230,6 +230,28 @@ fn events_that_cannot_happen(rt: HostRuntime) -> Result<(), Fail> {
     Ok(())
 }
 
+/// A session begins behind a client's close, and once; in it the client sends until it closes again.
+#[test]
+fn sessions_that_cannot_begin(rt: HostRuntime) -> Result<(), Fail> {
+    let alloc = rt.alloc();
+    let nobody = Some((1, FaultNumber::NoSuchParty));
+    assert_eq!(rt; fault_of(alloc, &[Event::Open(8)])?, nobody);
+    let open = Some((1, FaultNumber::NotClosed));
+    assert_eq!(rt; fault_of(alloc, &[Event::Open(7)])?, open);
+    let twice = [Event::Send(7, Op::Close), Event::Open(7), Event::Open(7)];
+    let open = Some((3, FaultNumber::NotClosed));
+    assert_eq!(rt; fault_of(alloc, &twice)?, open);
+    let closed = [
+        Event::Send(7, Op::Close),
+        Event::Open(7),
+        Event::Send(7, Op::Close),
+        Event::Send(7, Op::Close),
+    ];
+    let closed_again = Some((4, FaultNumber::ClientClosed));
+    assert_eq!(rt; fault_of(alloc, &closed)?, closed_again);
+    Ok(())
+}
+
 /// An item of more than 1,024 bytes has no spelling; the events before it stand and are told.
 #[test]
 fn what_is_too_long(rt: HostRuntime) -> Result<(), Fail> {
