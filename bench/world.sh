@@ -1,12 +1,19 @@
 #!/usr/bin/env bash
-# How many events a second tmsim takes in a world, and how its memory grows: four correct validators for 1,000 heights, and 64 for ten.
+# How many events a second tmsim takes in a world, and how its memory grows: four correct validators for 1,000 heights, and 128, the
+# most there are, for ten.
 #
-# usage: bench/world.sh [HEIGHTS [HEIGHTS64]]
+# usage: bench/world.sh [--with PROGRAM] [HEIGHTS [HEIGHTS128]]
 #
+# PROGRAM is a built tmsim; without it the one in bin/ is brought up to date and taken.
 # Each `pass` brings each message to each validator, which is counted as one event for each of them. A height takes three.
 set -euo pipefail
+program=bin/tmsim
+if [ "${1:-}" = --with ]; then
+    program=$(realpath -- "${2:?--with wants a program}")
+    shift 2
+fi
 cd "$(dirname "${BASH_SOURCE[0]}")/.."
-./build.sh >&2
+[ "$program" != bin/tmsim ] || ./build.sh >&2
 work=$(mktemp -d)
 trap 'rm -rf "$work"' EXIT
 
@@ -20,7 +27,7 @@ schedule() {
 # Runs so many validators for so many heights; prints the seconds, the peak memory in KB and the messages.
 run() {
     schedule "$1" "$2" > "$work/schedule.txt"
-    /usr/bin/time -f '%e %M' -o "$work/time.txt" bin/tmsim "$work/schedule.txt" > "$work/report.txt"
+    /usr/bin/time -f '%e %M' -o "$work/time.txt" "$program" "$work/schedule.txt" > "$work/report.txt"
     grep -q "^v0 at $2 " "$work/report.txt"
     echo "$(cat "$work/time.txt") $(grep -c '^[0-9]' "$work/report.txt")"
 }
@@ -39,4 +46,4 @@ tell() {
 }
 
 tell 4 "${1:-1000}"
-tell 64 "${2:-10}"
+tell 128 "${2:-10}"
