@@ -1,18 +1,16 @@
-//! Validator 3 of four of power 1. The key of what validator S sends to it is 32 times the byte 0xSS, and that of what
-//! client C sends 32 times the byte 0xCC.
+//! What no schedule tells of a node: its calls and what they answer, the timeouts that it schedules, streams of frames, memory that
+//! is refused, and journals that others wrote. What it answers to frames, `schedules/` tells.
+//!
+//! Most are of validator 3 of four of power 1. The key of what validator S sends to it is 32 times the byte 0xSS, and that of
+//! what client 7 sends 32 times the byte 0x77.
 
 ghost use Rattle.std.specs.Prelude.{◌≡◌, [], false, IfOk, length};
 ghost use Rattle.protocol.specs.Tags.{Validator};
 ghost use Rattle.vote_journal.specs.Layout.{IsWhole};
 
-mod bundles;
-mod journal;
 mod memory;
 mod opening;
 mod proposer;
-mod queues;
-mod refusals;
-mod sessions;
 mod streams;
 mod timeouts;
 
@@ -20,7 +18,6 @@ use authenticators::{KeyRing, Party, hmac};
 use messages::{Body, Proposal, Step as VoteStep, Vote, frame_of, spell_body};
 use node_core::{Config, NodeCore};
 use powers::Powers;
-use protocol::Refusal;
 use std::alloc::Global;
 use std::process::Abort;
 use std::test::Fail;
@@ -35,11 +32,7 @@ v3 v0 4444444444444444444444444444444444444444444444444444444444444444
 v3 v1 4444444444444444444444444444444444444444444444444444444444444444
 v3 v2 4444444444444444444444444444444444444444444444444444444444444444
 c7 v3 7777777777777777777777777777777777777777777777777777777777777777
-c8 v3 8888888888888888888888888888888888888888888888888888888888888888
 ";
-
-/// What is answered to a frame.
-type Answer = Result<(), Refusal>;
 
 /// A validator's ring among so many.
 fn ring_of(
@@ -100,9 +93,9 @@ fn begin(rt: &impl Abort, core: &mut NodeCore<MemoryStore>) {
     assert_eq!(rt; core.settle(), Ok(()));
 }
 
-/// A value's bytes: those of its one transaction, and the tags for validators 0 to 3.
-fn value_spelling(number: u8, byte: u8) -> [u8; 146] {
-    let tx = [1, 0, 7, 0, 0, 0, 0, 0, 0, 0, number, 0, 0, 1, byte];
+/// The bytes of the value of client 7's number 1, the byte 0x61: the transaction, and the tags for validators 0 to 3.
+fn value_spelling() -> [u8; 146] {
+    let tx = [1, 0, 7, 0, 0, 0, 0, 0, 0, 0, 1, 0, 0, 1, 0x61];
     let mut bytes = [0; 146];
     bytes[1] = 1;
     bytes[2..17].copy_from_slice(&tx);
@@ -121,15 +114,9 @@ struct Node {
 impl Node {
     /// It has begun.
     fn new(rt: &impl Abort, alloc: Global) -> Result<Node, Fail> {
-        Node::failing(rt, alloc, 0, 0)
-    }
-
-    /// It has begun, over a store whose call of this number fails, counted from 1: the first two are the opening's appends of
-    /// the header and of the mark, and the third is its sync.
-    fn failing(rt: &impl Abort, alloc: Global, failing: u64, keep: usize) -> Result<Node, Fail> {
         let powers = powers_of(rt, vec![in alloc; 1, 1, 1, 1]?)?;
         let ring = ring_of(rt, alloc, KEYS, 3, 4)?;
-        let journal = journal_of(rt, alloc, 3, &powers, failing, keep);
+        let journal = journal_of(rt, alloc, 3, &powers, 0, 0);
         let mut core = NodeCore::new(alloc, Config { me: 3, powers }, ring, journal);
         begin(rt, &mut core);
         Ok(Node { alloc, core })
@@ -143,31 +130,25 @@ impl Node {
         Ok(frame_of(self.alloc, &spelled, &tags)?)
     }
 
-    /// What is answered to that frame.
-    fn told(&mut self, rt: &impl Abort, key: u8, body: &Body) -> Result<Answer, Fail> {
-        let frame = self.frame(rt, key, body)?;
-        Ok(self.core.handle(&frame))
-    }
-
-    /// The value of one transaction of client 7 with this number, the byte 0x61 under right tags.
-    fn value(&self, number: u8) -> Result<Value, Fail> {
-        Ok(read_value(self.alloc, &value_spelling(number, 0x61))?)
+    /// The value of client 7's number 1.
+    fn value(&self) -> Result<Value, Fail> {
+        Ok(read_value(self.alloc, &value_spelling())?)
     }
 
     /// Its id.
-    fn id(&self, number: u8) -> Result<Id, Fail> {
-        let value = self.value(number)?;
+    fn id(&self) -> Result<Id, Fail> {
+        let value = self.value()?;
         Ok(value_id(self.alloc, &value)?)
     }
 
-    /// A proposal of the value with this number.
-    fn proposal(&self, height: u64, round: u32, sender: u16, number: u8) -> Result<Body, Fail> {
+    /// Validator 0's proposal of it at height 0 and round 0.
+    fn proposal(&self) -> Result<Body, Fail> {
         Ok(Body::Proposal(Proposal {
-            height,
-            round,
-            sender,
+            height: 0,
+            round: 0,
+            sender: 0,
             valid_round: None,
-            value: self.value(number)?,
+            value: self.value()?,
         }))
     }
 }
@@ -184,13 +165,13 @@ fn on_node<F: FnOnce(&mut Node) -> Result<(), Fail>>(
     act(&mut node)
 }
 
-/// A vote of height 0.
-fn vote(step: VoteStep, round: u32, sender: u16, content: Option<Id>) -> Body {
+/// A vote for an id at height 0 and round 0.
+fn vote(step: VoteStep, sender: u16, id: Id) -> Body {
     Body::Vote(Vote {
         step,
         height: 0,
-        round,
+        round: 0,
         sender,
-        content,
+        content: Some(id),
     })
 }

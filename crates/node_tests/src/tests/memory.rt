@@ -1,15 +1,43 @@
 //! Each call that is refused memory is made once more after `settle`: whichever growth is refused, the end is the same.
 
-use super::bundles::RIGHT;
 use super::timeouts::due;
 use super::{Node, on_node, vote};
-use messages::{Ask, Body, Step as VoteStep};
+use authenticators::hmac;
+use messages::{Ask, Body, Bundle, Precommit, Step as VoteStep, spell_body};
 use protocol::{Refusal, Step};
+use std::alloc::Global;
 use std::process::Abort;
 use std::test::Fail;
-use transactions::Id;
+use transactions::{Id, Seq};
+
+/// A precommit for an id, with the tag for validator 3 under 32 times this byte.
+fn precommit(alloc: Global, id: Id, sender: u16, key: u8) -> Result<Precommit, Fail> {
+    let spelled = spell_body(alloc, &vote(VoteStep::Precommit, sender, id))?;
+    let tags = [[0; 32], [0; 32], [0; 32], hmac(&[key; 32], &spelled)];
+    Ok(Precommit {
+        sender,
+        tags: Seq::from_vec(tags.to_vec(alloc)?),
+    })
+}
 
 impl Node {
+    /// Validator 0's bundle, which shows that height 0 decided the value.
+    fn bundle(&self) -> Result<Body, Fail> {
+        let id = self.id()?;
+        let mut precommits = Seq::new(self.alloc);
+        for (sender, key) in [(0, 0x00), (1, 0x11), (2, 0x22)] {
+            precommits.push(precommit(self.alloc, id, sender, key)?)?;
+        }
+        Ok(Body::Bundle(Bundle {
+            height: 0,
+            sender: 0,
+            round: 0,
+            id,
+            value: self.value()?,
+            precommits,
+        }))
+    }
+
     /// Takes the frame in, and once more where memory was refused: it may have been taken in by then.
     fn takes_in(&mut self, rt: &impl Abort, frame: &[u8]) -> Result<(), Fail> {
         let answer = self.core.handle(frame);
@@ -46,18 +74,18 @@ impl Node {
             (VoteStep::Precommit, 0, 0x00),
             (VoteStep::Precommit, 1, 0x11),
         ] {
-            self.takes(rt, key, &vote(step, 0, sender, Some(id)))?;
+            self.takes(rt, key, &vote(step, sender, id))?;
         }
         Ok(())
     }
 
     fn takes_a_proposal(&mut self, rt: &impl Abort) -> Result<(), Fail> {
-        let proposal = self.proposal(0, 0, 0, 1)?;
+        let proposal = self.proposal()?;
         self.takes(rt, 0x00, &proposal)
     }
 
     fn takes_a_bundle(&mut self, rt: &impl Abort) -> Result<(), Fail> {
-        let bundle = Body::Bundle(self.bundle(0, 1, None, &RIGHT)?);
+        let bundle = self.bundle()?;
         self.takes(rt, 0x00, &bundle)
     }
 
@@ -71,7 +99,7 @@ impl Node {
 
     fn decides_by_votes(&mut self, rt: &impl Abort) -> Result<(), Fail> {
         self.takes_a_proposal(rt)?;
-        let id = self.id(1)?;
+        let id = self.id()?;
         self.takes_votes(rt, id)?;
         self.has_decided(rt, 2)
     }

@@ -12,29 +12,11 @@ v1 v0 2222222222222222222222222222222222222222222222222222222222222222
 v0 v1 3333333333333333333333333333333333333333333333333333333333333333
 ";
 
-/// It proposes and prevotes.
-fn begins(rt: &impl Abort, core: &mut NodeCore<MemoryStore>) {
-    assert_eq!(rt; core.settle(), Ok(()));
-    assert_eq!(rt; core.fired(), 2);
-    assert_eq!(rt; core.outgoing().len(), 2);
-    assert_eq!(rt; core.scheduled().len(), 0);
-    assert_eq!(rt; core.frontier().next(7), 1);
-}
-
-#[test]
-fn proposer_begins(rt: HostRuntime) -> Result<(), Fail> {
-    let powers = powers_of(&rt, vec![in rt.alloc(); 1, 1]?)?;
-    let ring = ring_of(&rt, rt.alloc(), KEYS, 0, 2)?;
-    let journal = journal_of(&rt, rt.alloc(), 0, &powers, 0, 0);
-    let mut core = NodeCore::new(rt.alloc(), Config { me: 0, powers }, ring, journal);
-    begins(&rt, &mut core);
-    Ok(())
-}
-
 /// Its proposal is saved and released; the sync of its prevote fails, so it halts and doesn't say it.
 fn halts_at_its_prevote(rt: &impl Abort, core: &mut NodeCore<MemoryStore>) {
     assert_eq!(rt; core.settle(), Err(Refusal::JournalFailed));
     assert_eq!(rt; core.outgoing().len(), 1);
+    assert!(rt; core.has_halted());
     assert_eq!(rt; core.settle(), Err(Refusal::Halted));
     assert_eq!(rt; core.outgoing().len(), 0);
 }

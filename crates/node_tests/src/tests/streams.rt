@@ -16,8 +16,8 @@ struct Told {
 impl Node {
     /// The frames by which height 0 decides, one behind the other, with one among them whose tag is wrong.
     fn stream(&self, rt: &impl Abort) -> Result<Vec<u8>, Fail> {
-        let id = self.id(1)?;
-        let mut stream = self.frame(rt, 0x00, &self.proposal(0, 0, 0, 1)?)?;
+        let id = self.id()?;
+        let mut stream = self.frame(rt, 0x00, &self.proposal()?)?;
         for (step, sender, key) in [
             (VoteStep::Prevote, 0, 0x00),
             (VoteStep::Prevote, 1, 0x22),
@@ -25,7 +25,7 @@ impl Node {
             (VoteStep::Precommit, 0, 0x00),
             (VoteStep::Precommit, 1, 0x11),
         ] {
-            let frame = self.frame(rt, key, &vote(step, 0, sender, Some(id)))?;
+            let frame = self.frame(rt, key, &vote(step, sender, id))?;
             stream.extend_from_slice(&frame)?;
         }
         Ok(stream)
@@ -69,7 +69,7 @@ impl Node {
     /// Takes in the stream, and then a length above the limit.
     fn takes_too_long_a_length(&mut self, rt: &impl Abort) -> Result<(), Fail> {
         let mut reader = FrameReader::new(self.alloc);
-        let proposal = self.frame(rt, 0x00, &self.proposal(0, 0, 0, 1)?)?;
+        let proposal = self.frame(rt, 0x00, &self.proposal()?)?;
         reader.feed(&proposal)?;
         reader.feed(&[0x00, 0x10, 0x00, 0x01])?;
         assert_eq!(rt; self.core.handle_next(&mut reader), Ok(true));

@@ -1,6 +1,6 @@
-//! Timeouts that come due.
+//! Timeouts that come due, and those that are scheduled.
 
-use super::{Answer, Node, on_node};
+use super::{Node, on_node};
 use protocol::{Refusal, Step, Timeout};
 use std::process::Abort;
 use std::test::Fail;
@@ -38,7 +38,7 @@ impl Node {
     }
 
     /// What is answered to a timeout, how many frames it lets out, and the round that it begins.
-    fn fires(&mut self, timeout: Timeout) -> (Answer, usize, Option<u32>) {
+    fn fires(&mut self, timeout: Timeout) -> (Result<(), Refusal>, usize, Option<u32>) {
         let answer = self.core.fire_timeout(timeout);
         (answer, self.core.outgoing().len(), self.begun())
     }
@@ -54,28 +54,9 @@ impl Node {
         assert_eq!(rt; self.core.fired(), 1);
         Ok(())
     }
-
-    fn comes_to_the_last_round(&mut self, rt: &impl Abort) -> Result<(), Fail> {
-        for (sender, key) in [(0, 0x00), (1, 0x11)] {
-            let prevoted = (1_000_000, sender, key, None);
-            assert_eq!(rt; self.told_prevote(rt, prevoted)?, Ok(()));
-        }
-        assert_eq!(rt; self.core.round(), 1_000_000);
-        let last = due(Step::Precommit, 0, 1_000_000);
-        assert_eq!(rt; self.core.fire_timeout(last), Err(Refusal::RoundLimit));
-        let other = due(Step::Precommit, 1, 1_000_000);
-        assert_eq!(rt; self.core.fire_timeout(other), Ok(()));
-        assert_eq!(rt; self.core.round(), 1_000_000);
-        Ok(())
-    }
 }
 
 #[test]
 fn rounds_of_one(rt: HostRuntime) -> Result<(), Fail> {
     on_node(&rt, rt.alloc(), |node| node.comes_to(&rt, &ALONE))
-}
-
-#[test]
-fn last_round(rt: HostRuntime) -> Result<(), Fail> {
-    on_node(&rt, rt.alloc(), |node| node.comes_to_the_last_round(&rt))
 }
