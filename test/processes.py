@@ -302,14 +302,22 @@ def goes_on_in_its_next_session(cluster, is_long):
         ):
             told = cluster.send(7, 3, *words)
             want(told == (1, answer), f"{words} is told {told} after session {session}")
-    status, told = cluster.send_file(9, 1, cluster.file_of(["61", "close", "62"]))
-    answers = {tuple(it.split(" ", 2)[1:]) for it in told.splitlines()}
-    want(status == 1 and ("3", "refused 13 5") in answers, f"a file with a line behind its close is told {status}, {told}")
-    cluster.want_same(len(wanted) + 2, *range(4))
-    status, told = cluster.send_file(9, 1, cluster.file_of(["62", "close"]), "--session", "1")
-    lines = cluster.want_same(len(wanted) + 4, *range(4))
-    listed = [it.split(" ", 1)[1] for it in lines[len(wanted) :]]
-    want(listed == ["9 1 61", "9 2 close", "9.1 1 62", "9.1 2 close"], f"the files are listed as {listed}")
+
+
+def a_file_is_one_session(cluster, _):
+    """What stands behind a close in a file is refused, and the next file goes on in the next session."""
+    for me in range(4):
+        cluster.start(me)
+    cluster.send_until_taken(9, 0, 1, "--data", "")
+    cluster.want_same(1, *range(4))
+    status, told = cluster.send_file(7, 1, cluster.file_of(["61", "close", "62"]))
+    answers = {it.split(" ", 1)[1] for it in told.splitlines()}
+    want(status == 1 and "3 refused 13 5" in answers, f"a line behind a close is told {status}, {told}")
+    cluster.want_same(3, *range(4))
+    status, told = cluster.send_file(7, 1, cluster.file_of(["62", "close"]), "--session", "1")
+    want(status in (0, 1), f"the second file is told {status}, {told}")
+    lines = cluster.want_same(5, *range(4))
+    want(lines[1:] == ["1 7 1 61", "2 7 2 close", "3 7.1 1 62", "4 7.1 2 close"], f"the list is {lines}")
 
 
 def a_journal_of_before_sessions(cluster, _):
@@ -626,6 +634,7 @@ TESTS = (
     a_full_disk,
     kills,
     goes_on_in_its_next_session,
+    a_file_is_one_session,
     a_journal_of_before_sessions,
     proposers_by_power,
     cut_off,

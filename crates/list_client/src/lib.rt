@@ -37,17 +37,15 @@ pub struct Sender {
 impl Sender {
     /// The sender that the list names so: `CLIENT` in the client's first session, and `CLIENT.SESSION` in a later one.
     pub fn named(name: &str) -> Option<Sender> {
-        let (client, session) = match name.split_once('.') {
-            Some((client, session)) => (client, session.parse().ok()?),
-            None => (name, 0),
+        let Some((client, session)) = name.split_once('.') else {
+            let client = name.parse().ok()?;
+            return Some(Sender { client, session: 0 });
         };
-        if session == 0 && client.len() < name.len() {
-            return None;
+        let client = client.parse().ok()?;
+        match session.parse().ok()? {
+            0 => None,
+            session => Some(Sender { client, session }),
         }
-        Some(Sender {
-            client: client.parse().ok()?,
-            session,
-        })
     }
 }
 
