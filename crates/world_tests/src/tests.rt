@@ -1,9 +1,7 @@
 //! Worlds of a few validators.
 
 mod calls;
-mod failures;
 mod parties;
-mod sessions;
 mod worlds;
 
 use powers::Powers;

@@ -1,5 +1,5 @@
-use super::{assert_report, assert_run, world};
-use std::alloc::{AllocError, Global};
+use super::{assert_run, world};
+use std::alloc::Global;
 use std::process::Abort;
 use std::test::Fail;
 
@@ -242,36 +242,10 @@ fn byte_of_no_text(rt: HostRuntime) {
     assert_run(&rt, rt.alloc(), schedule, 2, "", "tmsim: line 2\n");
 }
 
-/// The line of a value of one item that has so many bytes.
-fn value_of_bytes(alloc: Global, count: u32) -> Result<String, AllocError> {
-    let mut line = String::from_str(alloc, "value A 7:1:")?;
-    for _ in 0..count {
-        line.push_str("0a")?;
-    }
-    Ok(line)
-}
-
-/// 1,024 bytes in an item are taken.
+/// Comments of any bytes and empty lines are skipped, and the last line may lack its line feed.
 #[test]
-fn longest_item(rt: HostRuntime) -> Result<(), Fail> {
-    let line = value_of_bytes(rt.alloc(), 1024)?;
-    assert_report(&rt, rt.alloc(), line.as_str(), "v3 at 0 0:\n")
-}
-
-/// The same bytes are taken of a client that sends them, and one more isn't.
-#[test]
-fn longest_sent(rt: HostRuntime) -> Result<(), Fail> {
-    let line = value_of_bytes(rt.alloc(), 1024)?.replace(rt.alloc(), "value A 7:1:", "send 7 ")?;
-    let told = line.replace(rt.alloc(), "send 7 ", "0 c7 tx 1 ")?;
-    let report = format!(in rt.alloc(); "{told}\nv3 at 0 0:\n")?;
-    assert_report(&rt, rt.alloc(), line.as_str(), report.as_str())?;
-    let longer = format!(in rt.alloc(); "{line}0a")?;
-    assert_bad_in_world(&rt, rt.alloc(), longer.as_str(), "4")
-}
-
-/// 1,025 bytes in an item are too many.
-#[test]
-fn item_too_long(rt: HostRuntime) -> Result<(), Fail> {
-    let line = value_of_bytes(rt.alloc(), 1025)?;
-    assert_bad_in_world(&rt, rt.alloc(), line.as_str(), "4")
+fn skipped_lines(rt: HostRuntime) {
+    let schedule =
+        b"# \xff\r\n\n#powers\npowers 1 1 1 1\nclients 1024\n\nliars 2 0 1 0 2\n#\nvote 0 3 prevote 0 0 nil";
+    assert_run(&rt, rt.alloc(), schedule, 0, "v3 at 0 0:\n", "");
 }

@@ -1,4 +1,4 @@
-use super::{assert_report, assert_run, world};
+use super::{assert_run, world};
 use std::alloc::{AllocError, Global};
 use std::process::Abort;
 use std::test::Fail;
@@ -88,42 +88,4 @@ fn each_fault(rt: HostRuntime) -> Result<(), Fail> {
 2 open 8
 2 open 18446744073709551616";
     assert_each_fails(&rt, rt.alloc(), rows)
-}
-
-/// A valid round that isn't below the round, and the last one that is spelled.
-#[test]
-fn lawful_valid_rounds(rt: HostRuntime) -> Result<(), Fail> {
-    for line in "propose 0 3 0 0 4294967294 A\npropose 0 3 0 0 0 A".lines() {
-        let schedule = second_event(rt.alloc(), line)?;
-        let out = "0 v3 prevote 0 0 A\nv3 at 0 0:\n";
-        assert_run(&rt, rt.alloc(), schedule.as_bytes(), 0, out, "");
-    }
-    Ok(())
-}
-
-/// A vote for a value of so many items.
-fn vote_for_items(alloc: Global, count: u32) -> Result<String, AllocError> {
-    let mut lines = String::from_str(alloc, "value A")?;
-    for number in 1..=count {
-        lines.push_str(format!(in alloc; " 7:{number}:-")?.as_str())?;
-    }
-    lines.push_str("\nvote 0 3 prevote 0 0 A\n")?;
-    Ok(lines)
-}
-
-/// A value of 256 items is spelled.
-#[test]
-fn longest_value(rt: HostRuntime) -> Result<(), Fail> {
-    let lines = vote_for_items(rt.alloc(), 256)?;
-    assert_report(&rt, rt.alloc(), lines.as_str(), "v3 at 0 0:\n")
-}
-
-/// A value of 257 items isn't.
-#[test]
-fn value_too_long(rt: HostRuntime) -> Result<(), Fail> {
-    let lines = vote_for_items(rt.alloc(), 257)?;
-    let schedule = world(rt.alloc(), lines.as_str())?;
-    let err = "tmsim: event 1: fault 4\n";
-    assert_run(&rt, rt.alloc(), schedule.as_bytes(), 3, "", err);
-    Ok(())
 }

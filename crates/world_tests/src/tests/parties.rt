@@ -8,7 +8,7 @@ use std::alloc::Global;
 use std::process::Abort;
 use std::test::Fail;
 use transactions::{Item, Op, Seq, Value, read_value, value_id};
-use world_parties::{Bundling, FaultNumber, Parties, Proposing, Tagged, Voting};
+use world_parties::{FaultNumber, Parties, Proposing, Tagged, Voting};
 
 fn four_powers(rt: &impl Abort, alloc: Global) -> Result<Powers, Fail>
     ensures { IfOk result (λ powers. length powers ≡ 4) }
@@ -49,23 +49,6 @@ fn assert_who(rt: &impl Abort, parties: &Parties) {
     assert_eq!(rt; parties.correct_at(65_536), Err(nobody));
     assert_eq!(rt; parties.client_at(7), Ok(7));
     assert_eq!(rt; parties.client_at(8), Err(nobody));
-}
-
-/// No clients, too many, and a liar that is no validator.
-#[test]
-fn no_such_worlds(rt: HostRuntime) -> Result<(), Fail> {
-    let alloc = rt.alloc();
-    for (clients, liar) in [(0, 1), (1_025, 1), (8, 4)] {
-        assert!(rt; are_no_parties(alloc, clients, liar)?);
-    }
-    Ok(())
-}
-
-/// Whether there are no parties with so many clients, or the liar is none.
-fn are_no_parties(alloc: Global, clients: u16, liar: u16) -> Result<bool, Fail> {
-    let powers = Powers::new(vec![in alloc; 1, 1, 1, 1]?)?;
-    let made = Parties::new(powers, clients, &[liar]);
-    Ok(matches!(made, Err(FaultNumber::NoSuchParty)))
 }
 
 /// A ring of a world has the keys of its validators.
@@ -116,14 +99,6 @@ fn is_proposal(body: &Body) -> bool {
     }
 }
 
-/// Whether it is a bundle of liar 0 with two precommits.
-fn has_two_precommits(body: &Body) -> bool {
-    match body {
-        Body::Bundle(found) => found.sender == 0 && found.precommits.len() == 2,
-        _ => false,
-    }
-}
-
 #[test]
 fn proposal_of_a_liar(rt: HostRuntime) -> Result<(), Fail> {
     let alloc = rt.alloc();
@@ -139,31 +114,6 @@ fn proposal_of_a_liar(rt: HostRuntime) -> Result<(), Fail> {
     assert!(rt; is_proposal(&body));
     assert_eq!(rt; tags, 4);
     Ok(())
-}
-
-/// A bundle under the id of its value, with two precommits by one liar; and one that a correct validator would sign.
-#[test]
-fn bundles_of_a_liar(rt: HostRuntime) -> Result<(), Fail> {
-    let alloc = rt.alloc();
-    let parties = parties_of(&rt, alloc)?;
-    let (body, tags) = said(alloc, &parties.frame_of_bundle(alloc, &bundle(alloc, 2)?)?)?;
-    assert!(rt; has_two_precommits(&body));
-    assert_eq!(rt; tags, 4);
-    let refused = parties.frame_of_bundle(alloc, &bundle(alloc, 1)?);
-    assert!(rt; matches!(refused, Err(FaultNumber::NoSuchParty)));
-    Ok(())
-}
-
-/// A bundle of liar 0 with two precommits by this validator.
-fn bundle(alloc: Global, signer: u64) -> Result<Bundling, Fail> {
-    Ok(Bundling {
-        sender: 0,
-        height: 5,
-        round: 1,
-        value: empty_value(alloc)?,
-        named: empty_value(alloc)?,
-        signers: Seq::from_vec(vec![in alloc; signer, signer]?),
-    })
 }
 
 /// A transaction with one right tag of four: the others are zeros.
