@@ -111,14 +111,15 @@ class Schedule:
         return [draw() for _ in range(self.random.randrange(1, 4))]
 
     def client_line(self):
-        client = self.random.randrange(CLIENTS)
+        # Some clients do more than others, or few would come to a later session.
+        client = self.random.choice((0, 1, 2, HONEST, HONEST, HONEST, HONEST, CLIENTS - 1))
         standing = self.clients[client]
         if standing.closed:
-            if self.random.random() < 0.5:
+            if self.random.random() < 0.2:
                 return "pass"
             standing.begin()
             return f"open {client}"
-        what = "close" if self.random.random() < 0.25 else self.random.choice(("-", "61", "6263"))
+        what = "close" if self.random.random() < 0.4 else self.random.choice(("-", "61", "6263"))
         session, number = standing.wanted()
         self.sent[client].append(item_text(client, session, number, what))
         standing.take(session, number, what)
