@@ -20,6 +20,10 @@ import tempfile
 import threading
 import time
 
+TOP = os.path.dirname(os.path.dirname(os.path.realpath(__file__)))
+IN_PYTHON = f"{TOP}/clients/python"
+sys.path.append(IN_PYTHON)
+import pomtsjef
 from validators import (
     PATIENCE,
     PRECOMMIT,
@@ -50,7 +54,6 @@ from validators import (
     want_one_for_each_step,
 )
 
-TOP = os.path.dirname(os.path.dirname(os.path.realpath(__file__)))
 CLIENTS = (7, 9)
 
 
@@ -563,6 +566,71 @@ def the_example(cluster, _):
     want(told == (0, "accepted\n3 7.1 1 68656c6c6f\n"), f"the example is told {told} in the next session")
 
 
+def by_python(*words, stderr=subprocess.DEVNULL):
+    """Runs a script of the client in Python, and returns its status and what it prints."""
+    words = [sys.executable, "-B", *map(str, words)]
+    ran = subprocess.run(words, cwd=IN_PYTHON, stdout=subprocess.PIPE, stderr=stderr, text=True, timeout=PATIENCE, check=False)
+    return ran.returncode, ran.stdout
+
+
+def send_by_python(cluster, to, session, number, data):
+    """Sends a transaction of client 7 by the client in Python, a close where there is no data."""
+    what = ("--session", session, "--number", number, *(("--close",) if data is None else ("--data", data.hex())))
+    whose = ("--keys", cluster.keys_of("c7"), "--client", 7, "--validators", 4)
+    return by_python("pomtsjef.py", "send", *whose, "--to", to, "--timeout", 60, *what)
+
+
+def want_refused_by_python(cluster):
+    """Wants each refusal of what comes behind the close that is number 3 of client 7's session 0."""
+    for session, number, wanted in (
+        (0, 3, "refused 13 3 (OldNumber)\n"),
+        (0, 4, "refused 13 5 (Closed)\n"),
+        (1, 2, "refused 13 4 (Gap)\n"),
+        (2, 1, "refused 13 9 (SessionAhead)\n"),
+    ):
+        told = send_by_python(cluster, cluster.addresses[3], session, number, b"")
+        want(told == (1, wanted), f"number {number} of session {session} is told {told}")
+    with open(cluster.keys_of("c7"), "rb") as file:
+        frame = bytearray(pomtsjef.Client(file.read(), 7, 4).frame(1, 1, b""))
+    # (the last byte is one of validator 3's tag)
+    frame[-1] ^= 1
+    told = str(pomtsjef.send(pomtsjef.address_of(cluster.addresses[3]), frame))
+    want(told == "refused 13 2 (BadTag)", f"a tag that isn't right is told {told}")
+
+
+def a_client_in_another_language(cluster, _):
+    """The client in Python, which knows the formats alone, closes a session and goes on in the next one, beside `tmnode send`. It
+    finds what was sent in each list, byte for byte, and where it is."""
+    status, told = by_python("test_pomtsjef.py", stderr=subprocess.STDOUT)
+    want(status == 0, f"the tests in {IN_PYTHON} fail: {told}")
+    told = send_by_python(cluster, cluster.addresses[0], 0, 1, None)
+    want(told == (5, "unanswered\n"), f"a closed port is told {told}")
+    for me in range(4):
+        cluster.start(me)
+    cluster.send_until_taken(9, 0, 1, "--data", "")
+    cluster.want_same(1, *range(4))
+    sent = [(0, 1, bytes(range(256)) * 4), (0, 2, b""), (0, 3, None)]
+    for at, it in enumerate(sent, 1):
+        told = send_by_python(cluster, cluster.addresses[at], *it)
+        want(told == (0, "accepted\n"), f"{it} is told {told}")
+        cluster.send_until_taken(9, 0, at + 1, "--data", "")
+        cluster.want_same(2 * at + 1, *range(4))
+    want_refused_by_python(cluster)
+    _, told = send_by_python(cluster, ",".join(cluster.addresses), 1, 1, b"hello")
+    answers = [it.split(" ", 2) for it in told.splitlines()]
+    want([it[:2] for it in answers] == [[it, "1"] for it in cluster.addresses], f"four validators are told {told}")
+    # (where it is delivered already it has an old number)
+    want({"accepted"} <= {it[2] for it in answers} <= {"accepted", "refused 13 3 (OldNumber)"}, f"four validators are told {told}")
+    cluster.send_until_taken(7, 3, 2, "--session", "1", "--data", "00")
+    cluster.want_same(9, *range(4))
+    for me in range(4):
+        lines = read(cluster.list_of(me)).splitlines(keepends=True)
+        own = [it[2:] for it in pomtsjef.read_list(lines) if it.client == 7]
+        want(own == [*sent, (1, 1, b"hello"), (1, 2, b"\0")], f"validator {me} lists {own}")
+        told = by_python("pomtsjef.py", "where", "--client", 7, cluster.list_of(me))
+        want(told == (0, "session 1 number 3\n"), f"where the client is is told {told}")
+
+
 def framed_noise(chance):
     """Returns a megabyte of frames, each of which begins as one of some kind, with random bytes behind."""
     contents = (bytes([chance.choice((0x01, PROPOSAL, PREVOTE, PRECOMMIT, 0x13, 0x14, 0x20))]) + chance.randbytes(4_091) for _ in range(256))
@@ -629,6 +697,7 @@ TESTS = (
     what_is_logged,
     how_far_it_is,
     the_example,
+    a_client_in_another_language,
     nothing_to_do,
     a_file_that_may_not_grow,
     a_full_disk,
