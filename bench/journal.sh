@@ -5,7 +5,7 @@
 # usage: bench/journal.sh [FOLDER]
 set -euo pipefail
 cd "$(dirname "${BASH_SOURCE[0]}")/.."
-./build.sh >&2
+./build.sh journal_bench >&2
 work=$(mktemp -d "${1:-.}/journal_bench.XXXXXX")
 trap 'rm -rf "$work"' EXIT
 bin/journal_bench save "$work/saves" 2000 | awk '{ printf "%s, %d saves a second\n", $0, 1000000 / ($3 > 0 ? $3 : 1) }'

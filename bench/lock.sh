@@ -5,7 +5,7 @@
 # the quickest counts.
 set -euo pipefail
 cd "$(dirname "${BASH_SOURCE[0]}")/.."
-./build.sh >&2
+./build.sh lock_bench >&2
 for threads in 1 2 4; do
     bin/lock_bench handle "$threads" 200 | awk -v n="$threads" '{
         printf "handle, %d thread(s): %.0f frames a second, %.0f by the core alone: %+.1f %% time\n",

@@ -1,9 +1,9 @@
 #!/usr/bin/env python3
 """Proves the programs and what they stand on, and leaves them in bin/.
 
-usage: gate/build.py
+usage: gate/build.py [NAME..]
 
-It proves as `rt ci` does, several crates at a time, and takes from this machine's store what an earlier run proved of the same
+The programs are tmsim, tmnode and client_example, and those that are named. It proves as `rt ci` does, several crates at a time, and takes from this machine's store what an earlier run proved of the same
 files. A line tells of each crate: how many are done, and how long it took so far. Where one isn't proved, what was said of it
 follows, and bin/ stays as it was.
 """
@@ -16,7 +16,7 @@ import tempfile
 import time
 
 sys.dont_write_bytecode = True
-from kit import TOP, crates, guard
+from kit import TOP, crates, guard, rt
 from libraries import prove
 
 PROGRAMS = ("tmsim", "tmnode", "client_example")
@@ -25,9 +25,12 @@ INNER = "--prove-in"
 
 
 def keep_programs(top, names=PROGRAMS):
-    """Copies the programs of a proved checkout to bin/, with the sum of its sources."""
+    """Copies the programs of a proved checkout to bin/, with the sum of its sources, and removes those of other sources."""
     os.makedirs(f"{TOP}/bin", exist_ok=True)
     sum = subprocess.run(["bash", "-c", "source gate/sources.sh && sum_of_sources"], cwd=top, capture_output=True, text=True, check=True).stdout
+    if rt.rtlib.text_of(f"{TOP}/bin/sources") != sum:
+        for it in [it.path for it in os.scandir(f"{TOP}/bin") if it.is_file()]:
+            os.remove(it)
     for name in names:
         shutil.copy2(f"{top}/crates/{name}/out/{name}", f"{TOP}/bin/{name}.new")
         os.replace(f"{TOP}/bin/{name}.new", f"{TOP}/bin/{name}")
@@ -49,22 +52,23 @@ def follow(ran, count):
 
 
 def main(words):
-    if words[:1] == [INNER] and len(words) == 2:
+    if words[:1] == [INNER]:
         guard()
-        return 0 if prove(PROGRAMS, TOP, words[1]) else 1
-    if words:
+        return 0 if prove(words[2:], TOP, words[1]) else 1
+    names = [*PROGRAMS, *(it for it in words if it not in PROGRAMS)]
+    wanted = [it for it in crates() if it.is_program and it.name in names]
+    if len(wanted) < len(names):
         print(__doc__, file=sys.stderr)
         return 2
-    wanted = [it for it in crates() if it.name in PROGRAMS]
     count = len({below.name for it in wanted for below in [it, *it.below()]})
     with tempfile.TemporaryDirectory(prefix="gate-build-") as room:
         how = {"stdout": subprocess.PIPE, "stderr": subprocess.STDOUT, "text": True, "errors": "replace"}
-        with subprocess.Popen([sys.executable, os.path.realpath(__file__), INNER, room], **how) as ran:
+        with subprocess.Popen([sys.executable, os.path.realpath(__file__), INNER, room, *names], **how) as ran:
             said = follow(ran, count)
         if ran.returncode:
             print("".join(said), end="", file=sys.stderr)
             return 1
-        keep_programs(f"{room}/repo")
+        keep_programs(f"{room}/repo", names)
     return 0
 
 
