@@ -2,5 +2,6 @@
 
 mod files;
 mod journals;
+mod longest;
 mod marks;
 mod strikes;
