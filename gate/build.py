@@ -27,7 +27,8 @@ INNER = "--prove-in"
 def keep_programs(top, names=PROGRAMS):
     """Copies the programs of a proved checkout to bin/, with the sum of its sources, and removes those of other sources."""
     os.makedirs(f"{TOP}/bin", exist_ok=True)
-    sum = subprocess.run(["bash", "-c", "source gate/sources.sh && sum_of_sources"], cwd=top, capture_output=True, text=True, check=True).stdout
+    words = ["bash", "-c", 'source "$0" && sum_of_sources', f"{TOP}/gate/sources.sh"]
+    sum = subprocess.run(words, cwd=top, capture_output=True, text=True, check=True).stdout
     if rt.rtlib.text_of(f"{TOP}/bin/sources") != sum:
         for it in [it.path for it in os.scandir(f"{TOP}/bin") if it.is_file()]:
             os.remove(it)
