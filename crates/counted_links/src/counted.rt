@@ -1,7 +1,9 @@
 //! Links, and a source of them, that are counted.
 
+ghost use Rattle.std.specs.Prelude.{◌≡◌};
+
 use crate::open_links::{OpenLinks, Place};
-use peer_links::{Link, LinkFailed, Links, Next, PIECE_BYTES, Peer, Received};
+use peer_links::{Link, Links, Next, PIECE_BYTES, Peer, Received, Sent};
 use std::alloc::AllocError;
 use std::sync::Wait;
 use std::time::Clock;
@@ -20,7 +22,7 @@ impl<L: Link + Drop> Link for CountedLink<'_, L> {
         self.link.recv(rt, piece)
     }
 
-    fn send<R: Wait + Clock>(&mut self, rt: &R, bytes: &[u8]) -> Result<(), LinkFailed> {
+    fn send<R: Wait + Clock>(&mut self, rt: &R, bytes: &[u8]) -> Sent {
         self.link.send(rt, bytes)
     }
 
@@ -41,6 +43,14 @@ impl<'a, L: Links> Links for CountedLinks<'a, L> {
 
     type Dialer = L::Dialer;
 
+    fn me(&self) -> u16 {
+        self.links.me()
+    }
+
+    fn validators(&self) -> u16 {
+        self.links.validators()
+    }
+
     fn dialer(&mut self) -> Result<L::Dialer, AllocError> {
         self.links.dialer()
     }
@@ -54,12 +64,18 @@ impl<'a, L: Links> Links for CountedLinks<'a, L> {
     }
 }
 
-/// The peer, with its link counted.
-fn counted<L: Drop>(peer: Peer<L>, open: &OpenLinks) -> Peer<CountedLink<'_, L>> {
+/// Counts the link of a peer.
+fn counted<L: Drop>(peer: Peer<L>, open: &OpenLinks) -> Peer<CountedLink<'_, L>>
+    ensures reader { result.reader.link ≡ peer.reader }
+    ensures writer { result.writer.link ≡ peer.writer }
+    ensures name { result.name ≡ peer.name }
+    ensures way { result.way ≡ peer.way }
+{
     let Peer {
         reader,
         writer,
         name,
+        way,
     } = peer;
     Peer {
         reader: CountedLink {
@@ -71,5 +87,6 @@ fn counted<L: Drop>(peer: Peer<L>, open: &OpenLinks) -> Peer<CountedLink<'_, L>>
             place: Some(Place::take(open)),
         },
         name,
+        way,
     }
 }

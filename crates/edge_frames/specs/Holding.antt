@@ -28,3 +28,11 @@ behind frame (Some first) = None
 
 abbrev pub answers : ℕ → Frame → Holding → Option Frame
 answers height frame h = if is_of height h.last then behind frame h.frame else None
+
+abbrev pub due_with : ℕ → Option Frame → Option ℕ
+due_with due None = None
+due_with due (Some frame) = Some due
+
+-- until when a frame waits, if one does
+abbrev pub due_of : Holding → Option ℕ
+due_of h = due_with h.due h.frame

@@ -1,6 +1,6 @@
 //! When a node that is behind asks for what was decided.
 
-ghost use Rattle.std.specs.Prelude.{◌≡◌, ◌+◌, ◌-◌, ◌≤◌, ◌<◌, true, false, nat_le, ◌&&◌};
+ghost use Rattle.std.specs.Prelude.{◌≡◌, ◌+◌, ◌-◌, ◌≤◌, ◌<◌, true, false, nat_le, nat_lt, ◌&&◌};
 ghost use Rattle.edge_frames.specs.Behind.{sight, with_seen, with_own};
 
 use std::marker::Model;
@@ -68,6 +68,13 @@ impl CatchUp {
     {
         self.has_asked = false;
         self.is_catching_up = self.is_catching_up && own < self.highest;
+    }
+
+    /// Returns whether a frame of a height above `own` came.
+    pub fn is_behind(&self, own: u64) -> bool
+        ensures { result ≡ nat_lt own self.now.highest }
+    {
+        own < self.highest
     }
 
     /// Whether a node in the height `own` asks now.

@@ -1,7 +1,7 @@
 //! An own proposal of no transactions, which waits.
 
 ghost use Rattle.std.specs.Prelude.{◌≡◌, ◌<◌, ◌≤◌, None};
-ghost use Rattle.edge_frames.specs.Holding.{holding, holds, answers};
+ghost use Rattle.edge_frames.specs.Holding.{holding, holds, answers, due_of};
 
 use bytes::Bytes;
 use std::marker::Model;
@@ -63,6 +63,16 @@ impl HeldProposal {
         ensures due { self.old.due ≤ now → (result ≡ self.old.frame) × (self.new ≡ record self.old { frame = None }) }
     {
         if now < self.due { None } else { self.take() }
+    }
+
+    /// Returns until when a frame waits, if one does.
+    pub fn next_due(&self) -> Option<u64>
+        ensures { result ≡ due_of self.now }
+    {
+        match self.frame {
+            Some(_) => Some(self.due),
+            None => None,
+        }
     }
 
     /// Gives the frame that waits, whenever its time is.

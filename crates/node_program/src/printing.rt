@@ -20,7 +20,13 @@ use vote_journal::Store;
 /// How long it waits for the bell at most, in milliseconds: what a full ring kept back is printed then.
 const TURN_MS: u64 = 100;
 
-/// What was printed. A line leaves by one write.
+/// The most bytes that leave by one write: as many as a pipe holds.
+const BLOCK_BYTES: usize = 64 * 1_024;
+
+/// The most bytes of a line: a place, a client with its session, a number, and 1,024 bytes in two digits each.
+const LINE_BYTES: usize = 2_112;
+
+/// What was printed. Lines that are there together leave by one write, in blocks of whole ones.
 #[derive(Drop)]
 pub(crate) struct Printout<W: Write + Drop> {
     out: BufWriter<W>,
@@ -32,7 +38,7 @@ impl<W: Write + Drop> Printout<W> {
     /// Nothing is printed yet. After `most` items nothing more is. It is refused for want of memory alone.
     pub(crate) fn new(alloc: Global, out: W, most: u64) -> io::Result<Printout<W>> {
         Ok(Printout {
-            out: BufWriter::new(alloc, out)?,
+            out: BufWriter::with_capacity(alloc, BLOCK_BYTES, out)?,
             printed: 0,
             most,
         })
@@ -43,14 +49,28 @@ impl<W: Write + Drop> Printout<W> {
         self.printed >= self.most
     }
 
-    /// Prints an item's line. A failed write is passed over.
+    /// Returns whether the block has room for a line.
+    fn has_room(&self) -> bool {
+        self.out.buffer().len() <= BLOCK_BYTES - LINE_BYTES
+    }
+
+    /// Puts an item's line into the block, which leaves first if it is full. Where that fails, the line is left out.
     fn print(&mut self, delivered: &Delivered) {
-        let _ = writeln!(self.out, "{}", ItemLine(delivered));
-        let _ = self.out.flush();
+        if !self.has_room() {
+            self.write_block();
+        }
+        if self.has_room() {
+            let _ = writeln!(self.out, "{}", ItemLine(delivered));
+        }
         self.printed = self.printed.saturating_add(1);
     }
 
-    /// Prints what waits in the ring.
+    /// Writes the block. A failed write is passed over: what is left of the block stays for the next one.
+    fn write_block(&mut self) {
+        let _ = self.out.flush();
+    }
+
+    /// Prints what waits in the ring. With the last of it the block leaves, so that a line which comes alone leaves at once.
     fn print_waiting<R: Wait>(&mut self, rt: &R, subscription: &mut Subscription) {
         for _ in rt.forever() {
             if self.is_done() {
@@ -61,6 +81,7 @@ impl<W: Write + Drop> Printout<W> {
             };
             self.print(&delivered);
         }
+        self.write_block();
     }
 }
 

@@ -7,6 +7,7 @@ ghost use Rattle.protocol.specs.State.{Node as ProtocolNode};
 ghost use Rattle.node_core.specs.Core.{Stands};
 ghost use Rattle.locked_node.specs.Locked.{count_of};
 ghost use Rattle.node_settings.specs.Lawful.{IsLawfulRun};
+ghost use Rattle.node_program.specs.Manners.{keeping_of};
 
 use crate::opening::{open_core, unopened};
 use crate::printing::{Printout, print_until_end};
@@ -20,6 +21,7 @@ use locked_node::{LockedNode, Subscription, words_for};
 use log::{Log, info};
 use node_core::{Config, NodeCore};
 use node_settings::{Failure, RunSettings};
+use peer_core::{Keeping, Manner};
 use peer_threads::{Bell, Ending, Pace, serve_at_pace};
 use status_words::{Node, Opened};
 use std::alloc::AllocError;
@@ -119,10 +121,33 @@ fn service_of<'a, R: Log + Net<Stream = TcpStream, Listener = TcpListener> + All
         status,
         pace: Pace {
             plan,
-            idle: settings.idle,
+            manner: manner_of(settings),
             stop: settings.stop,
         },
     })
+}
+
+/// How its edge behaves.
+fn manner_of(settings: &RunSettings<'_>) -> Manner
+    ensures keeping { result.keeping ≡ keeping_of settings.now.keeping }
+    ensures times { (result.idle ≡ settings.now.idle) × (result.rest ≡ settings.now.rest) × (result.redial ≡ settings.now.redial) }
+{
+    Manner {
+        keeping: keeping_of(settings.keeping),
+        idle: settings.idle,
+        rest: settings.rest,
+        redial: settings.redial,
+    }
+}
+
+/// How it keeps its links.
+fn keeping_of(keeping: node_settings::Keeping) -> Keeping
+    ensures { result ≡ keeping_of keeping }
+{
+    match keeping {
+        node_settings::Keeping::Open => Keeping::Open,
+        node_settings::Keeping::Guarded => Keeping::Guarded,
+    }
 }
 
 /// Listens where the validator is to tell how far it is, if anywhere.

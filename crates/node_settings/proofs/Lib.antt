@@ -1,4 +1,5 @@
 mod Decimals
 mod Numbers
 mod Agreeing
+mod Commands
 mod Lines

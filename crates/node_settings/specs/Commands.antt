@@ -19,24 +19,27 @@ flag name = record (new_rule name) { long = Some name; action = Some SetTrue }
 abbrev pub with_rules : App → List Rule → App
 with_rules app rules = fold with_rule app rules
 
-abbrev pub run_app : App
+unfoldable pub run_app : App
 run_app = with_rules (new_app (codes "run"))
     (option (codes "id") true ∷ option (codes "powers") true ∷ option (codes "keys") true ∷ option (codes "journal") true ∷ option (codes "peers") true
-    ∷ option (codes "start") true ∷ option (codes "delta") true ∷ option (codes "idle") false ∷ option (codes "stop") false ∷ option (codes "log") false
-    ∷ option (codes "status") false ∷ [])
+    ∷ option (codes "start") true ∷ option (codes "delta") true ∷ option (codes "idle") false ∷ option (codes "rest") false ∷ option (codes "links") false
+    ∷ option (codes "redial") false ∷ option (codes "stop") false ∷ option (codes "log") false ∷ option (codes "status") false ∷ [])
 
-abbrev pub send_app : App
+unfoldable pub send_app : App
 send_app = with_rules (new_app (codes "send"))
     (option (codes "id") true ∷ option (codes "validators") true ∷ option (codes "keys") true ∷ option (codes "to") true ∷ option (codes "number") true
     ∷ option (codes "session") false ∷ option (codes "data") false ∷ option (codes "file") false ∷ flag (codes "close") ∷ [])
 
-abbrev pub keys_app : App
+unfoldable pub keys_app : App
 keys_app = with_rules (new_app (codes "keys"))
     (option (codes "validators") true ∷ option (codes "clients") true ∷ option (codes "out") true ∷ [])
 
--- `tmnode run ..`, `tmnode send ..` and `tmnode keys ..`, with `--help` and `--version`, and no word `help`
-abbrev pub node_app : App
-node_app =
+-- the program with `--help` and `--version`, and no word `help`
+abbrev pub top_app : App
+top_app =
     let top : App = new_app (codes "tmnode") in
-    let named : App = record top { top = record top.top { has_version = true; disable_help_subcommand = true } } in
-    with_subcommand (with_subcommand (with_subcommand named run_app.top) send_app.top) keys_app.top
+    record top { top = record top.top { has_version = true; disable_help_subcommand = true } }
+
+-- `tmnode run ..`, `tmnode send ..` and `tmnode keys ..`
+abbrev pub node_app : App
+node_app = with_subcommand (with_subcommand (with_subcommand top_app run_app.top) send_app.top) keys_app.top

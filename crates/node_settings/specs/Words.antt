@@ -1,7 +1,7 @@
 -- What the words of a command line give its options.
 use Rattle.std.specs.Prelude.{◌≡◌, ℕ, ◌-◌, ◌^◌, Bool, true, false, ◌&&◌, List, [], ◌∷◌, length, map, Option, Some, None, Result, Ok, Err, nat_lt, nat_le, ◌==◌, if◌then◌else◌, codes}
 use Rattle.std.specs.List.{list_all, slice_split}
-use Rattle.std.specs.Option.{option_map_or}
+use Rattle.std.specs.Option.{option_map_or, unwrap_or}
 use Rattle.std.specs.Char.{is_ascii_digit}
 use Rattle.std.specs.Str.{bytes_eq}
 use Rattle.std.specs.Str.Parse.{digits_value}
@@ -69,6 +69,16 @@ number_of_word least most (Some word) = do
 
 unfoldable pub number_or_none : ℕ → ℕ → Text → List Row → Result (Option ℕ) SettingsFault
 number_or_none least most name rows = number_of_word least most (first_of name rows)
+
+-- the number of an option, which is another one where it is left out
+unfoldable pub number_or : ℕ → ℕ → ℕ → Text → List Row → Result ℕ SettingsFault
+number_or other least most name rows = do
+  number ← number_or_none least most name rows
+  Ok (unwrap_or number other)
+
+-- how many validators there are
+unfoldable pub validators_of : List Row → Result ℕ SettingsFault
+validators_of rows = number_given 2 128 (codes "validators") rows
 
 -- whether a flag was given
 unfoldable pub is_flagged : Text → List Row → Bool

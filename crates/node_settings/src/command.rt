@@ -2,7 +2,7 @@
 
 ghost use Rattle.std.specs.Prelude.{◌≡◌, IfOk, map};
 ghost use Rattle.clap.specs.Words.{app_of};
-ghost use Rattle.node_settings.specs.Commands.{rule_for, with_rules, run_app, send_app, keys_app, node_app};
+ghost use Rattle.node_settings.specs.Commands.{rule_for, with_rules, run_app, send_app, keys_app, top_app, node_app};
 
 use clap::{Arg, ArgAction, Command};
 use std::alloc::{AllocError, Global};
@@ -20,7 +20,7 @@ struct WordOption {
     help: &'static str,
 }
 
-static RUN: [WordOption; 11] = [
+static RUN: [WordOption; 14] = [
     WordOption {
         name: "id",
         is_required: true,
@@ -68,6 +68,24 @@ static RUN: [WordOption; 11] = [
         is_required: false,
         value: "MS",
         help: "How long a proposal of no transactions waits, at most --start; else half of it",
+    },
+    WordOption {
+        name: "rest",
+        is_required: false,
+        value: "MS",
+        help: "How long a height is held open with nothing waiting, at most a day; else 0",
+    },
+    WordOption {
+        name: "links",
+        is_required: false,
+        value: "KEEPING",
+        help: "How links are kept: open or guarded; else open",
+    },
+    WordOption {
+        name: "redial",
+        is_required: false,
+        value: "MS",
+        help: "With guarded links: when an address is dialed again, at most a day; else 1000",
     },
     WordOption {
         name: "stop",
@@ -180,6 +198,7 @@ fn with_options<'a>(
     Ok(command)
 }
 
+#[tactic(auto, unfolding(crate::specs::Commands::run_app))]
 fn run_command<'a>(alloc: Global) -> Result<Command<'a>, AllocError>
     ensures { IfOk result (λ made. app_of made ≡ run_app) }
 {
@@ -187,6 +206,7 @@ fn run_command<'a>(alloc: Global) -> Result<Command<'a>, AllocError>
     with_options(alloc, command, RUN.as_slice())
 }
 
+#[tactic(auto, unfolding(crate::specs::Commands::send_app))]
 fn send_command<'a>(alloc: Global) -> Result<Command<'a>, AllocError>
     ensures { IfOk result (λ made. app_of made ≡ send_app) }
 {
@@ -198,11 +218,24 @@ fn send_command<'a>(alloc: Global) -> Result<Command<'a>, AllocError>
     with_options(alloc, command, SEND.as_slice())?.arg(close)
 }
 
+#[tactic(auto, unfolding(crate::specs::Commands::keys_app))]
 fn keys_command<'a>(alloc: Global) -> Result<Command<'a>, AllocError>
     ensures { IfOk result (λ made. app_of made ≡ keys_app) }
 {
     let command = Command::new(alloc, "keys").about("Makes the key file of every party");
     with_options(alloc, command, KEYS.as_slice())
+}
+
+/// The command of the program itself.
+fn top_command<'a>(alloc: Global) -> Command<'a>
+    ensures { app_of result ≡ top_app }
+{
+    Command::new(alloc, "tmnode")
+        .about(
+            "Runs a validator of an atomic broadcast, sends it transactions, or makes the key files",
+        )
+        .version(VERSION)
+        .disable_help_subcommand(true)
 }
 
 /// The whole command line.
@@ -212,12 +245,7 @@ pub fn node_command<'a>(alloc: Global) -> Result<Command<'a>, AllocError>
     let run = run_command(alloc)?;
     let send = send_command(alloc)?;
     let keys = keys_command(alloc)?;
-    Command::new(alloc, "tmnode")
-        .about(
-            "Runs a validator of an atomic broadcast, sends it transactions, or makes the key files",
-        )
-        .version(VERSION)
-        .disable_help_subcommand(true)
+    top_command(alloc)
         .subcommand(run)?
         .subcommand(send)?
         .subcommand(keys)

@@ -2,7 +2,7 @@
 //! standard error and its exit status.
 //!
 //! - `tmnode run --id I --powers P,P,.. --keys FILE --journal FILE --peers ADDR,ADDR,.. --start MS --delta MS
-//!   [--idle MS] [--stop K] [--log LEVEL] [--status ADDR]`
+//!   [--idle MS] [--rest MS] [--links open|guarded] [--redial MS] [--stop K] [--log LEVEL] [--status ADDR]`
 //!   is a validator: number I of those with these powers and addresses.
 //! - `tmnode send --id C --validators N --keys FILE --to ADDR,ADDR,.. --number M [--session S]` with one of `--data HEX`,
 //!   `--close` and `--file FILE` sends transactions of one session of client C.
@@ -18,12 +18,15 @@ mod failure;
 mod invocation;
 mod lists;
 mod options;
+mod running;
+mod sending;
 mod status_line;
 
 pub use answer::Answer;
 pub use failure::{Failure, JournalTrouble, KeysTrouble};
 pub use invocation::{
-    Invocation, KeysSettings, Page, RunSettings, SendSettings, Sending, SettingsFault, line_op,
+    Invocation, Keeping, KeysSettings, Page, RunSettings, SendSettings, Sending, SettingsFault,
     settings,
 };
+pub use sending::line_op;
 pub use status_line::StatusLine;

@@ -5,10 +5,11 @@ ghost use Rattle.std.specs.Char.{is_ascii_digit};
 ghost use Rattle.std.specs.List.{list_all};
 ghost use Rattle.std.specs.Result.{result_map_both};
 ghost use Rattle.clap.specs.Words.{first_of, rows_of, found_of};
-ghost use Rattle.node_settings.specs.Words.{decimal_in, number_between, or_usage, given, number_given, number_or_none, is_flagged};
+ghost use Rattle.node_settings.specs.Words.{decimal_in, number_between, or_usage, given, number_given, number_or_none, number_or, validators_of, is_flagged};
 
 use crate::invocation::SettingsFault;
 use clap::ArgMatches;
+use protocol::MOST_VALIDATORS;
 
 /// The word that an option was given.
 pub fn word_of<'a>(found: &ArgMatches<'a>, name: &str) -> Option<&'a str>
@@ -87,6 +88,31 @@ pub fn number_or_none(
         },
         None => Ok(None),
     }
+}
+
+/// The number of an option, or another one where the option is left out.
+#[tactic(auto, unfolding(crate::specs::Words::number_or))]
+pub fn number_or(
+    found: &ArgMatches<'_>,
+    name: &str,
+    other: u64,
+    least: u64,
+    most: u64,
+) -> Result<u64, SettingsFault>
+    requires other { (least ≤ other) × (other ≤ most) }
+    ensures number { result ≡ number_or other least most name.now (rows_of (found_of found.now)) }
+    ensures within { IfOk result (λ number. (least ≤ number) × (number ≤ most)) }
+{
+    Ok(number_or_none(found, name, least, most)?.unwrap_or(other))
+}
+
+/// How many validators there are, 2 to 128.
+#[tactic(auto, unfolding(crate::specs::Words::validators_of))]
+pub fn validators_of(found: &ArgMatches<'_>) -> Result<u16, SettingsFault>
+    ensures asked { result ≡ validators_of (rows_of (found_of found.now)) }
+    ensures lawful { IfOk result (λ count. (2 ≤ count) × (count ≤ 128)) }
+{
+    Ok(number(found, "validators", 2, MOST_VALIDATORS as u64)? as u16)
 }
 
 /// Whether a flag was given: its word is then `true`.

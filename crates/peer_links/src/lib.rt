@@ -9,10 +9,12 @@ mod clock;
 mod link;
 mod memory_clock;
 mod memory_link;
+mod memory_source;
 mod wire;
 
 pub use clock::Clock;
-pub use link::{Dialed, Dialer, Link, LinkFailed, Links, Next, PIECE_BYTES, Peer, Received};
+pub use link::{Dialed, Dialer, Link, Links, Next, PIECE_BYTES, Peer, Received, Sent, Way};
 pub use memory_clock::MemoryClock;
-pub use memory_link::{MemoryDialer, MemoryLink, MemoryLinks, Step};
+pub use memory_link::{MemoryLink, Step};
+pub use memory_source::{MemoryDialer, MemoryLinks};
 pub use wire::Wire;

@@ -1,12 +1,11 @@
 //! One half of a link, and where peers come from.
 
-ghost use Rattle.std.specs.Prelude.{◌≡◌, ℕ, OnOk, OnErr};
-ghost use Rattle.peer_links.specs.Link.{IsPiece, Counts, Grew};
+ghost use Rattle.std.specs.Prelude.{◌≡◌, ℕ, length};
+ghost use Rattle.peer_links.specs.Link.{IsPiece, Counts, IsTaken, CountsSent};
 
 use std::alloc::AllocError;
 use std::sync::Wait;
 use std::time;
-use thiserror::Error;
 
 /// How many bytes a link gives at a time at most.
 pub const PIECE_BYTES: usize = 4_096;
@@ -24,13 +23,19 @@ pub enum Received {
     Failed,
 }
 
-/// A link failed as bytes were sent: a beginning of them may have left.
-#[derive(Clone, Copy, Debug, Error, PartialEq, Eq)]
-#[error("the link failed")]
-pub struct LinkFailed;
+/// What became of bytes that were to be sent.
+#[derive(Clone, Copy, Debug, PartialEq, Eq)]
+pub enum Sent {
+    /// So many bytes from their front, at least 1, were taken. The rest is to be sent by a further call.
+    Taken(usize),
+    /// None was taken: there was none, or the peer takes nothing yet. The link waited for it for a moment.
+    Idle,
+    /// The link failed, and is of no more use.
+    Failed,
+}
 
 /// One half of a link to a peer. A call waits for the peer, but no longer than for a moment where
-/// nothing comes.
+/// nothing comes or nothing is taken: how long a peer may be slow, the caller decides.
 pub trait Link {
     /// How many calls failed.
     ghost failures: { Self → ℕ };
@@ -40,23 +45,33 @@ pub trait Link {
         ensures within { IsPiece result }
         ensures cause { Counts result (failures self.old) (failures self.new) };
 
-    /// Sends all bytes, or fails.
-    fn send<R: Wait + time::Clock>(&mut self, rt: &R, bytes: &[u8]) -> Result<(), LinkFailed>
-        ensures ok { OnOk result (failures self.new ≡ failures self.old) }
-        ensures err { OnErr result (Grew (failures self.old) (failures self.new)) };
+    /// Sends as many of the bytes, from their front, as the peer takes now.
+    fn send<R: Wait + time::Clock>(&mut self, rt: &R, bytes: &[u8]) -> Sent
+        ensures within { IsTaken result (length bytes.now) }
+        ensures cause { CountsSent result (failures self.old) (failures self.new) };
 
-    /// How many calls failed, up to the greatest u64.
+    /// Returns how many calls failed, up to the greatest u64.
     fn failures(&self) -> u64
         ensures { result ≡ failures self.now };
 }
 
-/// A peer: the half of its link for the thread that reads, the half for the thread that writes, and
-/// its name for the log.
+/// How a link to a peer came about.
+#[derive(Clone, Copy, Debug, PartialEq, Eq)]
+pub enum Way {
+    /// The address of the validator with this number was dialed. Who answered there has not proved to be it.
+    Dialed(u16),
+    /// The peer dialed this node.
+    Accepted,
+}
+
+/// A peer: the half of its link for the thread that reads, the half for the thread that writes, its
+/// name for the log, and how its link came about.
 #[derive(Drop)]
 pub struct Peer<L: Drop> {
     pub reader: L,
     pub writer: L,
     pub name: String,
+    pub way: Way,
 }
 
 /// What the source of peers gave.
@@ -75,24 +90,32 @@ pub trait Links {
 
     type Dialer: Dialer + Send + Drop;
 
-    /// What dials the peers that are to be dialed. Once it was given, another one has nobody to dial.
+    /// The number of the validator that this is.
+    fn me(&self) -> u16;
+
+    /// How many validators there are, this one among them: the others are dialed.
+    fn validators(&self) -> u16;
+
+    /// Makes a dialer that dials validators for this source.
     fn dialer(&mut self) -> Result<Self::Dialer, AllocError>;
 
-    /// The next peer, of those that came and those that the dialer reached. After `None` none comes.
+    /// Returns the next peer, of those that came and those that a dialer reached. After `None` none comes.
     fn next<R: Wait + time::Clock>(&mut self, rt: &R) -> Next<Self::Link>;
 }
 
-/// What dials peers, on a thread of its own, so that it holds up nobody who comes.
+/// What dials validators, on a thread of its own, so that it holds up nobody who comes. Whom to dial, and
+/// how often, the caller decides.
 pub trait Dialer {
-    /// Dials the next peer, and waits for it, or says that none is left. Whom it reached the source gives.
-    fn dial<R: Wait + time::Clock>(&mut self, rt: &R) -> Dialed;
+    /// Dials the address of the validator with this number, and waits for it, at most a second. Whom it
+    /// reached the source gives as a peer, with `Way::Dialed` of this number.
+    fn dial<R: Wait + time::Clock>(&mut self, rt: &R, validator: u16) -> Dialed;
 }
 
-/// Whether a dialer has dialed.
+/// Whether a dial reached its peer.
 #[derive(Clone, Copy, Debug, PartialEq, Eq)]
 pub enum Dialed {
-    /// It has dialed one peer, which it reached or not.
-    One,
-    /// No peer is left to be dialed.
-    Nobody,
+    /// It did, and the source gives the peer.
+    Reached,
+    /// It did not: nobody answered within a second, no address has this number, or the number is the node's own.
+    Unreached,
 }

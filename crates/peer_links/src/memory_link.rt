@@ -1,10 +1,10 @@
 //! Links in memory, whose course is written down before.
 
-ghost use Rattle.std.specs.Prelude.{◌≡◌};
-ghost use Rattle.peer_links.specs.Link.{IsPiece, Counts, Grew};
+ghost use Rattle.std.specs.Prelude.{◌≡◌, ◌<◌, ◌-◌, length, max, min};
+ghost use Rattle.peer_links.specs.Link.{IsPiece, Counts, IsTaken, CountsSent, one_more};
 ghost use Rattle.peer_links.specs.Turn.{IsTurn};
 
-use crate::link::{Dialed, Dialer, Link, LinkFailed, Links, Next, PIECE_BYTES, Peer, Received};
+use crate::link::{Link, PIECE_BYTES, Received, Sent};
 use crate::wire::Wire;
 use std::alloc::{AllocError, Global};
 use std::collections::VecDeque;
@@ -12,7 +12,8 @@ use std::sync::{Arc, Wait};
 use std::thread;
 use std::time::{Clock, Duration};
 
-/// How long a link waits where nothing comes, in milliseconds, unless it is told another time.
+/// How long a link waits where nothing comes or nothing is taken, in milliseconds, unless it is told
+/// another time.
 const TURN_MS: u64 = 1;
 
 /// What a link in memory brings next.
@@ -26,6 +27,10 @@ pub enum Step {
         bytes: Vec<u8>,
         count: usize,
     },
+    /// Nothing for ever, as from a peer that is gone without a word, while what is sent is taken: the link is half-open.
+    Silence,
+    /// A reset: both halves of the link fail from then on.
+    Reset,
     /// The link's end.
     End,
 }
@@ -33,8 +38,9 @@ pub enum Step {
 /// One half of a link in memory.
 ///
 /// What it brings is a list of steps; behind the last one nothing comes. What is sent on it is noted on
-/// its wire. Each half fails once so many bytes went through it, if it is told to, and after so many
-/// turns in which nothing came, so that no test waits for ever.
+/// its wire. Each half fails once so many bytes went through it, if it is told to, once its wire was reset,
+/// and after so many turns in which nothing came, so that no test waits for ever. The peer takes all that
+/// is sent, unless it is told to be slow.
 #[derive(Drop)]
 pub struct MemoryLink {
     steps: VecDeque<Step>,
@@ -42,6 +48,10 @@ pub struct MemoryLink {
     given: usize,
     wire: Arc<Wire>,
     piece: usize,
+    /// How many bytes one call of `send` takes at most.
+    most_taken: usize,
+    /// How many calls of `send` still take nothing.
+    untaken_calls: u64,
     /// How many bytes go through before it fails.
     budget: usize,
     turns: u64,
@@ -50,7 +60,7 @@ pub struct MemoryLink {
 }
 
 impl MemoryLink {
-    /// A link that brings nothing. It gives pieces of at most `piece` bytes, and of one at least, and
+    /// Makes a link that brings nothing. It gives pieces of at most `piece` bytes, and of one at least, and
     /// fails after this many turns in which nothing came.
     pub fn new(alloc: Global, wire: Arc<Wire>, piece: usize, turns: u64) -> MemoryLink
         ensures { result.failures ≡ 0 }
@@ -60,6 +70,8 @@ impl MemoryLink {
             given: 0,
             wire,
             piece: piece.clamp(1, PIECE_BYTES),
+            most_taken: usize::MAX,
+            untaken_calls: 0,
             budget: usize::MAX,
             turns,
             turn_ms: TURN_MS,
@@ -67,8 +79,8 @@ impl MemoryLink {
         }
     }
 
-    /// Lets a turn behind the last step last so many milliseconds: many links that wait so leave the
-    /// processors to others.
+    /// Lets a turn in which nothing comes or nothing is taken last so many milliseconds: many links that
+    /// wait so leave the processors to others.
     pub fn set_turn(&mut self, milliseconds: u64)
         ensures { self.new.failures ≡ self.old.failures }
     {
@@ -90,13 +102,34 @@ impl MemoryLink {
         self.budget = bytes;
     }
 
+    /// Lets each call of `send` take at most so many bytes, and one at least.
+    pub fn take_at_most(&mut self, bytes: usize)
+        ensures most { self.new.most_taken ≡ max bytes 1 }
+        ensures failures { self.new.failures ≡ self.old.failures }
+    {
+        self.most_taken = bytes.max(1);
+    }
+
+    /// Lets so many calls of `send` take nothing.
+    pub fn take_nothing_for(&mut self, calls: u64)
+        ensures calls { self.new.untaken_calls ≡ calls }
+        ensures failures { self.new.failures ≡ self.old.failures }
+    {
+        self.untaken_calls = calls;
+    }
+
     fn fail(&mut self)
-        ensures { Grew self.old.failures self.new.failures }
+        ensures { self.new.failures ≡ one_more self.old.failures }
     {
         self.failures = self.failures.saturating_add(1);
     }
 
-    /// What the first step comes to, and how many bytes of it stand in the buffer.
+    /// Returns whether it fails from now on.
+    fn is_broken(&self) -> bool {
+        self.budget == 0 || self.wire.is_reset()
+    }
+
+    /// Returns what the first step comes to, and how many bytes of it are in the buffer.
     fn look<R: Wait + Clock>(&self, rt: &R, piece: &mut [u8; PIECE_BYTES]) -> Turn
         ensures { IsTurn result }
     {
@@ -108,12 +141,24 @@ impl MemoryLink {
             Some(Step::Hold { wire, bytes, count }) if wire.wait_for(rt, bytes, *count) =>
                 Turn::Over,
             Some(Step::Hold { .. }) => Turn::Waited,
+            Some(Step::Silence) => {
+                self.wait_turn(rt);
+                Turn::Silent
+            }
+            Some(Step::Reset) => {
+                self.wire.reset();
+                Turn::Over
+            }
             Some(Step::End) => Turn::Ended,
             None => {
-                thread::sleep(rt, Duration::from_millis(self.turn_ms));
+                self.wait_turn(rt);
                 Turn::Waited
             }
         }
+    }
+
+    fn wait_turn<R: Clock>(&self, rt: &R) {
+        thread::sleep(rt, Duration::from_millis(self.turn_ms));
     }
 
     /// Goes on to the next step.
@@ -137,12 +182,33 @@ impl MemoryLink {
         Received::Idle
     }
 
+    /// Counts bytes of the first step that were given.
+    fn count_given(&mut self, bytes: usize)
+        ensures { self.new.failures ≡ self.old.failures }
+    {
+        self.given = self.given.saturating_add(bytes);
+        self.count(bytes);
+    }
+
     /// Counts bytes that went through.
     fn count(&mut self, bytes: usize)
         ensures { self.new.failures ≡ self.old.failures }
     {
-        self.given = self.given.saturating_add(bytes);
         self.budget = self.budget.saturating_sub(bytes);
+    }
+
+    /// Counts down the calls that take nothing. Returns how many of so many bytes this call takes.
+    fn next_taken(&mut self, length: usize) -> usize
+        ensures none { 0 < self.old.untaken_calls → result ≡ 0 }
+        ensures some { self.old.untaken_calls ≡ 0 → result ≡ min (min length self.old.most_taken) self.old.budget }
+        ensures calls { self.new.untaken_calls ≡ self.old.untaken_calls - 1 }
+        ensures failures { self.new.failures ≡ self.old.failures }
+    {
+        if self.untaken_calls > 0 {
+            self.untaken_calls -= 1;
+            return 0;
+        }
+        length.min(self.most_taken).min(self.budget)
     }
 }
 
@@ -154,6 +220,8 @@ enum Turn {
     Over,
     /// It waits.
     Waited,
+    /// It brings nothing, however long it is waited for.
+    Silent,
     /// It is the end.
     Ended,
 }
@@ -175,13 +243,13 @@ impl Link for MemoryLink {
     ghost failures = { λ l. l.failures };
 
     fn recv<R: Wait + Clock>(&mut self, rt: &R, piece: &mut [u8; PIECE_BYTES]) -> Received {
-        if self.budget == 0 {
+        if self.is_broken() {
             self.fail();
             return Received::Failed;
         }
         match self.look(rt, piece) {
             Turn::Gave(count) => {
-                self.count(count);
+                self.count_given(count);
                 Received::Piece(count)
             }
             Turn::Over => {
@@ -189,79 +257,34 @@ impl Link for MemoryLink {
                 Received::Idle
             }
             Turn::Waited => self.wait_once(),
+            Turn::Silent => Received::Idle,
             Turn::Ended => Received::Ended,
         }
     }
 
-    fn send<R: Wait + Clock>(&mut self, rt: &R, bytes: &[u8]) -> Result<(), LinkFailed> {
-        let whole = bytes.len() <= self.budget;
-        let passed = if whole { bytes } else { &bytes[..self.budget] };
-        let noted = self.wire.note(rt, passed);
-        self.count(passed.len());
-        if !whole || noted.is_err() {
+    fn send<R: Wait + Clock>(&mut self, rt: &R, bytes: &[u8]) -> Sent {
+        if self.is_broken() {
             self.fail();
-            return Err(LinkFailed);
+            return Sent::Failed;
         }
-        Ok(())
+        let taken = self.next_taken(bytes.len());
+        if taken == 0 {
+            self.wait_turn(rt);
+            return Sent::Idle;
+        }
+        match self.wire.note(rt, &bytes[..taken]) {
+            Ok(()) => {
+                self.count(taken);
+                Sent::Taken(taken)
+            }
+            Err(_) => {
+                self.fail();
+                Sent::Failed
+            }
+        }
     }
 
     fn failures(&self) -> u64 {
         self.failures
-    }
-}
-
-/// Peers in memory, handed out one after the other.
-#[derive(Drop)]
-pub struct MemoryLinks {
-    peers: VecDeque<Peer<MemoryLink>>,
-    /// How many turns the source waits before it says that none comes any more.
-    turns: u64,
-}
-
-impl MemoryLinks {
-    /// No peers. Once all are handed out it answers `Idle` so many times, and then `None`.
-    pub fn new(alloc: Global, turns: u64) -> MemoryLinks {
-        MemoryLinks {
-            peers: VecDeque::new(alloc),
-            turns,
-        }
-    }
-
-    /// Adds a peer behind the others.
-    pub fn add(&mut self, peer: Peer<MemoryLink>) -> Result<(), AllocError> {
-        self.peers.push_back(peer)?;
-        Ok(())
-    }
-}
-
-/// Dials nobody.
-#[derive(Drop)]
-pub struct MemoryDialer;
-
-impl Dialer for MemoryDialer {
-    fn dial<R: Wait + Clock>(&mut self, _rt: &R) -> Dialed {
-        Dialed::Nobody
-    }
-}
-
-impl Links for MemoryLinks {
-    type Link = MemoryLink;
-
-    type Dialer = MemoryDialer;
-
-    fn dialer(&mut self) -> Result<MemoryDialer, AllocError> {
-        Ok(MemoryDialer)
-    }
-
-    fn next<R: Wait + Clock>(&mut self, rt: &R) -> Next<MemoryLink> {
-        if let Some(peer) = self.peers.pop_front() {
-            return Next::Peer(peer);
-        }
-        if self.turns == 0 {
-            return Next::None;
-        }
-        self.turns -= 1;
-        thread::sleep(rt, Duration::from_millis(TURN_MS));
-        Next::Idle
     }
 }

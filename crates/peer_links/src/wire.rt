@@ -1,59 +1,62 @@
 //! What was sent on a link in memory.
 
-use crate::link::LinkFailed;
 use std::alloc::{AllocError, Global};
+use std::sync::atomic::{AtomicBool, Ordering};
 use std::sync::{Condvar, Mutex, Wait};
 use std::time::{Clock, Duration};
 
 /// How long one wait lasts at most, in milliseconds.
 const TURN_MS: u64 = 1;
 
-/// The frames that were sent on one link, in order, as threads share them.
+/// The bytes that were sent on one link, in order, as threads share them, and whether the link was reset.
 #[derive(Drop)]
 pub struct Wire {
     alloc: Global,
-    frames: Mutex<Vec<Vec<u8>>>,
+    bytes: Mutex<Vec<u8>>,
     sent: Condvar,
+    reset: AtomicBool,
 }
 
 impl Wire {
-    /// A wire on which nothing was sent.
+    /// Makes a wire on which nothing was sent.
     pub fn new(alloc: Global) -> Wire {
         Wire {
             alloc,
-            frames: Mutex::new(Vec::new(alloc)),
+            bytes: Mutex::new(Vec::new(alloc)),
             sent: Condvar::new(),
+            reset: AtomicBool::new(false),
         }
     }
 
-    /// Notes the bytes of one call of `send`.
-    pub(crate) fn note<R: Wait>(&self, rt: &R, bytes: &[u8]) -> Result<(), LinkFailed> {
-        let frame = bytes.to_vec(self.alloc).map_err(|_| LinkFailed)?;
-        let mut frames = self.frames.lock(rt);
-        frames.push(frame).map_err(|_| LinkFailed)?;
+    /// Notes bytes that were taken by one call of `send`.
+    pub(crate) fn note<R: Wait>(&self, rt: &R, taken: &[u8]) -> Result<(), AllocError> {
+        let mut bytes = self.bytes.lock(rt);
+        bytes.extend_from_slice(taken)?;
         self.sent.notify_all();
         Ok(())
     }
 
-    /// How often these bytes were sent. One call may send several frames; one frame by two calls isn't counted.
+    /// Resets the link: from now on each call of the halves that are on this wire fails.
+    pub fn reset(&self) {
+        self.reset.store(true, Ordering::SeqCst);
+    }
+
+    /// Returns whether the link was reset.
+    pub(crate) fn is_reset(&self) -> bool {
+        self.reset.load(Ordering::SeqCst)
+    }
+
+    /// Counts how often these bytes were sent, by one call or by several.
     pub fn count<R: Wait>(&self, rt: &R, bytes: &[u8]) -> usize {
-        let frames = self.frames.lock(rt);
-        frames.iter().fold(0, |count: usize, sent| {
-            count.saturating_add(times(sent, bytes))
-        })
+        times(&self.bytes.lock(rt), bytes)
     }
 
-    /// Everything that was sent, as it was handed over by each call.
-    pub fn frames<R: Wait>(&self, rt: &R) -> Result<Vec<Vec<u8>>, AllocError> {
-        let frames = self.frames.lock(rt);
-        let mut copies = Vec::with_capacity(self.alloc, frames.len())?;
-        for frame in frames.iter() {
-            copies.push(frame.to_vec(self.alloc)?)?;
-        }
-        Ok(copies)
+    /// Copies everything that was sent.
+    pub fn bytes<R: Wait>(&self, rt: &R) -> Result<Vec<u8>, AllocError> {
+        self.bytes.lock(rt).to_vec(self.alloc)
     }
 
-    /// Waits for a moment, or until something is sent: whether these bytes were then sent `count`
+    /// Waits for a moment, or until something is sent. Returns whether these bytes were then sent `count`
     /// times.
     pub fn wait_for<R: Wait + Clock>(&self, rt: &R, bytes: &[u8], count: usize) -> bool {
         if self.count(rt, bytes) >= count {
@@ -64,14 +67,14 @@ impl Wire {
     }
 
     fn wait_turn<R: Wait + Clock>(&self, rt: &R) {
-        let frames = self.frames.lock(rt);
+        let bytes = self.bytes.lock(rt);
         let _ = self
             .sent
-            .wait_timeout(rt, frames, Duration::from_millis(TURN_MS));
+            .wait_timeout(rt, bytes, Duration::from_millis(TURN_MS));
     }
 }
 
-/// How often these bytes stand in what one call sent.
+/// Counts at how many places of what was sent these bytes begin.
 fn times(sent: &[u8], bytes: &[u8]) -> usize {
     (0..sent.len())
         .filter(|at| sent.get(*at..).is_some_and(|rest| rest.starts_with(bytes)))

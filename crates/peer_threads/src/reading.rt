@@ -1,6 +1,5 @@
 //! The threads that read.
 
-use crate::outlets::Queue;
 use crate::shared::Shared;
 use edge_frames::LinkId;
 use log::{Log, warn};
@@ -41,7 +40,6 @@ impl<S: Store + Drop, J: Node, C: Clock> Shared<'_, S, J, C> {
         &self,
         rt: &R,
         link: LinkId,
-        queue: Queue,
         mut half: L,
     ) {
         let mut seat = self.node.seat(rt);
@@ -50,31 +48,18 @@ impl<S: Store + Drop, J: Node, C: Clock> Shared<'_, S, J, C> {
             if self.is_over(rt, link) {
                 break;
             }
-            if let Err(over) = self.read_piece(
-                rt,
-                &mut seat,
-                &mut frames,
-                link,
-                &queue,
-                &mut half,
-            ) {
+            if let Err(over) = self.read_piece(rt, &mut seat, &mut frames, link, &mut half) {
                 warn!(rt; "link {}: closed: {over}", link.0);
                 break;
             }
             self.look(rt, &mut seat);
         }
-        self.forget(rt, link);
-    }
-
-    /// Whether all ends, or the link's other thread has closed it.
-    fn is_over<R: Wait>(&self, rt: &R, link: LinkId) -> bool {
-        self.has_ended(rt) || !self.outlets.lock(rt).is_open(link)
-    }
-
-    /// Closes the link, and forgets what it brought too early.
-    fn forget<R: Wait>(&self, rt: &R, link: LinkId) {
-        self.edge.lock(rt).forget(link);
         self.leave(rt, link);
+    }
+
+    /// Returns whether all ends, or the link is closed.
+    pub(crate) fn is_over<R: Wait>(&self, rt: &R, link: LinkId) -> bool {
+        self.has_ended(rt) || !self.desk.lock(rt).outlets.is_open(link)
     }
 
     /// Reads a piece, and hands in the frames that it makes whole.
@@ -84,17 +69,25 @@ impl<S: Store + Drop, J: Node, C: Clock> Shared<'_, S, J, C> {
         seat: &mut Seat<J>,
         frames: &mut FrameReader,
         link: LinkId,
-        queue: &Queue,
         half: &mut L,
     ) -> Result<(), Over> {
         let mut piece = [0u8; PIECE_BYTES];
         match half.recv(rt, &mut piece) {
-            Received::Piece(count) => frames.feed(&piece[..count])?,
+            Received::Piece(count) => {
+                self.hear(rt, link);
+                frames.feed(&piece[..count])?;
+            }
             Received::Idle => return Ok(()),
             Received::Ended => return Err(Over::Ended),
             Received::Failed => return Err(Over::Failed),
         }
-        self.hand_in_whole(rt, seat, frames, link, queue)
+        self.hand_in_whole(rt, seat, frames, link)
+    }
+
+    /// Notes that bytes came.
+    fn hear<R: Wait + time::Clock>(&self, rt: &R, link: LinkId) {
+        let now = self.clock.now_ms(rt);
+        self.desk.lock(rt).core.heard(link, now);
     }
 
     /// Hands in each frame that is whole.
@@ -104,13 +97,12 @@ impl<S: Store + Drop, J: Node, C: Clock> Shared<'_, S, J, C> {
         seat: &mut Seat<J>,
         frames: &mut FrameReader,
         link: LinkId,
-        queue: &Queue,
     ) -> Result<(), Over> {
         for _ in rt.forever() {
             let Some(frame) = frames.next_frame()? else {
                 break;
             };
-            self.take_in(rt, seat, link, queue, frame);
+            self.take_in(rt, seat, link, frame);
         }
         Ok(())
     }

@@ -3,13 +3,14 @@
 ghost use denote.Param.Send.{IsSend};
 
 use crate::bell::Bell;
-use crate::edge::Edge;
-use crate::outlets::{Outlets, Queue};
+use crate::desk::Desk;
+use crate::outlets::{OpenLink, Outlets, Queue};
 use crate::shared::{Ending, Shared};
-use edge_frames::{HeldProposal, LinkId};
+use edge_frames::LinkId;
 use locked_node::LockedNode;
 use log::{Log, info, warn};
-use peer_links::{Clock, Dialed, Dialer, Link, Links, Next, Peer};
+use peer_core::{Manner, OpenFault, PeerCore};
+use peer_links::{Clock, Dialed, Dialer, Link, Links, Next, Peer, Way};
 use status_words::{Node, Seat};
 use std::alloc::Global;
 use std::sync::{Mutex, Wait};
@@ -21,14 +22,12 @@ use vote_journal::Store;
 /// How long it waits for links to end, in milliseconds at a time.
 const TURN_MS: u64 = 10;
 
-/// When the timers of a node go, and when it ends.
+/// When the timers of a node go, how it keeps its links, and when it ends.
 #[derive(Drop)]
 pub struct Pace {
     /// The timeouts that wait, and how long each lasts.
     pub plan: Plan,
-    /// How long an own proposal of no transactions waits at most, in milliseconds; with 0 none waits. Nodes whose propose
-    /// timeout is no longer than this decide nothing before a transaction comes, but in later rounds.
-    pub idle: u64,
+    pub manner: Manner,
     /// After how many delivered items it ends.
     pub stop: Option<u64>,
 }
@@ -37,7 +36,7 @@ pub struct Pace {
 /// and every link has ended (`Ended`), a call of the node answered 17 or 15 (`Halted`), or there is no
 /// memory for the dialer, no thread for it or none for the time (`OutOfMemory`).
 ///
-/// The node settles first. Each peer has a thread that reads and hands in whole frames, and one that
+/// The node settles first, and each other validator is dialed once. Each peer has a thread that reads and hands in whole frames, and one that
 /// sends what its queue holds. What the node releases goes to every link, and a reply to the link that
 /// the transaction came on. At the end what was released by then is sent first. A link that ends,
 /// fails, or names a length above 1,048,576 is closed and logged, and nothing of a frame that isn't
@@ -59,14 +58,13 @@ pub fn serve<
 ) -> Ending {
     let pace = Pace {
         plan,
-        idle: 0,
+        manner: Manner::PLAIN,
         stop,
     };
     serve_at_pace(rt, alloc, node, links, clock, pace, &Bell::new())
 }
 
-/// Serves peers as [`serve`] does, and lets an own proposal of no transactions wait: until the pace's time is over, or a
-/// transaction is accepted. The bell is rung where the node has moved to another height.
+/// Serves peers as [`serve`] does, in a manner of its own. The bell is rung where the node has moved to another height.
 pub fn serve_at_pace<
     S: Store + Drop + Send,
     J: Node + Send + Sync,
@@ -83,18 +81,16 @@ pub fn serve_at_pace<
     bell: &Bell,
 ) -> Ending {
     let now = clock.now_ms(rt);
-    let Pace { plan, idle, stop } = pace;
+    let Pace { plan, manner, stop } = pace;
+    let core = PeerCore::new(alloc, links.me(), links.validators(), manner, plan, now);
+    let desk = Desk::new(core, Outlets::new(alloc));
     let shared = Shared {
         alloc,
         node,
         clock,
         bell,
         stop,
-        idle,
-        plan: Mutex::new(plan),
-        edge: Mutex::new(Edge::new(alloc, now)),
-        outlets: Mutex::new(Outlets::new(alloc)),
-        held: Mutex::new(HeldProposal::new()),
+        desk: Mutex::new(desk),
         ending: Mutex::new(None),
     };
     shared.run(rt, &mut links)
@@ -148,19 +144,33 @@ impl<'n, S: Store + Drop + Send, J: Node + Send + Sync, C: Clock + Sync> Shared<
         );
     }
 
-    /// Dials who is to be dialed, until nobody is left or all is to end.
+    /// Dials whom it is time to dial, until nobody is any more, or all is to end.
     fn run_dialer<D: Dialer + Drop, R: Wait + time::Clock>(&self, rt: &R, mut dialer: D) {
         for _ in rt.forever() {
-            if self.has_ended(rt) || dialer.dial(rt) == Dialed::Nobody {
+            if self.has_ended(rt) || !self.dial_next(rt, &mut dialer) {
                 break;
             }
         }
     }
 
+    /// Dials the next validator, or waits for a moment, and returns whether anybody is to be dialed any more.
+    fn dial_next<D: Dialer, R: Wait + time::Clock>(&self, rt: &R, dialer: &mut D) -> bool {
+        let now = self.clock.now_ms(rt);
+        let next = self.desk.lock(rt).core.next_dial(now);
+        let Some(validator) = next else {
+            self.clock.wait_ms(rt, TURN_MS);
+            return self.desk.lock(rt).core.dials_again();
+        };
+        let is_reached = dialer.dial(rt, validator) == Dialed::Reached;
+        let now = self.clock.now_ms(rt);
+        self.desk.lock(rt).core.dialed(validator, is_reached, now);
+        true
+    }
+
     /// Waits until every link has ended, or all is to end.
     fn wait_for_links<R: Wait + time::Clock>(&self, rt: &R) {
         for _ in rt.forever() {
-            if self.has_ended(rt) || self.outlets.lock(rt).is_empty() {
+            if self.has_ended(rt) || self.desk.lock(rt).outlets.is_empty() {
                 break;
             }
             self.clock.wait_ms(rt, TURN_MS);
@@ -206,16 +216,28 @@ impl<'n, S: Store + Drop + Send, J: Node + Send + Sync, C: Clock + Sync> Shared<
             reader,
             writer,
             name,
+            way,
         } = peer;
-        let opened = self.outlets.lock(rt).open();
-        match opened {
-            Ok(open) => {
-                info!(rt; "link {}: {name}", open.link.0);
-                self.start_reader(rt, scope, open.link, open.reader, reader);
-                self.start_writer(rt, scope, open.link, open.writer, writer);
+        match self.open(rt, way) {
+            Ok(OpenLink { link, queue }) => {
+                info!(rt; "link {}: {name}", link.0);
+                self.start_reader(rt, scope, link, reader);
+                self.start_writer(rt, scope, link, queue, writer);
             }
             Err(fault) => warn!(rt; "{name}: closed: {fault}"),
         }
+    }
+
+    /// Finds a place for a link.
+    fn open<R: Wait + time::Clock>(&self, rt: &R, way: Way) -> Result<OpenLink, OpenFault> {
+        let now = self.clock.now_ms(rt);
+        let mut desk = self.desk.lock(rt);
+        let opened = desk.outlets.open()?;
+        if let Err(fault) = desk.core.opened(opened.link, way, now) {
+            desk.outlets.forget(opened.link);
+            return Err(fault);
+        }
+        Ok(opened)
     }
 
     fn start_reader<
@@ -223,8 +245,8 @@ impl<'n, S: Store + Drop + Send, J: Node + Send + Sync, C: Clock + Sync> Shared<
         E,
         L: Link + Send + Drop + 's,
         R: Threads + Wait + time::Clock + Log + Sync + 's,
-    >(&'s self, rt: &'s R, scope: &Scope<'s, E>, link: LinkId, queue: Queue, half: L) {
-        let started = scope.spawn(move || self.read_link(rt, link, queue, half));
+    >(&'s self, rt: &'s R, scope: &Scope<'s, E>, link: LinkId, half: L) {
+        let started = scope.spawn(move || self.read_link(rt, link, half));
         if started.is_err() {
             warn!(rt; "link {}: closed: no thread can be started", link.0);
             self.leave(rt, link);

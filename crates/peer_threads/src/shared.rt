@@ -1,9 +1,7 @@
 //! What the threads share.
 
 use crate::bell::Bell;
-use crate::edge::Edge;
-use crate::outlets::Outlets;
-use edge_frames::HeldProposal;
+use crate::desk::Desk;
 use locked_node::LockedNode;
 use log::Log;
 use peer_links::Clock;
@@ -11,7 +9,6 @@ use status_words::{Node, Seat};
 use std::alloc::Global;
 use std::sync::{Mutex, Wait};
 use std::time;
-use timeouts::Plan;
 use vote_journal::Store;
 
 /// Why the threads ended.
@@ -37,12 +34,7 @@ pub(crate) struct Shared<'a, S: Store + Drop, J: Node, C: Clock> {
     pub(crate) bell: &'a Bell,
     /// How many delivered items are enough.
     pub(crate) stop: Option<u64>,
-    /// How long an own proposal of no transactions waits at most, in milliseconds.
-    pub(crate) idle: u64,
-    pub(crate) plan: Mutex<Plan>,
-    pub(crate) edge: Mutex<Edge>,
-    pub(crate) outlets: Mutex<Outlets>,
-    pub(crate) held: Mutex<HeldProposal>,
+    pub(crate) desk: Mutex<Desk>,
     pub(crate) ending: Mutex<Option<Ending>>,
 }
 
@@ -55,9 +47,12 @@ impl<S: Store + Drop, J: Node, C: Clock> Shared<'_, S, J, C> {
     /// Lets all end, by the first cause that comes. What the node released by then is queued, and
     /// nothing behind it.
     pub(crate) fn end<R: Wait + time::Clock + Log>(&self, rt: &R, ending: Ending) {
-        self.release(rt);
+        let now = self.clock.now_ms(rt);
+        let mut desk = self.desk.lock(rt);
+        let released = self.node.take_released(rt);
+        desk.release(rt, released, now);
         self.note_ending(rt, ending);
-        self.outlets.lock(rt).close_all(rt);
+        desk.outlets.close_all(rt);
     }
 
     fn note_ending<R: Wait>(&self, rt: &R, ending: Ending) {

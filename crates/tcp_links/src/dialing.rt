@@ -1,8 +1,13 @@
 //! The peers that a node dials.
 
-use log::{Log, warn};
-use peer_links::{Dialed, Dialer};
-use std::alloc::{AllocFailed, Global};
+ghost use Rattle.std.specs.Prelude.{◌≡◌, IfOk};
+
+use crate::addresses::Addresses;
+use crate::last_dials::LastDials;
+use crate::tcp_link::{TcpLink, peer_of};
+use log::{Log, debug, warn};
+use peer_links::{Dialed, Dialer, Peer, Way};
+use std::alloc::{AllocError, AllocFailed, Global};
 use std::collections::VecDeque;
 use std::io;
 use std::io::ErrorKind;
@@ -13,68 +18,94 @@ use std::time::{Clock, Duration};
 /// How long a dial waits for its peer, in milliseconds.
 const DIAL_MS: u64 = 1_000;
 
-/// A connection to a peer that was dialed.
-#[derive(Drop)]
-pub(crate) struct Reached<'a> {
-    pub(crate) address: &'a str,
-    pub(crate) stream: TcpStream,
-}
-
 /// The peers that were reached and not yet taken, in order, as the thread that dials shares them with the
 /// one that takes them.
 #[derive(Drop)]
-pub(crate) struct ReachedPeers<'a> {
-    peers: Mutex<VecDeque<Reached<'a>>>,
+pub(crate) struct ReachedPeers {
+    peers: Mutex<VecDeque<Peer<TcpLink>>>,
 }
 
-impl<'a> ReachedPeers<'a> {
-    pub(crate) fn new(alloc: Global) -> ReachedPeers<'a> {
+impl ReachedPeers {
+    pub(crate) fn new(alloc: Global) -> ReachedPeers {
         ReachedPeers {
             peers: Mutex::new(VecDeque::new(alloc)),
         }
     }
 
-    fn add<R: Wait>(&self, rt: &R, peer: Reached<'a>) -> Result<(), AllocFailed<Reached<'a>>> {
+    fn add<R: Wait>(&self, rt: &R, peer: Peer<TcpLink>) -> Result<(), AllocFailed<Peer<TcpLink>>> {
         self.peers.lock(rt).push_back(peer)
     }
 
-    /// The one that was reached first, if any is left.
-    pub(crate) fn take<R: Wait>(&self, rt: &R) -> Option<Reached<'a>> {
+    /// Takes the one that was reached first, if any is left.
+    pub(crate) fn take<R: Wait>(&self, rt: &R) -> Option<Peer<TcpLink>> {
         self.peers.lock(rt).pop_front()
     }
 }
 
-/// Dials addresses, each once, one after the other. What fails is logged, and is not tried again.
+/// Dials addresses when it is told to. A dial that fails is logged, as a warning if the dial of that address
+/// before it did not fail, and else to debug.
+///
+/// A host's name is looked up first, and of its addresses the first one is dialed.
 #[derive(Drop)]
 pub struct TcpDialer<'a, N> {
-    pub(crate) net: &'a N,
-    /// The addresses that are still to be dialed.
-    pub(crate) others: VecDeque<&'a str>,
-    pub(crate) reached: Arc<ReachedPeers<'a>>,
+    alloc: Global,
+    net: &'a N,
+    addresses: Addresses<'a>,
+    last_dials: LastDials,
+    reached: Arc<ReachedPeers>,
 }
 
-impl<'a, N: Log + Net<Stream = TcpStream>> TcpDialer<'a, N> {
-    /// Connects to an address, and hands the connection over.
-    fn reach<R: Wait>(&self, rt: &R, address: &'a str) -> io::Result<()> {
+impl<'a, N> TcpDialer<'a, N> {
+    /// Makes a dialer that has dialed none of these addresses.
+    pub(crate) fn new(
+        alloc: Global,
+        net: &'a N,
+        addresses: &Addresses<'a>,
+        reached: &Arc<ReachedPeers>,
+    ) -> Result<TcpDialer<'a, N>, AllocError>
+        ensures all { IfOk result (λ dialer. dialer.addresses.all.items ≡ addresses.now.all.items) }
+        ensures me { IfOk result (λ dialer. dialer.addresses.me ≡ addresses.now.me) }
+    {
+        Ok(TcpDialer {
+            alloc,
+            net,
+            addresses: Addresses::new(alloc, &addresses.all, addresses.me)?,
+            last_dials: LastDials::new(alloc, addresses.all.len())?,
+            reached: Arc::try_clone(reached)?,
+        })
+    }
+}
+
+impl<N: Net<Stream = TcpStream>> TcpDialer<'_, N> {
+    /// Connects to a validator's address, and hands the peer over.
+    fn reach<R: Wait>(&self, rt: &R, validator: u16, address: &str) -> io::Result<()> {
         let stream = connect(self.net, address)?;
-        self.reached.add(rt, Reached { address, stream })?;
+        let peer = peer_of(self.alloc, stream, &address, Way::Dialed(validator))?;
+        self.reached.add(rt, peer)?;
         Ok(())
     }
 }
 
 impl<N: Log + Net<Stream = TcpStream>> Dialer for TcpDialer<'_, N> {
-    fn dial<R: Wait + Clock>(&mut self, rt: &R) -> Dialed {
-        let Some(address) = self.others.pop_front() else {
-            return Dialed::Nobody;
+    fn dial<R: Wait + Clock>(&mut self, rt: &R, validator: u16) -> Dialed {
+        let Some(address) = self.addresses.other(validator) else {
+            return Dialed::Unreached;
         };
-        if let Err(error) = self.reach(rt, address) {
+        let outcome = self.reach(rt, validator, address);
+        let failed_before = self.last_dials.note(validator, outcome.is_err());
+        let Err(error) = outcome else {
+            return Dialed::Reached;
+        };
+        if failed_before {
+            debug!(self.net; "{address}: still cannot be reached: {error}");
+        } else {
             warn!(self.net; "{address}: cannot be reached: {error}");
         }
-        Dialed::One
+        Dialed::Unreached
     }
 }
 
-/// A connection to the first of the socket addresses that an address stands for.
+/// Connects to the first of the socket addresses that an address represents.
 fn connect<N: Net<Stream = TcpStream>>(net: &N, address: &str) -> io::Result<TcpStream> {
     match address.to_socket_addrs(net)?.next() {
         Some(address) => TcpStream::connect_timeout(net, &address, Duration::from_millis(DIAL_MS)),

@@ -1,12 +1,14 @@
 //! Links to peers over TCP, and the time by the host's clock.
 //!
-//! A node listens on its own address and takes what dials it, while its dialer dials each other address
-//! once. No call but the dialer's waits longer than for a moment where nothing comes, so that who reads can
-//! look whether it is to end.
+//! A node listens on its own address and takes what dials it, while its dialer dials the others' addresses
+//! when it is told to. No call but the dialer's waits longer than for a moment where nothing comes or nothing
+//! is taken, so that who reads or writes can look whether it is to end.
 #![tactic(auto)]
 
+mod addresses;
 mod dialing;
 mod host_clock;
+mod last_dials;
 mod source;
 mod tcp_link;
 

@@ -1,9 +1,11 @@
 //! One half of a connection.
 
 ghost use Rattle.std.specs.Prelude.{◌≡◌};
-ghost use Rattle.peer_links.specs.Link.{Grew};
+ghost use Rattle.peer_links.specs.Link.{one_more};
 
-use peer_links::{Link, LinkFailed, PIECE_BYTES, Received};
+use peer_links::{Link, PIECE_BYTES, Peer, Received, Sent, Way};
+use std::alloc::Global;
+use std::fmt::Display;
 use std::io;
 use std::io::{ErrorKind, Read, Write};
 use std::net::{Shutdown, TcpStream};
@@ -11,10 +13,10 @@ use std::sync::Wait;
 use std::time::{Clock, Duration};
 
 /// How long a read waits where nothing comes, in milliseconds.
-const READ_MS: u64 = 20;
+const READ_MS: u64 = 200;
 
-/// How long a write waits for a peer that takes nothing, in milliseconds.
-const WRITE_MS: u64 = 2_000;
+/// How long a write waits where nothing is taken, in milliseconds.
+const WRITE_MS: u64 = 200;
 
 /// One half of a connection, whose other half stands on the same socket.
 ///
@@ -27,7 +29,7 @@ pub struct TcpLink {
 }
 
 impl TcpLink {
-    /// The half that reads and the half that writes. Small frames leave at once.
+    /// Makes the half that reads and the half that writes. Small frames leave at once.
     pub fn halves(stream: TcpStream) -> io::Result<(TcpLink, TcpLink)> {
         stream.set_nodelay(true)?;
         stream.set_read_timeout(Some(Duration::from_millis(READ_MS)))?;
@@ -49,13 +51,30 @@ impl TcpLink {
 
     /// Counts a failure.
     fn fail(&mut self)
-        ensures { Grew self.old.failures self.new.failures }
+        ensures { self.new.failures ≡ one_more self.old.failures }
     {
         self.failures = self.failures.saturating_add(1);
     }
 }
 
-/// Whether a read only had nothing to give.
+/// Makes a peer of a connection, under the name of its address.
+pub(crate) fn peer_of<A: Display>(
+    alloc: Global,
+    stream: TcpStream,
+    address: &A,
+    way: Way,
+) -> io::Result<Peer<TcpLink>> {
+    let (reader, writer) = TcpLink::halves(stream)?;
+    let name = format!(in alloc; "{address}")?;
+    Ok(Peer {
+        reader,
+        writer,
+        name,
+        way,
+    })
+}
+
+/// Returns whether a read only had nothing to give, or a write nothing to take it.
 fn is_idle(error: &io::Error) -> bool {
     matches!(
         error.kind(),
@@ -78,12 +97,14 @@ impl Link for TcpLink {
         }
     }
 
-    fn send<R: Wait + Clock>(&mut self, _rt: &R, bytes: &[u8]) -> Result<(), LinkFailed> {
-        match self.stream.write_all(bytes) {
-            Ok(()) => Ok(()),
+    fn send<R: Wait + Clock>(&mut self, _rt: &R, bytes: &[u8]) -> Sent {
+        match self.stream.write(bytes) {
+            Ok(0) => Sent::Idle,
+            Ok(count) => Sent::Taken(count),
+            Err(error) if is_idle(&error) => Sent::Idle,
             Err(_) => {
                 self.fail();
-                Err(LinkFailed)
+                Sent::Failed
             }
         }
     }

@@ -27,7 +27,7 @@ fn held(alloc: Global, wire: &Arc<Wire>, frame: &[u8]) -> Result<Step, Fail> {
 
 /// Two links, of which the first one's first piece is held until the second one's transaction was answered.
 fn one_waits(alloc: Global) -> Result<Peers, Fail> {
-    let mut peers = Peers::new(alloc);
+    let mut peers = Peers::new(alloc)?;
     let first = peers.wire()?;
     let second = peers.wire()?;
     let hold = held(alloc, &second, &ACCEPTED)?;
@@ -51,7 +51,7 @@ fn a_link_that_waits_delays_no_other(rt: HostRuntime) -> Result<(), Fail> {
 
 /// A client that closes, goes on in its next session, says that again, and leaves a session out.
 fn two_sessions(alloc: Global) -> Result<Peers, Fail> {
-    let mut peers = Peers::new(alloc);
+    let mut peers = Peers::new(alloc)?;
     let wire = peers.wire()?;
     peers.add_steps(
         wire,
@@ -94,7 +94,7 @@ fn clients_and_validator<R: Abort>(
     clients: u8,
     piece: usize,
 ) -> Result<Peers, Fail> {
-    let mut peers = Peers::new(alloc);
+    let mut peers = Peers::new(alloc)?;
     let last = peers.wire()?;
     let mut validator = peers.half(&last, piece)?;
     for client in 0..clients {

@@ -22,7 +22,7 @@ fn held(alloc: Global, wire: &Arc<Wire>, frame: &[u8], count: usize) -> Result<S
 
 /// The frames of heights 1 and 0, in this order.
 fn early<R: Abort>(rt: &R, alloc: Global) -> Result<Peers, Fail> {
-    let mut peers = Peers::new(alloc);
+    let mut peers = Peers::new(alloc)?;
     let wire = peers.wire()?;
     peers.add_steps(
         wire,
@@ -60,7 +60,7 @@ const BEHIND: u8 = 100;
 
 /// An ask of a later height, and then a bundle for each ask of the node.
 fn ahead<R: Abort>(rt: &R, alloc: Global) -> Result<Peers, Fail> {
-    let mut peers = Peers::new(alloc);
+    let mut peers = Peers::new(alloc)?;
     let wire = peers.wire()?;
     let mut half = peers.half(&wire, 4_096)?;
     half.add(Step::Bytes(ask(rt, alloc, BEHIND)?))?;
@@ -88,7 +88,7 @@ fn who_is_behind_catches_up_without_the_timer(rt: HostRuntime) -> Result<(), Fai
 
 /// Validator 0's prevote on one link, and another link that waits until it comes.
 fn one_prevote<R: Abort>(rt: &R, alloc: Global) -> Result<Peers, Fail> {
-    let mut peers = Peers::new(alloc);
+    let mut peers = Peers::new(alloc)?;
     let first = peers.wire()?;
     let second = peers.wire()?;
     let prevote = vote(rt, alloc, VoteStep::Prevote, 0, 0)?;
@@ -115,7 +115,7 @@ fn a_vote_that_reached_one_alone_is_passed_on(rt: HostRuntime) -> Result<(), Fai
 
 /// A link that waits until the node prevotes nil, says it again, and asks.
 fn silent<R: Abort>(rt: &R, alloc: Global) -> Result<Peers, Fail> {
-    let mut peers = Peers::new(alloc);
+    let mut peers = Peers::new(alloc)?;
     let wire = peers.wire()?;
     let again = held(alloc, &wire, &own_nil(rt, alloc)?, 2)?;
     let asked = held(alloc, &wire, &own_ask(rt, alloc, 0)?, 1)?;

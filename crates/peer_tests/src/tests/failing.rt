@@ -21,7 +21,7 @@ const NOTHING: Status = Status {
 
 /// One link, which fails once so many bytes of these came.
 fn broken(alloc: Global, bytes: Vec<u8>, after: usize) -> Result<Peers, Fail> {
-    let mut peers = Peers::new(alloc);
+    let mut peers = Peers::new(alloc)?;
     let wire = peers.wire()?;
     let mut half = peers.half(&wire, 4_096)?;
     half.add(Step::Bytes(bytes))?;
@@ -61,7 +61,7 @@ fn a_frame_that_is_cut_leaves_nothing(rt: HostRuntime) -> Result<(), Fail> {
 
 /// A transaction, a frame of no kind, a length above the limit, and a transaction behind it, byte by byte.
 fn too_long(alloc: Global) -> Result<Peers, Fail> {
-    let mut peers = Peers::new(alloc);
+    let mut peers = Peers::new(alloc)?;
     let wire = peers.wire()?;
     let mut half = peers.half(&wire, 1)?;
     half.add(Step::Bytes(transaction(alloc, 0, 1)?))?;
@@ -84,7 +84,7 @@ fn a_length_above_the_limit_ends_the_link(rt: HostRuntime) -> Result<(), Fail> {
 #[test]
 fn a_store_that_fails_halts(rt: HostRuntime) -> Result<(), Fail> {
     let alloc = rt.alloc();
-    let mut peers = Peers::new(alloc);
+    let mut peers = Peers::new(alloc)?;
     let wire = peers.wire()?;
     peers.add_steps(wire, [Step::Bytes(proposal(&rt, alloc, 0)?)])?;
     let course = Course {
@@ -110,7 +110,7 @@ fn add_lasting(alloc: Global, peers: &mut Peers) -> Result<(), Fail> {
 
 /// One link more than may be open.
 fn crowd(alloc: Global) -> Result<Peers, Fail> {
-    let mut peers = Peers::new(alloc);
+    let mut peers = Peers::new(alloc)?;
     for _ in 0..=MOST_OPEN_LINKS {
         add_lasting(alloc, &mut peers)?;
     }
@@ -128,12 +128,13 @@ fn answered<R: Wait>(rt: &R, told: &Told) -> usize {
     links
 }
 
+/// Of clients that were answered some make room for the last ones.
 #[test]
-fn a_link_too_many_is_closed(rt: HostRuntime) -> Result<(), Fail> {
+fn a_crowd_is_answered(rt: HostRuntime) -> Result<(), Fail> {
     let alloc = rt.alloc();
     let told = run(&rt, alloc, crowd(alloc)?, STILL)?;
     assert_eq!(rt; told.ending, Ending::Ended);
     assert_eq!(rt; told.wires.len(), MOST_OPEN_LINKS + 1);
-    assert_eq!(rt; answered(&rt, &told), MOST_OPEN_LINKS);
+    assert!(rt; answered(&rt, &told) >= MOST_OPEN_LINKS);
     Ok(())
 }

@@ -11,7 +11,7 @@ use super::core_of;
 use locked_node::{LockedNode, words_for};
 use log::Log;
 use node_core::NodeCore;
-use peer_links::{MemoryClock, MemoryLink, MemoryLinks, Peer, Step, Wire};
+use peer_links::{MemoryClock, MemoryLink, MemoryLinks, Peer, Step, Way, Wire};
 use peer_threads::{Ending, serve};
 use status_words::{Node, Opened, Status};
 use std::alloc::Global;
@@ -36,12 +36,12 @@ pub(super) struct Peers {
 }
 
 impl Peers {
-    pub(super) fn new(alloc: Global) -> Peers {
-        Peers {
+    pub(super) fn new(alloc: Global) -> Result<Peers, Fail> {
+        Ok(Peers {
             alloc,
-            links: MemoryLinks::new(alloc, 0),
+            links: MemoryLinks::new(alloc, 0)?.among(3, 4),
             wires: Vec::new(alloc),
-        }
+        })
     }
 
     /// A new link's wire.
@@ -74,6 +74,7 @@ impl Peers {
             reader,
             writer,
             name,
+            way: Way::Accepted,
         })?;
         Ok(())
     }

@@ -31,8 +31,17 @@ fn shown_run(alloc: Global, run: &RunSettings<'_>) -> Result<String, AllocError>
         text = format!(in alloc; "{text} {peer}")?;
     }
     text = format!(in alloc;
-        "{text}, {} {}, {} {} {} {:?} {}",
-        run.keys, run.journal, run.start, run.delta, run.idle, run.stop, run.level
+        "{text}, {} {}, {} {} {} {}, {:?} {}, {:?} {}",
+        run.keys,
+        run.journal,
+        run.start,
+        run.delta,
+        run.idle,
+        run.rest,
+        run.keeping,
+        run.redial,
+        run.stop,
+        run.level
     )?;
     match run.status {
         Some(address) => format!(in alloc; "{text} {address}"),
@@ -89,25 +98,51 @@ fn run_lines(rt: HostRuntime) -> Result<(), Fail> {
         &rt,
         alloc,
         "tmnode run --id 1 --powers 5,3 --keys k --journal j --peers a:1,b:2 --start 0 --delta 86400000 --stop 1",
-        "1 of 2, power 8 a:1 b:2, k j, 0 86400000 0 Some(1) INFO",
+        "1 of 2, power 8 a:1 b:2, k j, 0 86400000 0 0, Open 1000, Some(1) INFO",
     )?;
     assert_asked(
         &rt,
         alloc,
         "tmnode run --delta 2 --start=00200 --peers a,b,c --journal=j --keys k --powers 1,1,1 --id 0",
-        "0 of 3, power 3 a b c, k j, 200 2 100 None INFO",
+        "0 of 3, power 3 a b c, k j, 200 2 100 0, Open 1000, None INFO",
     )?;
     assert_asked(
         &rt,
         alloc,
         "tmnode run --id 0 --powers 1,1 --keys k --journal j --peers a,b --start 9 --delta 2 --idle 9",
-        "0 of 2, power 2 a b, k j, 9 2 9 None INFO",
+        "0 of 2, power 2 a b, k j, 9 2 9 0, Open 1000, None INFO",
     )?;
     assert_asked(
         &rt,
         alloc,
         "tmnode run --status s:1 --id 0 --powers 1,1 --keys k --journal j --peers a,b --start 2 --delta 2 --log wArn",
-        "0 of 2, power 2 a b, k j, 2 2 1 None WARN s:1",
+        "0 of 2, power 2 a b, k j, 2 2 1 0, Open 1000, None WARN s:1",
+    )
+}
+
+#[test]
+fn links_of_run_lines(rt: HostRuntime) -> Result<(), Fail> {
+    let alloc = rt.alloc();
+    for (words, shown) in [
+        ("--links open --redial 1", "0, Open 1"),
+        ("--links=guarded --rest 0", "0, Guarded 1000"),
+        (
+            "--redial 86400000 --rest 86400000 --links guarded",
+            "86400000, Guarded 86400000",
+        ),
+    ] {
+        let line = format!(in alloc;
+            "tmnode run --id 0 --powers 1,1 --keys k --journal j --peers a,b --start 2 --delta 2 {words}"
+        )?;
+        let wanted = format!(in alloc; "0 of 2, power 2 a b, k j, 2 2 1 {shown}, None INFO")?;
+        assert_asked(&rt, alloc, line.as_str(), wanted.as_str())?;
+    }
+    assert_usage(
+        &rt,
+        alloc,
+        "tmnode run --id 0 --powers 1,1 --keys k --journal j --peers a,b --start 2 --delta 2 ",
+        "--links closed\n--links Open\n--links \n--links\n--links open --links open\n--redial 0\n--redial 86400001\n\
+--redial\n--redial 1s\n--rest 86400001\n--rest -1\n--rest\n--rest 1 --rest 1",
     )
 }
 
@@ -125,7 +160,9 @@ fn levels_of_run_lines(rt: HostRuntime) -> Result<(), Fail> {
         let line = format!(in alloc;
             "tmnode run --id 0 --powers 1,1 --keys k --journal j --peers a,b --start 2 --delta 2 --log {word}"
         )?;
-        let wanted = format!(in alloc; "0 of 2, power 2 a b, k j, 2 2 1 None {level}")?;
+        let wanted = format!(in alloc;
+            "0 of 2, power 2 a b, k j, 2 2 1 0, Open 1000, None {level}"
+        )?;
         assert_asked(&rt, alloc, line.as_str(), wanted.as_str())?;
     }
     Ok(())
@@ -318,6 +355,9 @@ fn pages(rt: HostRuntime) -> Result<(), Fail> {
     let page = asked(alloc, "tmnode run --help")?;
     assert!(rt;
         page.contains("--id <I>")
+            && page.contains("--rest <MS>")
+            && page.contains("--links <KEEPING>")
+            && page.contains("--redial <MS>")
             && page.contains("--stop <K>")
             && page.contains("--log <LEVEL>")
             && page.contains("--status <ADDR>"),

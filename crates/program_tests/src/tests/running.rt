@@ -3,7 +3,10 @@
 use counted_links::{CountedLink, CountedLinks, OpenLinks};
 use leveled_runtime::Leveled;
 use log::{Level, LevelFilter, Log, Metadata};
-use peer_links::{Link, Links, MemoryLink, MemoryLinks, Next, PIECE_BYTES, Peer, Received, Wire};
+use peer_links::{
+    Dialed, Dialer, Link, Links, MemoryLink, MemoryLinks, Next, PIECE_BYTES, Peer, Received, Sent,
+    Way, Wire,
+};
 use std::alloc::Global;
 use std::process::Abort;
 use std::sync::{Arc, Wait};
@@ -16,6 +19,7 @@ fn peer_on(alloc: Global, wire: &Arc<Wire>) -> Result<Peer<MemoryLink>, Fail> {
         reader: MemoryLink::new(alloc, Arc::try_clone(wire)?, 1, 1),
         writer: MemoryLink::new(alloc, Arc::try_clone(wire)?, 1, 1),
         name: format!(in alloc; "memory")?,
+        way: Way::Accepted,
     })
 }
 
@@ -37,7 +41,7 @@ fn assert_same<R: Wait + Clock + Abort>(
     wire: &Wire,
 ) {
     let mut piece = [0; PIECE_BYTES];
-    assert!(rt; peer.writer.send(rt, b"ab").is_ok());
+    assert!(rt; peer.writer.send(rt, b"ab") == Sent::Taken(2));
     assert_eq!(rt; wire.count(rt, b"ab"), 1);
     assert!(rt; peer.reader.recv(rt, &mut piece) == Received::Idle);
     assert!(rt; peer.reader.recv(rt, &mut piece) == Received::Failed);
@@ -49,18 +53,21 @@ fn assert_same<R: Wait + Clock + Abort>(
 fn open_links_are_counted(rt: HostRuntime) -> Result<(), Fail> {
     let alloc = rt.alloc();
     let wire = Arc::new(alloc, Wire::new(alloc))?;
-    let mut inside = MemoryLinks::new(alloc, 0);
-    inside.add(peer_on(alloc, &wire)?)?;
+    let mut inside = MemoryLinks::new(alloc, 0)?;
+    inside.add_reached(7, peer_on(alloc, &wire)?)?;
     inside.add(peer_on(alloc, &wire)?)?;
     let open = OpenLinks::new();
     let mut links = CountedLinks {
         links: inside,
         open: &open,
     };
+    assert_eq!(rt; links.dialer()?.dial(&rt, 7), Dialed::Reached);
     assert_eq!(rt; open.count(), 0);
     let mut first = next_of(&rt, &mut links)?;
+    assert_eq!(rt; first.way, Way::Dialed(7));
     assert_eq!(rt; open.count(), 1);
     let second = next_of(&rt, &mut links)?;
+    assert_eq!(rt; second.way, Way::Accepted);
     assert_eq!(rt; open.count(), 2);
     assert!(rt; matches!(links.next(&rt), Next::None));
     assert_same(&rt, &mut first, &wire);
@@ -68,6 +75,7 @@ fn open_links_are_counted(rt: HostRuntime) -> Result<(), Fail> {
         reader,
         writer,
         name: _,
+        way: _,
     } = first;
     drop(reader);
     assert_eq!(rt; open.count(), 2);

@@ -1,0 +1,9 @@
+pub mod Heading
+pub mod Answers
+pub mod Idle
+pub mod Quiet
+pub mod Resting
+pub mod Budgets
+pub mod Sendings
+pub mod Duties
+pub mod Choosing

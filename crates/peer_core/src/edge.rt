@@ -1,0 +1,196 @@
+//! A validator's edge, and how links come and go.
+
+ghost use Rattle.std.specs.Prelude.{◌≡◌, true, false, nat_lt, OnOk};
+ghost use Rattle.peer_core.specs.Resting.{is_held};
+ghost use Rattle.peer_core.specs.Duties.{with_timeout};
+
+use crate::agenda::Agenda;
+use crate::budget::Budget;
+use crate::duty::OpenFault;
+use crate::holding::HeldFrames;
+use crate::links::PeerLinks;
+use crate::manner::{Keeping, Manner};
+use crate::outbox::Outbox;
+use crate::own::OwnFrames;
+use crate::redial::Redial;
+use crate::rest::Rest;
+use edge_frames::{CatchUp, EarlyFrames, HeightFrames, LinkId};
+use peer_links::Way;
+use protocol::Timeout;
+use std::alloc::Global;
+use timeouts::{Plan, PlanFault};
+
+/// How long a node that is one height behind waits before it asks, in milliseconds.
+const MOMENT_MS: u64 = 100;
+
+/// What is around a validator's node, as a value: it has no threads, sockets or clock, and who runs it says what came and what
+/// time it is, and does what it says. Times are milliseconds since a moment that the caller chose.
+#[derive(Drop)]
+pub struct PeerCore {
+    pub(crate) alloc: Global,
+    /// How long an own proposal of no transactions waits at most.
+    pub(crate) idle: u64,
+    pub(crate) links: PeerLinks,
+    pub(crate) redial: Redial,
+    pub(crate) early: EarlyFrames,
+    /// The frames of others of the height, to be passed on.
+    pub(crate) taken: HeightFrames,
+    /// The place of the one that is passed on next.
+    pub(crate) turn: usize,
+    /// The link that others' frames were passed on to last, and the one that was asked last.
+    pub(crate) passed_to: Option<LinkId>,
+    pub(crate) asked_at: Option<LinkId>,
+    pub(crate) own: OwnFrames,
+    pub(crate) held: HeldFrames,
+    pub(crate) catch_up: CatchUp,
+    pub(crate) plan: Plan,
+    /// A timeout whose rule was refused memory, where there is none to schedule it again.
+    pub(crate) unfired: Option<Timeout>,
+    pub(crate) rest: Rest,
+    pub(crate) budget: Budget,
+    pub(crate) agenda: Agenda,
+    pub(crate) outbox: Outbox,
+    /// The highest height that a call of the node told, and when it came.
+    pub(crate) height: u64,
+    pub(crate) since: u64,
+    /// The highest height that `told` was told.
+    pub(crate) told: u64,
+}
+
+impl PeerCore {
+    /// The edge of validator `me` of `count`: no link is open, and the node is in height 0. It takes no memory.
+    pub fn new(
+        alloc: Global,
+        me: u16,
+        count: u16,
+        manner: Manner,
+        plan: Plan,
+        now: u64,
+    ) -> PeerCore {
+        PeerCore {
+            alloc,
+            idle: manner.idle,
+            links: PeerLinks::new(alloc, me, count, manner.keeping),
+            redial: Redial::new(me, count, manner),
+            early: EarlyFrames::new(alloc),
+            taken: HeightFrames::new(alloc),
+            turn: 0,
+            passed_to: None,
+            asked_at: None,
+            own: OwnFrames::new(alloc),
+            held: HeldFrames::new(alloc),
+            catch_up: CatchUp::new(MOMENT_MS),
+            plan,
+            unfired: None,
+            rest: Rest::new(manner.rest, count),
+            budget: Budget::new(count),
+            agenda: Agenda::new(now, manner.keeping == Keeping::Guarded),
+            outbox: Outbox::new(alloc),
+            height: 0,
+            since: now,
+            told: 0,
+        }
+    }
+
+    /// Takes a link that has opened, whose number no other has. Where it is refused it is to be closed.
+    pub fn opened(&mut self, link: LinkId, way: Way, now: u64) -> Result<(), OpenFault> {
+        self.links.open(link, way, now)?;
+        if let Way::Dialed(validator) = way {
+            self.redial.linked(validator, now);
+        }
+        Ok(())
+    }
+
+    /// Notes that bytes came on a link.
+    pub fn heard(&mut self, link: LinkId, now: u64) {
+        self.links.heard(link, now);
+    }
+
+    /// Forgets a link that has ended, and what it brought too early.
+    pub fn ended(&mut self, link: LinkId) {
+        self.early.forget(link);
+        self.links.end(link);
+    }
+
+    /// Returns whether any link is open or closing.
+    pub fn has_links(&self) -> bool {
+        !self.links.links().is_empty()
+    }
+
+    /// Returns the next validator whose address is to be dialed now. What came of it is said by `dialed`.
+    pub fn next_dial(&mut self, now: u64) -> Option<u16> {
+        for _ in 0..self.redial.count() {
+            let validator = self.redial.next(now)?;
+            if self.links.keeping() == Keeping::Open || !self.links.is_linked(validator) {
+                return Some(validator);
+            }
+            self.redial.linked(validator, now);
+        }
+        None
+    }
+
+    /// Returns whether addresses are dialed again.
+    pub fn dials_again(&self) -> bool {
+        self.links.keeping() == Keeping::Guarded
+    }
+
+    /// Notes whether the validator's address was reached. The link of one that was is `opened` beside.
+    pub fn dialed(&mut self, validator: u16, is_reached: bool, now: u64) {
+        if is_reached {
+            self.redial.linked(validator, now);
+        } else {
+            self.redial.failed(validator, now);
+        }
+    }
+
+    /// Notes the height that a call of the node told, and returns whether it is a new one.
+    pub fn told(&mut self, height: u64, now: u64) -> bool
+        ensures { result ≡ nat_lt self.old.told height }
+    {
+        let is_new = height > self.told;
+        self.advance(height, now);
+        if is_new {
+            self.told = height;
+        }
+        is_new
+    }
+
+    /// Forgets what was of lower heights.
+    pub(crate) fn advance(&mut self, height: u64, now: u64)
+        ensures { self.new.links ≡ self.old.links }
+    {
+        if height <= self.height {
+            return;
+        }
+        self.height = height;
+        self.since = now;
+        self.early.forget_below(height);
+        self.taken.clear();
+        self.turn = 0;
+        self.own.clear();
+        self.held.forget();
+        self.catch_up.advanced(height);
+        self.plan.forget_below(height);
+        self.rest.forget_below(height);
+        self.agenda.moved(now);
+    }
+
+    /// Plans a timeout that the node scheduled, whose time begins now. That of a height's first propose step waits where the
+    /// validator rests.
+    pub fn scheduled(&mut self, timeout: Timeout, now: u64) -> Result<(), PlanFault>
+        ensures held { is_held self.old.rest timeout ≡ true → self.new.plan ≡ self.old.plan }
+        ensures planned { is_held self.old.rest timeout ≡ false → OnOk result (self.new.plan ≡ with_timeout self.old.plan now timeout) }
+    {
+        if self.rest.hold(timeout, now) {
+            return Ok(());
+        }
+        self.plan.schedule(now, timeout)
+    }
+
+    /// Has a timeout fired again whose rule was refused memory.
+    pub fn refused_memory(&mut self, timeout: Timeout, now: u64) {
+        if self.plan.schedule(now, timeout).is_err() {
+            self.unfired = Some(timeout);
+        }
+    }
+}

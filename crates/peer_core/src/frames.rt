@@ -1,0 +1,295 @@
+//! The frames that come, and those that the node releases.
+
+ghost use Rattle.std.specs.Prelude.{◌≡◌, Some, None, IfOk, IfSome, MatchBool};
+ghost use Rattle.transactions.specs.Fields.{number_at};
+ghost use Rattle.messages.specs.Replies.{IsReply};
+ghost use Rattle.peer_core.specs.Heading.{is_transaction_at};
+ghost use Rattle.peer_core.specs.Answers.{reply_for};
+ghost use Rattle.peer_core.specs.Sendings.{IsOf, GoesTo, GoesWhereDue, BundleGoes, for_all, for_bundle};
+
+use crate::answering::{Then, reply_to, then_after};
+use crate::duty::{Rank, Sending};
+use crate::edge::PeerCore;
+use crate::heading::{Heading, Kind, heading_of, is_transaction};
+use crate::holding::MOST_BEHIND;
+use crate::idle::idle_height;
+use crate::manner::Keeping;
+use crate::quiet::is_quiet;
+use crate::showing::{is_news, shown_by};
+use bytes::Bytes;
+use edge_frames::LinkId;
+use messages::Reply;
+use protocol::Refusal;
+use std::alloc::AllocError;
+
+impl PeerCore {
+    /// Notes before a frame is handed in what the node may release for it: a bundle goes to whom an ask came from.
+    pub fn expect(&mut self, link: LinkId, frame: &[u8]) {
+        let Ok(heading) = heading_of(frame) else {
+            return;
+        };
+        if heading.kind != Kind::Ask {
+            return;
+        }
+        if let Some(link) = self.links.link_mut(link) {
+            link.ask(heading.height);
+        }
+    }
+
+    /// Does what is to be done beside the node with a frame that came on a link and was answered so by the node, which is then in
+    /// this height. The reply, which a transaction gets, goes to that link.
+    pub fn answered(
+        &mut self,
+        link: LinkId,
+        frame: &[u8],
+        answer: Result<(), Refusal>,
+        height: u64,
+        now: u64,
+    ) -> Option<Reply>
+        ensures reply { MatchBool (is_transaction_at (number_at 4 frame.now)) (result ≡ Some (reply_for answer)) (result ≡ None) }
+        ensures lawful { IfSome result (λ reply. IsReply reply) }
+    {
+        let heading = heading_of(frame).ok();
+        self.note(link, frame, heading, answer, height);
+        match then_after(answer, heading, height) {
+            Then::Keep { height } => self.keep_early(link, height, frame, now),
+            Then::PassOn { sender } => self.keep_taken(height, sender, frame),
+            Then::Note { height } => self.catch_up.saw(height, now),
+            Then::Halt | Then::Nothing => {}
+        }
+        self.rouse(frame, heading, answer, now);
+        reply_to(frame, answer)
+    }
+
+    /// Notes who is behind the link, and forgets an ask that wasn't answered.
+    fn note(
+        &mut self,
+        link: LinkId,
+        frame: &[u8],
+        heading: Option<Heading>,
+        answer: Result<(), Refusal>,
+        own: u64,
+    ) {
+        let shown = shown_by(frame, heading, answer);
+        self.links.show(link, shown, is_news(heading, answer, own));
+        let is_ask = heading.is_some_and(|heading| heading.kind == Kind::Ask);
+        if is_ask && answer.is_err() {
+            if let Some(link) = self.links.link_mut(link) {
+                link.forget_ask();
+            }
+        }
+    }
+
+    /// Keeps a frame of a height that hasn't come. A link that has no room loses it: its sender says it again.
+    fn keep_early(&mut self, link: LinkId, height: u64, frame: &[u8], now: u64) {
+        self.catch_up.saw(height, now);
+        if let Ok(copy) = Bytes::copy_from_slice(self.alloc, frame) {
+            let _ = self.early.keep(link, height, copy);
+        }
+    }
+
+    /// Keeps a frame that the node took in, to be passed on. Of a sender that has no room what came first stays.
+    fn keep_taken(&mut self, height: u64, sender: u16, frame: &[u8]) {
+        if height != self.height {
+            return;
+        }
+        if let Ok(copy) = Bytes::copy_from_slice(self.alloc, frame) {
+            let _ = self.taken.keep(sender, copy);
+        }
+    }
+
+    /// Wakes the validator where a frame says that something happens.
+    fn rouse(
+        &mut self,
+        frame: &[u8],
+        heading: Option<Heading>,
+        answer: Result<(), Refusal>,
+        now: u64,
+    ) {
+        match heading {
+            Some(heading) => self.rouse_by(frame, heading, answer, now),
+            None if answer.is_ok() && is_transaction(frame) => self.rouse_for(frame, now),
+            None => {}
+        }
+    }
+
+    /// Wakes the validator where another one's frame says that something happens: it is of this height or a later one, and no idle
+    /// height brings it. One that an idle height brings says that it goes on.
+    fn rouse_by(&mut self, frame: &[u8], heading: Heading, answer: Result<(), Refusal>, now: u64) {
+        let is_of_round = matches!(
+            heading.kind,
+            Kind::Proposal | Kind::Prevote | Kind::Precommit
+        );
+        let is_news = is_news(Some(heading), answer, self.height);
+        if !is_of_round || !is_news || heading.height < self.height {
+            return;
+        }
+        let rests = self.rest.rests(self.height);
+        if !is_quiet(frame) {
+            self.rest.wake(self.height);
+        }
+        if rests {
+            self.go_on(now);
+        }
+    }
+
+    /// Wakes the validator for a transaction that it accepted. Where it rested the others may rest as well, so it passes the
+    /// transaction on to them.
+    fn rouse_for(&mut self, frame: &[u8], now: u64) {
+        if self.rest.rests(self.height) {
+            self.pass_to_all(frame, now);
+        }
+        self.rest.accepted();
+        self.rest.wake(self.height);
+        self.go_on(now);
+    }
+
+    /// Has a client's frame go to all validators.
+    fn pass_to_all(&mut self, frame: &[u8], now: u64) {
+        let Ok(frame) = Bytes::copy_from_slice(self.alloc, frame) else {
+            return;
+        };
+        if let Ok(links) = self.links.for_validators(self.alloc, now) {
+            self.put(frame, links, Rank::Repair);
+        }
+    }
+
+    /// Goes on with a height that was held open: begins with its propose timeout, and lets the own proposal go that waits.
+    pub(crate) fn go_on(&mut self, now: u64) {
+        if let Some(timeout) = self.rest.take() {
+            self.refused_memory(timeout, now);
+        }
+        if let Some(frame) = self.held.take() {
+            self.let_go(frame, now);
+        }
+    }
+
+    /// Puts the proposal that waited and what waits behind it into the outbox.
+    pub(crate) fn let_go(&mut self, frame: Bytes, now: u64) {
+        self.send_own(frame, now);
+        for _ in 0..MOST_BEHIND {
+            let Some(frame) = self.held.take_behind() else {
+                break;
+            };
+            self.send_own(frame, now);
+        }
+    }
+
+    /// Puts an own frame for all into the outbox.
+    fn send_own(&mut self, frame: Bytes, now: u64) {
+        if let Ok(sending) = self.to_all(frame, now) {
+            self.outbox.put(sending);
+        }
+    }
+
+    /// Puts a frame into the outbox.
+    pub(crate) fn put(&mut self, frame: Bytes, links: Vec<LinkId>, rank: Rank) {
+        self.outbox.put(Sending { frame, links, rank });
+    }
+
+    /// Returns to whom a frame goes that the node released, or nothing where it waits or nobody wants it.
+    pub fn released(&mut self, frame: Bytes, now: u64) -> Result<Option<Sending>, AllocError>
+        ensures frame { IfOk result (IsOf frame) }
+        ensures links { IfOk result (GoesWhereDue frame now self.old.links) }
+    {
+        let Ok(heading) = heading_of(&frame) else {
+            return Ok(None);
+        };
+        self.advance(heading.height.min(self.highest_of(heading)), now);
+        match heading.kind {
+            Kind::Ask => {
+                let links = self.links.for_ask(self.alloc, now)?;
+                Ok(Some(fresh(frame, links)))
+            }
+            Kind::Bundle => self.bundle(frame, heading.height, now),
+            Kind::Proposal | Kind::Prevote | Kind::Precommit => self.own_message(frame, now),
+        }
+    }
+
+    /// Returns which height of the node's a released frame tells: a bundle is of a lower one.
+    fn highest_of(&self, heading: Heading) -> u64 {
+        match heading.kind {
+            Kind::Bundle => self.height,
+            _ => heading.height,
+        }
+    }
+
+    /// Returns to whom a bundle goes.
+    fn bundle(&mut self, frame: Bytes, height: u64, now: u64) -> Result<Option<Sending>, AllocError>
+        ensures frame { IfOk result (IsOf frame) }
+        ensures links { IfOk result (BundleGoes self.old.links.keeping (for_bundle height now self.old.links)) }
+    {
+        let keeping = self.links.keeping();
+        let asked = self.links.for_bundle(self.alloc, height, now)?;
+        if asked.is_empty() {
+            return Ok(None);
+        }
+        let links = match keeping {
+            Keeping::Open => self.links.for_all(self.alloc, now)?,
+            Keeping::Guarded => asked,
+        };
+        Ok(Some(fresh(frame, links)))
+    }
+
+    /// Returns to whom an own proposal or vote goes. A proposal of no transactions waits, and what comes behind it.
+    fn own_message(&mut self, frame: Bytes, now: u64) -> Result<Option<Sending>, AllocError>
+        ensures frame { IfOk result (IsOf frame) }
+        ensures links { IfOk result (GoesTo (for_all self.old.links)) }
+    {
+        let idle = idle_height(&frame);
+        if idle.is_some() {
+            self.rest.proposed_none();
+        }
+        let Some(frame) = self.unheld(frame, idle, now) else {
+            return Ok(None);
+        };
+        let Some(frame) = self.held.follow(frame) else {
+            return Ok(None);
+        };
+        if self.links.keeping() == Keeping::Guarded && self.own.has(&frame) {
+            // (what was sent before is sent again by the edge itself)
+            return Ok(None);
+        }
+        Ok(Some(self.to_all(frame, now)?))
+    }
+
+    /// Returns the frame, unless it is an own proposal of no transactions that waits.
+    fn unheld(&mut self, frame: Bytes, idle: Option<u64>, now: u64) -> Option<Bytes>
+        ensures frame { IfSome result (λ given. given ≡ frame) }
+        ensures links { self.new.links ≡ self.old.links }
+    {
+        let Some(height) = idle else {
+            return Some(frame);
+        };
+        let wait = self.rest.wait_of(height, self.idle);
+        if wait == 0 {
+            return Some(frame);
+        }
+        self.held.hold(height, frame, now.saturating_add(wait))
+    }
+
+    /// An own proposal or vote for all validators, which is kept to be sent again.
+    fn to_all(&mut self, frame: Bytes, now: u64) -> Result<Sending, AllocError>
+        ensures frame { IfOk result (λ sending. sending.frame ≡ frame) }
+        ensures links { IfOk result (λ sending. sending.links.items ≡ for_all self.old.links) }
+    {
+        let links = self.links.for_all(self.alloc, now)?;
+        if self.links.keeping() == Keeping::Guarded {
+            self.own.keep(&frame)?;
+            self.agenda.moved(now);
+        }
+        Ok(fresh(frame, links))
+    }
+}
+
+/// A frame that matters to its receivers.
+fn fresh(frame: Bytes, links: Vec<LinkId>) -> Sending
+    ensures frame { result.frame ≡ frame }
+    ensures links { result.links.items ≡ links.items }
+{
+    Sending {
+        frame,
+        links,
+        rank: Rank::Fresh,
+    }
+}

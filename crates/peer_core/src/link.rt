@@ -1,0 +1,245 @@
+//! One link, and who is behind it as far as it has shown.
+
+ghost use Rattle.std.specs.Prelude.{◌≡◌, Some, None};
+ghost use Rattle.peer_core.specs.Choosing.{is_open, behind_after, gets_bundle, was_sent, sent_at};
+
+use crate::duty::Closing;
+use edge_frames::LinkId;
+use peer_links::Way;
+
+/// How many frames in a row that are of no use close a link.
+const MOST_USELESS: u32 = 1_000;
+
+/// How long a link of a validator may be silent, in milliseconds.
+const SILENT_MS: u64 = 10_000;
+
+/// How long nothing is sent on a link of a validator until it is sent an ask, in milliseconds: often enough that its other
+/// end doesn't take it for silent.
+const BEAT_MS: u64 = 3_000;
+
+/// How long a height that a link was sent a bundle of isn't answered again on it, in milliseconds.
+const AGAIN_MS: u64 = 1_000;
+
+/// Who is behind a link. It is learned and never trusted: it decides only what is worth sending.
+#[derive(Clone, Copy, Debug, PartialEq, Eq)]
+pub enum Behind {
+    /// Nobody has shown.
+    Nobody,
+    /// A client, of which a transaction was taken or was known already.
+    Client,
+    /// A validator: the one whose address was dialed, or whose frames came first.
+    Validator(u16),
+}
+
+/// What a frame showed of the link that it came on.
+#[derive(Clone, Copy, Debug, PartialEq, Eq)]
+pub enum Shown {
+    /// An ask or a bundle of this validator, which nobody passes on.
+    Direct(u16),
+    /// A proposal or a vote of this validator, which another may have passed on.
+    Passed(u16),
+    /// A transaction of a client.
+    Client,
+    /// Nothing: it can't be read, or its tags are wrong.
+    Nothing,
+}
+
+/// A bundle that was sent on a link.
+#[derive(Clone, Copy, Debug)]
+struct Answered {
+    height: u64,
+    at: u64,
+}
+
+/// A link that is open, or closing.
+#[derive(Clone, Copy, Debug)]
+pub struct PeerLink {
+    pub id: LinkId,
+    pub way: Way,
+    pub behind: Behind,
+    /// When the link was opened.
+    pub opened: u64,
+    /// Which of all frames that were new to the node was the last one that came here from the validator behind it; 0 where none was.
+    pub news: u64,
+    /// Whether it is the one of its validator's links that is sent what all get.
+    pub is_chosen: bool,
+    /// Whether the next ask that the node releases goes here.
+    pub wants_ask: bool,
+    /// Whether the own messages of the height go here, since it has opened.
+    pub wants_own: bool,
+    /// Whether the validator behind it wasn't given yet.
+    pub wants_name: bool,
+    /// Why it is to be closed.
+    pub closing: Option<Closing>,
+    /// Whether its closing was given as a duty.
+    pub is_over: bool,
+    heard: u64,
+    sent: u64,
+    useless: u32,
+    /// The height whose bundle the peer asked for and wasn't sent.
+    asked: Option<u64>,
+    answered: Option<Answered>,
+}
+
+impl PeerLink {
+    /// A link that was opened now.
+    pub(crate) fn new(id: LinkId, way: Way, now: u64) -> PeerLink {
+        let behind = match way {
+            Way::Dialed(validator) => Behind::Validator(validator),
+            Way::Accepted => Behind::Nobody,
+        };
+        PeerLink {
+            id,
+            way,
+            behind,
+            opened: now,
+            news: 0,
+            is_chosen: false,
+            wants_ask: false,
+            wants_own: false,
+            wants_name: false,
+            closing: None,
+            is_over: false,
+            heard: now,
+            sent: now,
+            useless: 0,
+            asked: None,
+            answered: None,
+        }
+    }
+
+    /// Returns whether it is neither closed nor to be closed.
+    pub fn is_open(&self) -> bool
+        ensures { result ≡ is_open self.now }
+    {
+        self.closing.is_none()
+    }
+
+    /// Returns whether its address was dialed.
+    pub fn is_dialed(&self) -> bool {
+        matches!(self.way, Way::Dialed(_))
+    }
+
+    /// Returns the validator behind it, if one is.
+    pub fn validator(&self) -> Option<u16> {
+        match self.behind {
+            Behind::Validator(validator) => Some(validator),
+            Behind::Nobody | Behind::Client => None,
+        }
+    }
+
+    /// Returns whether it is open and has this behind it.
+    pub fn has(&self, behind: Behind) -> bool {
+        self.is_open() && self.behind == behind
+    }
+
+    /// Returns since when it has no more right to its place: a client since it was heard last, another one since it was opened.
+    pub(crate) fn since(&self) -> u64 {
+        match self.behind {
+            Behind::Client => self.heard,
+            Behind::Nobody | Behind::Validator(_) => self.opened,
+        }
+    }
+
+    /// Returns whether it is open and this validator is behind it.
+    pub fn is_of(&self, validator: u16) -> bool {
+        self.has(Behind::Validator(validator))
+    }
+
+    /// Notes that bytes came.
+    pub(crate) fn heard(&mut self, now: u64) {
+        self.heard = now;
+    }
+
+    /// Notes that a frame is queued for it.
+    pub(crate) fn sent(&mut self, now: u64) {
+        self.sent = now;
+    }
+
+    /// Returns whether a validator is behind it that has said nothing for ten seconds.
+    pub(crate) fn is_silent(&self, now: u64) -> bool {
+        self.is_open() && self.validator().is_some() && now.saturating_sub(self.heard) >= SILENT_MS
+    }
+
+    /// Returns whether a validator is behind it that was sent nothing for three seconds.
+    pub(crate) fn is_quiet(&self, now: u64) -> bool {
+        self.is_open() && self.validator().is_some() && now.saturating_sub(self.sent) >= BEAT_MS
+    }
+
+    /// Lets it be closed, for the first cause that comes.
+    pub(crate) fn close(&mut self, closing: Closing) {
+        if self.closing.is_none() {
+            self.closing = Some(closing);
+        }
+        self.is_chosen = false;
+    }
+
+    /// Returns who is behind it once a frame has shown this.
+    fn behind_after(&self, shown: Shown) -> Behind
+        ensures { result ≡ behind_after shown self.now.behind }
+    {
+        match (shown, self.behind) {
+            (Shown::Direct(validator), _) => Behind::Validator(validator),
+            (Shown::Passed(validator), Behind::Nobody | Behind::Client) => {
+                Behind::Validator(validator)
+            }
+            (Shown::Client, Behind::Nobody) => Behind::Client,
+            (_, behind) => behind,
+        }
+    }
+
+    /// Notes what a frame showed, and returns whether another one is behind it now. Too many frames in a row that show nothing
+    /// let it be closed.
+    pub(crate) fn show(&mut self, shown: Shown) -> bool {
+        if shown == Shown::Nothing {
+            self.useless = self.useless.saturating_add(1);
+            if self.useless >= MOST_USELESS {
+                self.close(Closing::Useless);
+            }
+            return false;
+        }
+        self.useless = 0;
+        let behind = self.behind_after(shown);
+        let is_new = behind != self.behind;
+        self.behind = behind;
+        is_new
+    }
+
+    /// Notes that the peer asks for this height.
+    pub(crate) fn ask(&mut self, height: u64) {
+        self.asked = Some(height);
+    }
+
+    /// Forgets what the peer asks for.
+    pub(crate) fn forget_ask(&mut self) {
+        self.asked = None;
+    }
+
+    /// Returns whether this height's bundle goes here: the peer asked for it, and wasn't sent it within the last second.
+    pub fn wants_bundle(&self, height: u64, now: u64) -> bool
+        ensures { result ≡ gets_bundle height now self.now }
+    {
+        self.is_open() && self.asked == Some(height) && !self.was_sent(height, now)
+    }
+
+    /// Returns whether this height's bundle was sent here within the last second.
+    fn was_sent(&self, height: u64, now: u64) -> bool
+        ensures { result ≡ was_sent height now self.now.answered }
+    {
+        match self.answered {
+            Some(answered) => {
+                answered.height == height && now.saturating_sub(answered.at) < AGAIN_MS
+            }
+            None => false,
+        }
+    }
+
+    /// Notes that this height's bundle is sent here.
+    pub(crate) fn answer(&mut self, height: u64, now: u64)
+        ensures { self.new ≡ record self.old { sent = now; asked = None; answered = Some (sent_at height now) } }
+    {
+        self.sent = now;
+        self.asked = None;
+        self.answered = Some(Answered { height, at: now });
+    }
+}

@@ -1,0 +1,484 @@
+//! The links of a validator, and which of them a frame goes to.
+
+ghost use Rattle.std.specs.Prelude.{◌≡◌, ◌<◌, IfSome, IfOk, length};
+ghost use Rattle.peer_core.specs.Choosing.{gets_all, gets_ask, gets_bundle, is_for_validators, ids_of};
+
+use crate::choosing::{best_of, mark_chosen};
+use crate::duty::{Closing, OpenFault};
+use crate::link::{Behind, PeerLink, Shown};
+use crate::manner::Keeping;
+use edge_frames::{LinkId, MOST_LINKS};
+use peer_links::Way;
+use std::alloc::{AllocError, AllocFailed, Global};
+
+/// How many links that were accepted may have shown nothing.
+pub const MOST_STRANGERS: usize = 64;
+
+/// How many links of clients have a place at least.
+pub const MOST_CLIENT_LINKS: usize = 64;
+
+/// How many links that one validator dials have a place, where there is room for so many of each.
+const MOST_DIALED_HERE: usize = 2;
+
+impl<T: Drop> From<AllocFailed<T>> for OpenFault {
+    fn from(_e: AllocFailed<T>) -> OpenFault {
+        OpenFault::OutOfMemory
+    }
+}
+
+/// The links that are open or closing, at most 384, in order of their numbers.
+///
+/// 64 places are for links that have shown nothing and 64 at least for those of clients, so that nobody who connects takes a
+/// validator's: each has one for the link that is dialed here, and one or two for those that it dials.
+#[derive(Debug, Drop)]
+pub struct PeerLinks {
+    me: u16,
+    count: u16,
+    keeping: Keeping,
+    /// How many links that one validator dials have a place.
+    most_accepted: usize,
+    /// How many links of clients have a place.
+    most_clients: usize,
+    links: Vec<PeerLink>,
+    /// How many frames were new to the node.
+    news: u64,
+    /// Whether some link may have to be closed, greeted or named.
+    is_stirred: bool,
+}
+
+/// Returns how many places the validators' links have, where each of the others has one for the link that is dialed here and so
+/// many for those that it dials.
+fn places_of(count: u16, accepted: usize) -> usize {
+    usize::from(count).saturating_mul(accepted.saturating_add(1))
+}
+
+impl PeerLinks {
+    /// No links, of validator `me` of `count`. It takes no memory.
+    pub fn new(alloc: Global, me: u16, count: u16, keeping: Keeping) -> PeerLinks {
+        let room = MOST_LINKS - MOST_STRANGERS - MOST_CLIENT_LINKS;
+        let most_accepted = if places_of(count, MOST_DIALED_HERE) <= room {
+            MOST_DIALED_HERE
+        } else {
+            1
+        };
+        let others = places_of(count, most_accepted).min(room);
+        PeerLinks {
+            me,
+            count,
+            keeping,
+            most_accepted,
+            most_clients: MOST_LINKS - MOST_STRANGERS - others,
+            links: Vec::new(alloc),
+            news: 0,
+            is_stirred: false,
+        }
+    }
+
+    /// How the links are kept.
+    pub fn keeping(&self) -> Keeping
+        ensures { result ≡ self.now.keeping }
+    {
+        self.keeping
+    }
+
+    /// The links, in order of their numbers.
+    pub fn links(&self) -> &[PeerLink] {
+        self.links.as_slice()
+    }
+
+    /// Returns the place of a link, if it has one.
+    fn place_of(&self, id: LinkId) -> Option<usize>
+        ensures { IfSome result (λ place. place < length self.now.links.items) }
+    {
+        let place = self.links.partition_point(|link| link.id.0 < id.0);
+        let found = self.links.get(place)?;
+        if found.id == id { Some(place) } else { None }
+    }
+
+    /// The link of this number.
+    pub(crate) fn link_mut(&mut self, id: LinkId) -> Option<&mut PeerLink> {
+        let place = self.place_of(id)?;
+        self.links.get_mut(place)
+    }
+
+    /// Takes a link whose number none has. Where too many have shown nothing, the oldest of these is closed for it.
+    pub fn open(&mut self, id: LinkId, way: Way, now: u64) -> Result<(), OpenFault> {
+        if self.links.len() >= MOST_LINKS {
+            return Err(OpenFault::TooMany);
+        }
+        let place = self.links.partition_point(|link| link.id.0 < id.0);
+        self.links.insert(place, PeerLink::new(id, way, now))?;
+        match way {
+            Way::Accepted => self.make_room(Behind::Nobody, MOST_STRANGERS),
+            Way::Dialed(validator) => self.greet(id, validator),
+        }
+        Ok(())
+    }
+
+    /// Lets a link be closed where more than so many have this behind them: of strangers the one that was opened first, of
+    /// clients the one that was silent for longest.
+    fn make_room(&mut self, behind: Behind, most: usize) {
+        let count = self.links.iter().filter(|link| link.has(behind)).count();
+        if count <= most {
+            return;
+        }
+        let oldest = self
+            .links
+            .iter_mut()
+            .filter(|link| link.has(behind))
+            .min_by_key(|link| link.since());
+        if let Some(link) = oldest {
+            link.close(Closing::Replaced);
+        }
+        self.is_stirred = true;
+    }
+
+    /// Has a validator's link named, and sent the own messages and an ask where links are guarded, and chooses among that validator's
+    /// links.
+    fn greet(&mut self, id: LinkId, validator: u16) {
+        let is_guarded = self.keeping == Keeping::Guarded;
+        if let Some(link) = self.link_mut(id) {
+            link.wants_own = is_guarded;
+            link.wants_ask = is_guarded;
+            link.wants_name = true;
+        }
+        self.is_stirred = true;
+        self.choose(validator);
+    }
+
+    /// Chooses the one of a validator's links that is sent what all get.
+    fn choose(&mut self, validator: u16) {
+        let best = best_of(&self.links, validator, self.me < validator);
+        mark_chosen(&mut self.links, validator, best);
+    }
+
+    /// Forgets a link that has ended. The next one of its validator takes its place.
+    pub fn end(&mut self, id: LinkId) {
+        let Some(place) = self.place_of(id) else {
+            return;
+        };
+        let link = self.links.remove(place);
+        if let Some(validator) = link.validator() {
+            self.choose(validator);
+        }
+    }
+
+    /// Notes that bytes came on a link.
+    pub fn heard(&mut self, id: LinkId, now: u64) {
+        if let Some(link) = self.link_mut(id) {
+            link.heard(now);
+        }
+    }
+
+    /// Notes what a frame showed of its link, and whether it was new to the node.
+    pub fn show(&mut self, id: LinkId, shown: Shown, is_news: bool) {
+        let Some(link) = self.link_mut(id) else {
+            return;
+        };
+        let before = link.validator();
+        let is_other = link.show(shown);
+        let (behind, is_open) = (link.behind, link.is_open());
+        self.is_stirred = self.is_stirred || !is_open;
+        if is_other {
+            self.find_place(id, behind);
+        }
+        if let Some(validator) = before {
+            if is_other || !is_open {
+                self.choose(validator);
+            }
+        }
+        if is_news {
+            self.note_news(id, shown);
+        }
+    }
+
+    /// Finds a place for a link that has this behind it now.
+    fn find_place(&mut self, id: LinkId, behind: Behind) {
+        match behind {
+            Behind::Validator(validator) => {
+                self.limit_accepted(validator);
+                self.greet(id, validator);
+            }
+            Behind::Client => self.make_room(Behind::Client, self.most_clients),
+            Behind::Nobody => {}
+        }
+    }
+
+    /// Of more links than may that a validator dialed, lets the one be closed that brought nothing new for longest.
+    fn limit_accepted(&mut self, validator: u16) {
+        let count = self
+            .links
+            .iter()
+            .filter(|link| link.is_of(validator) && !link.is_dialed())
+            .count();
+        if count <= self.most_accepted {
+            return;
+        }
+        let oldest = self
+            .links
+            .iter_mut()
+            .filter(|link| link.is_of(validator) && !link.is_dialed())
+            .min_by_key(|link| link.news);
+        if let Some(link) = oldest {
+            link.close(Closing::Replaced);
+        }
+        self.is_stirred = true;
+    }
+
+    /// Notes that a link brought what was new, where it came from the validator behind it.
+    fn note_news(&mut self, id: LinkId, shown: Shown) {
+        let news = self.news.saturating_add(1);
+        let Some(link) = self.link_mut(id) else {
+            return;
+        };
+        let Some(validator) = link.validator() else {
+            return;
+        };
+        if shown != Shown::Direct(validator) && shown != Shown::Passed(validator) {
+            return;
+        }
+        link.news = news;
+        let is_chosen = link.is_chosen;
+        self.news = news;
+        if !is_chosen {
+            self.choose(validator);
+        }
+    }
+
+    /// Returns whether a link gets what all get: of open links each, else the chosen ones.
+    fn gets_all(&self, link: &PeerLink) -> bool
+        ensures { result ≡ gets_all self.now.keeping link.now }
+    {
+        link.is_open() && (self.keeping == Keeping::Open || link.is_chosen)
+    }
+
+    /// Returns the links that a frame for all goes to.
+    fn all(&self, alloc: Global) -> Result<Vec<LinkId>, AllocError>
+        ensures { IfOk result (λ ids. ids.items ≡ ids_of (gets_all self.now.keeping) self.now.links.items) }
+    {
+        self.links
+            .iter()
+            .filter(|link| self.gets_all(link))
+            .map(|link| link.id)
+            .collect(alloc)
+    }
+
+    /// Returns the links that a frame for all goes to, and notes that it does.
+    pub fn for_all(&mut self, alloc: Global, now: u64) -> Result<Vec<LinkId>, AllocError>
+        ensures { IfOk result (λ ids. ids.items ≡ ids_of (gets_all self.old.keeping) self.old.links.items) }
+    {
+        let ids = self.all(alloc)?;
+        self.note_sent(&ids, now);
+        Ok(ids)
+    }
+
+    /// Returns the links that a frame for the validators alone goes to, and notes that it does.
+    pub fn for_validators(&mut self, alloc: Global, now: u64) -> Result<Vec<LinkId>, AllocError>
+        ensures { IfOk result (λ ids. ids.items ≡ ids_of is_for_validators self.old.links.items) }
+    {
+        let ids = self.chosen(alloc)?;
+        self.note_sent(&ids, now);
+        Ok(ids)
+    }
+
+    /// Returns the links that are used of validators.
+    fn chosen(&self, alloc: Global) -> Result<Vec<LinkId>, AllocError>
+        ensures { IfOk result (λ ids. ids.items ≡ ids_of is_for_validators self.now.links.items) }
+    {
+        self.links
+            .iter()
+            .filter(|link| link.is_open() && link.is_chosen)
+            .map(|link| link.id)
+            .collect(alloc)
+    }
+
+    /// Notes that a frame goes to these links.
+    fn note_sent(&mut self, ids: &[LinkId], now: u64) {
+        for id in ids {
+            if let Some(link) = self.link_mut(*id) {
+                link.sent(now);
+            }
+        }
+    }
+
+    /// Returns whether the next ask goes to a link: of open links to each, else to those that want one.
+    fn gets_ask(&self, link: &PeerLink) -> bool
+        ensures { result ≡ gets_ask self.now.keeping link.now }
+    {
+        link.is_open() && (self.keeping == Keeping::Open || link.wants_ask)
+    }
+
+    /// Returns the links that the next ask goes to.
+    fn askers(&self, alloc: Global) -> Result<Vec<LinkId>, AllocError>
+        ensures { IfOk result (λ ids. ids.items ≡ ids_of (gets_ask self.now.keeping) self.now.links.items) }
+    {
+        self.links
+            .iter()
+            .filter(|link| self.gets_ask(link))
+            .map(|link| link.id)
+            .collect(alloc)
+    }
+
+    /// Returns the links that the next ask goes to, which then want none.
+    pub fn for_ask(&mut self, alloc: Global, now: u64) -> Result<Vec<LinkId>, AllocError>
+        ensures { IfOk result (λ ids. ids.items ≡ ids_of (gets_ask self.old.keeping) self.old.links.items) }
+    {
+        let ids = self.askers(alloc)?;
+        self.note_sent(&ids, now);
+        for link in self.links.iter_mut() {
+            link.wants_ask = false;
+        }
+        Ok(ids)
+    }
+
+    /// Returns the links whose peers asked for this height's bundle, and weren't sent it within the last second.
+    fn waiting_for(&self, alloc: Global, height: u64, now: u64) -> Result<Vec<LinkId>, AllocError>
+        ensures { IfOk result (λ ids. ids.items ≡ ids_of (gets_bundle height now) self.now.links.items) }
+    {
+        self.links
+            .iter()
+            .filter(|link| link.wants_bundle(height, now))
+            .map(|link| link.id)
+            .collect(alloc)
+    }
+
+    /// Returns the links whose peers asked for this height's bundle and weren't sent it within the last second, and notes that they
+    /// are now.
+    pub fn for_bundle(
+        &mut self,
+        alloc: Global,
+        height: u64,
+        now: u64,
+    ) -> Result<Vec<LinkId>, AllocError>
+        ensures { IfOk result (λ ids. ids.items ≡ ids_of (gets_bundle height now) self.old.links.items) }
+    {
+        let ids = self.waiting_for(alloc, height, now)?;
+        for id in &ids {
+            if let Some(link) = self.link_mut(*id) {
+                link.answer(height, now);
+            }
+        }
+        Ok(ids)
+    }
+
+    /// Returns whether a link takes what others said: the chosen ones of validators do, and of open links all but those of clients.
+    fn takes_repair(&self, link: &PeerLink) -> bool {
+        match self.keeping {
+            Keeping::Open => link.is_open() && link.behind != Behind::Client,
+            Keeping::Guarded => link.is_chosen,
+        }
+    }
+
+    /// Returns the next link behind this one that takes what others said, and behind the last one the first.
+    pub fn next_behind(&self, id: Option<LinkId>) -> Option<LinkId> {
+        let after = id.map_or(0, |id| id.0.saturating_add(1));
+        let next = self
+            .links
+            .iter()
+            .find(|link| link.id.0 >= after && self.takes_repair(link));
+        let link = match next {
+            Some(link) => link,
+            None => self.links.iter().find(|link| self.takes_repair(link))?,
+        };
+        Some(link.id)
+    }
+
+    /// Has an ask go to this link.
+    pub fn want_ask(&mut self, id: LinkId) {
+        if let Some(link) = self.link_mut(id) {
+            link.wants_ask = true;
+        }
+    }
+
+    /// Has an ask go to each validator.
+    pub fn want_asks(&mut self) {
+        for link in self.links.iter_mut() {
+            if link.is_chosen {
+                link.wants_ask = true;
+            }
+        }
+    }
+
+    /// Has an ask go to each validator's link on which nothing was sent for three seconds, and returns whether there is one.
+    pub fn beat(&mut self, now: u64) -> bool {
+        let mut any = false;
+        for link in self.links.iter_mut() {
+            if link.is_quiet(now) {
+                link.wants_ask = true;
+                any = true;
+            }
+        }
+        any
+    }
+
+    /// Lets the links of validators be closed that are silent. Their next ones take their places.
+    pub fn close_silent(&mut self, now: u64) {
+        let mut any = false;
+        for link in self.links.iter_mut() {
+            if link.is_silent(now) {
+                link.close(Closing::Silent);
+                any = true;
+            }
+        }
+        if any {
+            self.is_stirred = true;
+            self.choose_all();
+        }
+    }
+
+    /// Chooses among the links of each validator.
+    fn choose_all(&mut self) {
+        for validator in 0..self.count {
+            self.choose(validator);
+        }
+    }
+
+    /// Returns the next link that is to be closed and wasn't given yet, and why.
+    pub fn next_closing(&mut self) -> Option<(LinkId, Closing)> {
+        if !self.is_stirred {
+            return None;
+        }
+        let link = self
+            .links
+            .iter_mut()
+            .find(|link| link.closing.is_some() && !link.is_over)?;
+        link.is_over = true;
+        Some((link.id, link.closing?))
+    }
+
+    /// Returns the next link behind which a validator is that wasn't given yet, and which.
+    pub fn next_met(&mut self) -> Option<(LinkId, u16)> {
+        if !self.is_stirred {
+            return None;
+        }
+        let link = self
+            .links
+            .iter_mut()
+            .find(|link| link.wants_name && link.is_open())?;
+        link.wants_name = false;
+        Some((link.id, link.validator()?))
+    }
+
+    /// Returns the next link that the own messages of the height go to, since it has opened. Where there is none, nothing is to be done
+    /// with any link.
+    pub fn next_greeted(&mut self) -> Option<LinkId> {
+        if !self.is_stirred {
+            return None;
+        }
+        let found = self
+            .links
+            .iter_mut()
+            .find(|link| link.is_open() && link.wants_own);
+        let Some(link) = found else {
+            self.is_stirred = false;
+            return None;
+        };
+        link.wants_own = false;
+        Some(link.id)
+    }
+
+    /// Returns whether a link to this validator is open that was dialed, or one that brought something new of it.
+    pub fn is_linked(&self, validator: u16) -> bool {
+        self.links.iter().any(|link| link.is_of(validator) && (link.is_dialed() || link.news > 0))
+    }
+}

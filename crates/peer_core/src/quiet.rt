@@ -1,0 +1,48 @@
+//! Frames that a height brings in which nothing happens.
+
+ghost use Rattle.std.specs.Prelude.{◌≡◌};
+ghost use Rattle.peer_core.specs.Quiet.{value_in, first_vote_in, first_vote_at, is_quiet};
+
+use crate::idle::idle_height;
+use transactions::Fault;
+use transactions::fields::{u8_at, u16_at, u32_at, u64_at};
+
+/// Returns whether what stands behind the kind of a vote is of round 0, and for a value.
+#[tactic(auto, unfolding(crate::specs::Quiet::value_in))]
+fn is_for_value(bytes: &[u8]) -> Result<bool, Fault>
+    ensures { result ≡ value_in bytes.now }
+{
+    let (_, rest) = u64_at(bytes)?;
+    let (round, rest) = u32_at(rest)?;
+    let (_, rest) = u16_at(rest)?;
+    let (content, _) = u8_at(rest)?;
+    Ok(round == 0 && content != 0)
+}
+
+/// Returns whether a frame brings a vote of round 0 for a value.
+#[tactic(auto, unfolding(crate::specs::Quiet::first_vote_at))]
+fn is_first_vote(frame: &[u8]) -> Result<bool, Fault>
+    ensures { result ≡ first_vote_at frame.now }
+{
+    let (_, content) = u32_at(frame)?;
+    is_first_vote_in(content)
+}
+
+/// Returns whether a frame's content is a vote of round 0 for a value.
+#[tactic(auto, unfolding(crate::specs::Quiet::first_vote_in))]
+fn is_first_vote_in(content: &[u8]) -> Result<bool, Fault>
+    ensures { result ≡ first_vote_in content.now }
+{
+    match u8_at(content)? {
+        (0x11 | 0x12, rest) => is_for_value(rest),
+        _ => Ok(false),
+    }
+}
+
+/// Returns whether a frame brings a proposal of no transactions or a vote for a value, of round 0: an idle height brings no others.
+/// Nothing else of it is looked at, nor whether it is whole. It takes no memory.
+pub fn is_quiet(frame: &[u8]) -> bool
+    ensures { result ≡ is_quiet frame.now }
+{
+    idle_height(frame).is_some() || is_first_vote(frame) == Ok(true)
+}

@@ -1,0 +1,113 @@
+//! When an address is dialed.
+
+ghost use Rattle.std.specs.Prelude.{◌≡◌, ◌≢◌, ◌<◌, IfSome};
+
+use crate::manner::{Keeping, Manner};
+use powers::MOST_VALIDATORS;
+
+/// How many times its first value the pause before an address is dialed again has at most.
+const MOST_PAUSES: u64 = 32;
+
+/// What is known of dialing one address.
+#[derive(Clone, Copy, Debug)]
+struct Address {
+    /// From when on it may be dialed; none where it isn't any more.
+    due: Option<u64>,
+    /// How long it isn't dialed after the next failure.
+    pause: u64,
+}
+
+/// The addresses of the other validators, and when each is dialed next.
+///
+/// With open links each is dialed once. With guarded ones an address without an open link is dialed again after a pause, which
+/// doubles with each failure in a row. A little is added to it, so that validators that were cut off together don't dial all at
+/// once.
+#[derive(Debug, Drop)]
+pub struct Redial {
+    me: u16,
+    count: u16,
+    is_guarded: bool,
+    first: u64,
+    addresses: [Address; MOST_VALIDATORS],
+}
+
+impl Redial {
+    /// All addresses but the own one are to be dialed at once.
+    pub fn new(me: u16, count: u16, manner: Manner) -> Redial {
+        Redial {
+            me,
+            count,
+            is_guarded: manner.keeping == Keeping::Guarded,
+            first: manner.redial,
+            addresses: [Address {
+                due: Some(0),
+                pause: manner.redial,
+            }; MOST_VALIDATORS],
+        }
+    }
+
+    /// Returns how many validators there are.
+    pub fn count(&self) -> u16 {
+        self.count
+    }
+
+    /// Returns the first validator whose address is due, and has it due no more until it was dialed.
+    pub fn next(&mut self, now: u64) -> Option<u16>
+        ensures other { IfSome result (λ validator. validator ≢ self.old.me) }
+        ensures known { IfSome result (λ validator. validator < self.old.count) }
+    {
+        let (me, count) = (self.me, self.count);
+        for validator in 0..count {
+            if validator != me && self.take_due(validator, now) {
+                return Some(validator);
+            }
+        }
+        None
+    }
+
+    /// Returns whether a validator's address may be dialed now, and has it due no more.
+    fn take_due(&mut self, validator: u16, now: u64) -> bool {
+        let Some(address) = self.addresses.get_mut(usize::from(validator)) else {
+            return false;
+        };
+        let is_due = address.due.is_some_and(|due| due <= now);
+        if is_due {
+            address.due = None;
+        }
+        is_due
+    }
+
+    /// Has an address looked at again after the first pause, since a link to it is open.
+    pub fn linked(&mut self, validator: u16, now: u64) {
+        if let Some(address) = self.addresses.get_mut(usize::from(validator)) {
+            address.pause = self.first;
+            address.due = due_after(self.is_guarded, now, self.first);
+        }
+    }
+
+    /// Notes that an address couldn't be reached.
+    pub fn failed(&mut self, validator: u16, now: u64) {
+        let most = self.first.saturating_mul(MOST_PAUSES);
+        let jitter = self.jitter(validator);
+        if let Some(address) = self.addresses.get_mut(usize::from(validator)) {
+            let pause = address.pause.saturating_add(jitter);
+            address.due = due_after(self.is_guarded, now, pause);
+            address.pause = address.pause.saturating_mul(2).min(most);
+        }
+    }
+
+    /// Returns what is added to a pause: up to an eighth of the first one, another for each pair.
+    fn jitter(&self, validator: u16) -> u64 {
+        let pair = u64::from(self.me) * 31 + u64::from(validator) * 17;
+        (self.first / 8).saturating_mul(pair % 8) / 8
+    }
+}
+
+/// Returns when an address is due behind a pause; with open links it is no more.
+fn due_after(is_guarded: bool, now: u64, pause: u64) -> Option<u64> {
+    if is_guarded {
+        Some(now.saturating_add(pause))
+    } else {
+        None
+    }
+}

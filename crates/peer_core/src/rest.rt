@@ -1,0 +1,138 @@
+//! When a height is held open, since nothing waits anywhere.
+
+ghost use Rattle.std.specs.Prelude.{◌≡◌, None, true, false, if◌then◌else◌};
+ghost use Rattle.peer_core.specs.Resting.{rests, wait_of, is_held, holding, woken, timeout_in, due_in, is_due, is_below, without};
+
+use protocol::{Step, Timeout};
+
+/// A propose timeout that waits to be scheduled.
+#[derive(Clone, Copy, Debug)]
+struct HeldTimeout {
+    timeout: Timeout,
+    /// Until when, if nothing wakes the validator.
+    due: u64,
+}
+
+/// Whether a validator rests.
+///
+/// At rest a proposer keeps back its proposal of no transactions, and the others don't begin to wait for it. A transaction that is
+/// accepted, and a frame that no idle height brings, wake a validator: it then stays awake for as many heights as there are
+/// validators, and as long as a transaction that it accepted may wait.
+#[derive(Clone, Copy, Debug)]
+pub struct Rest {
+    /// How long a height is held open, in milliseconds; with 0 none is.
+    longest: u64,
+    /// For how many heights a validator that woke stays awake.
+    heights: u64,
+    /// The height from which on it rests.
+    awake_until: u64,
+    /// Whether a transaction was accepted since it had nothing to propose.
+    may_have: bool,
+    held: Option<HeldTimeout>,
+}
+
+impl Rest {
+    /// One of so many validators, which holds a height open for so long.
+    pub fn new(longest: u64, count: u16) -> Rest {
+        Rest {
+            longest,
+            heights: u64::from(count) + 1,
+            awake_until: 0,
+            may_have: false,
+            held: None,
+        }
+    }
+
+    /// Returns whether it rests in this height.
+    pub fn rests(&self, height: u64) -> bool
+        ensures { result ≡ rests self.now height }
+    {
+        self.longest > 0 && !self.may_have && height >= self.awake_until
+    }
+
+    /// Returns how long an own proposal of no transactions of this height waits, where it would wait so long awake.
+    pub fn wait_of(&self, height: u64, idle: u64) -> u64
+        ensures { result ≡ wait_of self.now height idle }
+    {
+        if self.rests(height) {
+            self.longest.max(idle)
+        } else {
+            idle
+        }
+    }
+
+    /// Takes the propose timeout of a height's first round where the validator rests, and returns whether it did.
+    pub fn hold(&mut self, timeout: Timeout, now: u64) -> bool
+        ensures answer { result ≡ is_held self.old timeout }
+        ensures held { self.new ≡ holding self.old timeout now }
+    {
+        let is_first = timeout.kind == Step::Propose && timeout.round == 0;
+        if !is_first || !self.rests(timeout.height) {
+            return false;
+        }
+        self.held = Some(HeldTimeout {
+            timeout,
+            due: now.saturating_add(self.longest),
+        });
+        true
+    }
+
+    /// Keeps the validator awake, which is in this height.
+    pub fn wake(&mut self, height: u64)
+        ensures { self.new ≡ woken self.old height }
+    {
+        self.awake_until = self.awake_until.max(height.saturating_add(self.heights));
+    }
+
+    /// Notes that a transaction was accepted, so that one may wait.
+    pub fn accepted(&mut self)
+        ensures { self.new ≡ record self.old { may_have = true } }
+    {
+        self.may_have = true;
+    }
+
+    /// Notes that the validator proposed no transactions: none waits.
+    pub fn proposed_none(&mut self)
+        ensures { self.new ≡ record self.old { may_have = false } }
+    {
+        self.may_have = false;
+    }
+
+    /// Gives the timeout that waits, whenever it is due.
+    pub fn take(&mut self) -> Option<Timeout>
+        ensures given { result ≡ timeout_in self.old.held }
+        ensures empty { self.new ≡ without self.old }
+    {
+        let held = self.held.take()?;
+        Some(held.timeout)
+    }
+
+    /// Gives the timeout that waits, where its height was held open for long enough.
+    pub fn take_due(&mut self, now: u64) -> Option<Timeout>
+        ensures given { result ≡ (if is_due now self.old.held then timeout_in self.old.held else None) }
+        ensures left { self.new ≡ (if is_due now self.old.held then without self.old else self.old) }
+    {
+        let held = self.held?;
+        if held.due > now {
+            return None;
+        }
+        self.take()
+    }
+
+    /// Forgets a timeout of a height below this one.
+    pub fn forget_below(&mut self, height: u64)
+        ensures { self.new ≡ (if is_below height self.old.held then without self.old else self.old) }
+    {
+        if self.held.is_some_and(|held| held.timeout.height < height) {
+            self.held = None;
+        }
+    }
+
+    /// Returns when the timeout that waits is due, if one does.
+    pub fn next_due(&self) -> Option<u64>
+        ensures { result ≡ due_in self.now.held }
+    {
+        let held = self.held?;
+        Some(held.due)
+    }
+}

@@ -1,0 +1,221 @@
+//! What is to be done now.
+
+ghost use Rattle.std.specs.Prelude.{◌≡◌, Some};
+ghost use Rattle.timeouts.specs.Waiting.{given};
+ghost use Rattle.edge_frames.specs.Links.{IsGiven};
+ghost use Rattle.peer_core.specs.Duties.{IfHandedIn, IfFired};
+
+use crate::agenda::take;
+use crate::duty::{Duty, Rank, Sending};
+use crate::edge::PeerCore;
+use crate::manner::Keeping;
+use crate::own::MOST_AGAIN;
+use bytes::Bytes;
+use edge_frames::{LinkId, turn_from};
+use std::alloc::{AllocError, Global};
+
+/// How long a height doesn't move until its frames are passed on and all are asked, in milliseconds.
+const STILL_MS: u64 = 1_000;
+
+impl PeerCore {
+    /// Returns what is to be done next, and nothing where nothing more is now. A frame that is handed in is the first early one of the
+    /// height, and a timeout is fired only when it is due.
+    pub fn next_duty(&mut self, now: u64) -> Option<Duty>
+        ensures early { IfHandedIn result (λ link frame. IsGiven self.old.height self.old.early link frame self.new.early) }
+        ensures due { IfFired result (λ timeout. given now self.old.plan.due ≡ Some timeout) }
+    {
+        if let Some((link, frame)) = self.early.take(self.height) {
+            return Some(Duty::HandIn(link, frame));
+        }
+        if let Some(timeout) = self.plan.due(now) {
+            return Some(Duty::Fire(timeout));
+        }
+        self.look_at_clock(now);
+        if let Some((link, closing)) = self.links.next_closing() {
+            return Some(Duty::Close(link, closing));
+        }
+        if let Some((link, validator)) = self.links.next_met() {
+            return Some(Duty::Meet(link, validator));
+        }
+        if let Some(duty) = self.next_call(now) {
+            return Some(duty);
+        }
+        self.next_sending(now)
+    }
+
+    /// Returns when `next_duty` is to be called again if nothing comes before.
+    pub fn wake_at(&self, now: u64) -> u64 {
+        let timed = [
+            self.plan.next_due(),
+            self.held.next_due(),
+            self.rest.next_due(),
+        ];
+        let next = timed.iter().fold(
+            self.agenda.tick,
+            |least, due| due.map_or(least, |due| due.min(least)),
+        );
+        if self.catch_up.is_behind(self.height) {
+            next.min(now.saturating_add(STILL_MS / 10))
+        } else {
+            next
+        }
+    }
+
+    /// Does what is due at its time.
+    fn look_at_clock(&mut self, now: u64) {
+        if let Some(timeout) = self.rest.take_due(now) {
+            self.refused_memory(timeout, now);
+        }
+        if let Some(frame) = self.held.take_due(now) {
+            self.let_go(frame, now);
+        }
+        if self.agenda.ticks(now) {
+            self.tick(now);
+        }
+    }
+
+    /// Sees each second to what may be lost.
+    fn tick(&mut self, now: u64) {
+        self.budget.refill();
+        self.agenda.settles = true;
+        if let Some(timeout) = self.unfired.take() {
+            self.refused_memory(timeout, now);
+        }
+        match self.links.keeping() {
+            Keeping::Open => {
+                self.agenda.resends = true;
+                self.agenda.asks = true;
+            }
+            Keeping::Guarded => self.tick_guarded(now),
+        }
+        if self.is_still(now) {
+            let _ = self.pass_on();
+        }
+    }
+
+    /// Sees each second to guarded links: closes the silent ones, keeps the others from seeming silent, sends the own messages again,
+    /// and asks all where the node is behind and doesn't get on.
+    fn tick_guarded(&mut self, now: u64) {
+        self.links.close_silent(now);
+        if self.catch_up.is_behind(self.height) && self.is_still(now) {
+            self.links.want_asks();
+            self.agenda.asks = true;
+        }
+        self.agenda.asks = self.links.beat(now) || self.agenda.asks;
+        if self.agenda.sends_again(now) {
+            let _ = self.send_again(now);
+        }
+    }
+
+    /// Returns whether the height didn't move for a second.
+    fn is_still(&self, now: u64) -> bool {
+        now.saturating_sub(self.since) >= STILL_MS
+    }
+
+    /// Puts the last own messages of the height into the outbox, for all validators, as many as the budget has room for.
+    fn send_again(&mut self, now: u64) -> Result<(), AllocError> {
+        let first = self.own.frames().len().saturating_sub(MOST_AGAIN);
+        for place in first..self.own.frames().len() {
+            let links = self.links.for_all(self.alloc, now)?;
+            if !self.budget.spend(links.len() as u64) {
+                break;
+            }
+            if let Some(sent) = self.own.frames().get(place) {
+                let frame = sent.frame.clone()?;
+                self.put(frame, links, Rank::Repair);
+            }
+        }
+        Ok(())
+    }
+
+    /// Puts a turn of the height's frames of others into the outbox, for one validator, whose turn it is, as many as the budget has
+    /// room for. The next turn begins behind them.
+    fn pass_on(&mut self) -> Result<(), AllocError> {
+        let Some(link) = self.links.next_behind(self.passed_to) else {
+            return Ok(());
+        };
+        self.passed_to = Some(link);
+        let turn = turn_from(self.taken.frames(), self.turn);
+        let mut count: usize = 0;
+        for sent in turn.frames {
+            if !self.budget.spend(1) {
+                break;
+            }
+            count = count.saturating_add(1);
+            self.outbox.put(Sending {
+                frame: sent.frame.clone()?,
+                links: one_link(self.alloc, link)?,
+                rank: Rank::Repair,
+            });
+        }
+        if count == turn.frames.len() {
+            self.turn = turn.next;
+        } else {
+            self.turn = self.turn.saturating_add(count);
+        }
+        Ok(())
+    }
+
+    /// Returns the next call of the node, if one is to be made.
+    fn next_call(&mut self, now: u64) -> Option<Duty>
+        ensures early { IfHandedIn result (λ link frame. ⊥) }
+        ensures due { IfFired result (λ timeout. ⊥) }
+    {
+        if take(&mut self.agenda.settles) {
+            return Some(Duty::Settle);
+        }
+        if take(&mut self.agenda.resends) {
+            return Some(Duty::Resend);
+        }
+        if self.catch_up.should_ask(self.height, now) {
+            self.catch_up.asked();
+            self.ask_next();
+        }
+        if take(&mut self.agenda.asks) {
+            return Some(Duty::Ask);
+        }
+        None
+    }
+
+    /// Has the next validator asked.
+    fn ask_next(&mut self) {
+        self.agenda.asks = true;
+        if let Some(link) = self.links.next_behind(self.asked_at) {
+            self.asked_at = Some(link);
+            self.links.want_ask(link);
+        }
+    }
+
+    /// Returns the next frame that is to be sent. Where there is none, a link that has opened gets the own messages of the height.
+    fn next_sending(&mut self, now: u64) -> Option<Duty>
+        ensures early { IfHandedIn result (λ link frame. ⊥) }
+        ensures due { IfFired result (λ timeout. ⊥) }
+    {
+        if let Some(sending) = self.outbox.take() {
+            return Some(Duty::Send(sending));
+        }
+        let link = self.links.next_greeted()?;
+        self.agenda.asks = true;
+        let _ = self.greet(link);
+        self.next_call(now)
+    }
+
+    /// Puts the own messages of the height into the outbox, for a link that has opened.
+    fn greet(&mut self, link: LinkId) -> Result<(), AllocError> {
+        for place in 0..self.own.frames().len() {
+            if let Some(sent) = self.own.frames().get(place) {
+                let frame = sent.frame.clone()?;
+                let links = one_link(self.alloc, link)?;
+                self.put(frame, links, Rank::Fresh);
+            }
+        }
+        Ok(())
+    }
+}
+
+/// One link alone.
+fn one_link(alloc: Global, link: LinkId) -> Result<Vec<LinkId>, AllocError> {
+    let mut links = Vec::with_capacity(alloc, 1)?;
+    links.push(link)?;
+    Ok(links)
+}

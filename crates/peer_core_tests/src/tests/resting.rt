@@ -1,0 +1,99 @@
+//! Heights that are held open while nothing waits.
+
+use super::{GUARDED, PREVOTE, PROPOSAL, came, dial_all, duties, edge_of, of_round, released};
+use peer_core::{Manner, PeerCore};
+use protocol::{Step, Timeout};
+use std::process::Abort;
+use std::test::Fail;
+
+const RESTING: Manner = Manner {
+    rest: 60_000,
+    ..GUARDED
+};
+
+/// The propose timeout of a height's first round.
+fn propose(height: u64) -> Timeout {
+    Timeout {
+        kind: Step::Propose,
+        height,
+        round: 0,
+    }
+}
+
+/// A transaction's front: a frame of kind 01.
+const TRANSACTION: [u8; 5] = [0, 0, 0, 1, 1];
+
+/// How many timeouts are fired between two times, a second at a time.
+fn fired(edge: &mut PeerCore, from: u64, to: u64) -> u32 {
+    let mut sum = 0u32;
+    for second in from..=to {
+        sum = sum.saturating_add(duties(edge, second.saturating_mul(1_000)).fired);
+    }
+    sum
+}
+
+/// It is held open for a minute, and then its timeout lasts as long as ever.
+#[test]
+fn a_height_is_held_open(rt: HostRuntime) -> Result<(), Fail> {
+    let mut edge = edge_of(rt.alloc(), RESTING)?;
+    dial_all(&mut edge)?;
+    edge.scheduled(propose(0), 0)?;
+    assert_eq!(rt; fired(&mut edge, 0, 60), 0);
+    assert_eq!(rt; fired(&mut edge, 61, 62), 1);
+    Ok(())
+}
+
+/// A transaction wakes it, goes to all validators, and the next heights aren't held open.
+#[test]
+fn a_transaction_wakes(rt: HostRuntime) -> Result<(), Fail> {
+    let mut edge = edge_of(rt.alloc(), RESTING)?;
+    dial_all(&mut edge)?;
+    let _ = duties(&mut edge, 0);
+    edge.scheduled(propose(0), 0)?;
+    came(&mut edge, 9, &TRANSACTION, Ok(()), 0, 1_000);
+    assert_eq!(rt; duties(&mut edge, 1_000).sent, 1);
+    assert_eq!(rt; fired(&mut edge, 1, 2), 1);
+    assert!(rt; edge.told(1, 2_000));
+    edge.scheduled(propose(1), 2_000)?;
+    assert_eq!(rt; fired(&mut edge, 2, 3), 1);
+    Ok(())
+}
+
+/// A vote for nil says that something happens; one for a value that the height goes on.
+#[test]
+fn a_vote_wakes(rt: HostRuntime) -> Result<(), Fail> {
+    let mut edge = edge_of(rt.alloc(), RESTING)?;
+    dial_all(&mut edge)?;
+    edge.scheduled(propose(0), 0)?;
+    let mut vote = of_round(PREVOTE, 0, 2);
+    came(&mut edge, 2, &vote, Ok(()), 0, 0);
+    assert_eq!(rt; fired(&mut edge, 0, 1), 1);
+    assert!(rt; edge.told(1, 1_000));
+    edge.scheduled(propose(1), 1_000)?;
+    assert_eq!(rt; fired(&mut edge, 1, 9), 0);
+    vote[12] = 1;
+    vote[19] = 0;
+    came(&mut edge, 2, &vote, Ok(()), 1, 9_000);
+    assert_eq!(rt; fired(&mut edge, 9, 10), 1);
+    assert!(rt; edge.told(2, 10_000));
+    edge.scheduled(propose(2), 10_000)?;
+    assert_eq!(rt; fired(&mut edge, 10, 11), 1);
+    Ok(())
+}
+
+/// Its own proposal of no transactions waits as long, and goes once something happens.
+#[test]
+fn an_own_proposal_rests(rt: HostRuntime) -> Result<(), Fail> {
+    let alloc = rt.alloc();
+    let mut edge = edge_of(alloc, RESTING)?;
+    dial_all(&mut edge)?;
+    let _ = duties(&mut edge, 0);
+    assert_eq!(rt;
+        released(alloc, &mut edge, &of_round(PROPOSAL, 0, 1), 0)?,
+        0
+    );
+    assert_eq!(rt; duties(&mut edge, 59_999).sent, 0);
+    came(&mut edge, 9, &TRANSACTION, Ok(()), 0, 59_999);
+    assert_eq!(rt; duties(&mut edge, 59_999).sent, 2);
+    Ok(())
+}

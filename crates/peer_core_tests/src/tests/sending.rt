@@ -1,0 +1,111 @@
+//! To whom a frame goes.
+
+use super::{
+    ASK, BUNDLE, GUARDED, PREVOTE, PROPOSAL, asks, came, dial_all, duties, edge_of, of_height,
+    of_round, released,
+};
+use edge_frames::LinkId;
+use peer_core::Manner;
+use peer_links::Way;
+use std::process::Abort;
+use std::test::Fail;
+
+#[test]
+fn with_open_links_every_frame_goes_to_every_link(rt: HostRuntime) -> Result<(), Fail> {
+    let alloc = rt.alloc();
+    let mut edge = edge_of(alloc, Manner::PLAIN)?;
+    dial_all(&mut edge)?;
+    edge.opened(LinkId(4), Way::Accepted, 0)?;
+    assert_eq!(rt;
+        released(alloc, &mut edge, &of_round(PREVOTE, 0, 1), 0)?,
+        1_234
+    );
+    assert_eq!(rt;
+        released(alloc, &mut edge, &of_height(ASK, 0, 1), 0)?,
+        1_234
+    );
+    Ok(())
+}
+
+#[test]
+fn a_stranger_is_sent_nothing(rt: HostRuntime) -> Result<(), Fail> {
+    let alloc = rt.alloc();
+    let mut edge = edge_of(alloc, GUARDED)?;
+    edge.opened(LinkId(1), Way::Accepted, 0)?;
+    edge.opened(LinkId(2), Way::Dialed(2), 0)?;
+    assert_eq!(rt; released(alloc, &mut edge, &of_round(PREVOTE, 0, 1), 0)?, 2);
+    asks(&mut edge, 1, 0, 1);
+    assert_eq!(rt;
+        released(alloc, &mut edge, &of_round(PREVOTE, 1, 1), 2)?,
+        12
+    );
+    Ok(())
+}
+
+/// Of two links of validator 0, which is lower, the one that it brings news on is used; of two of validator 2, which is higher, the one
+/// that was dialed here.
+#[test]
+fn one_link_of_a_validator_is_used(rt: HostRuntime) -> Result<(), Fail> {
+    let alloc = rt.alloc();
+    let mut edge = edge_of(alloc, GUARDED)?;
+    dial_all(&mut edge)?;
+    edge.opened(LinkId(4), Way::Accepted, 0)?;
+    edge.opened(LinkId(5), Way::Accepted, 0)?;
+    asks(&mut edge, 4, 0, 1);
+    asks(&mut edge, 5, 2, 1);
+    assert_eq!(rt;
+        released(alloc, &mut edge, &of_round(PREVOTE, 0, 1), 1)?,
+        123
+    );
+    came(&mut edge, 4, &of_round(PREVOTE, 0, 0), Ok(()), 0, 2);
+    came(&mut edge, 5, &of_round(PREVOTE, 0, 2), Ok(()), 0, 2);
+    assert_eq!(rt;
+        released(alloc, &mut edge, &of_round(PREVOTE, 1, 1), 3)?,
+        234
+    );
+    edge.ended(LinkId(4));
+    edge.ended(LinkId(2));
+    assert_eq!(rt;
+        released(alloc, &mut edge, &of_round(PREVOTE, 2, 1), 4)?,
+        135
+    );
+    Ok(())
+}
+
+/// A bundle goes to who asked for its height, and not again within a second.
+#[test]
+fn a_bundle_goes_to_who_asked(rt: HostRuntime) -> Result<(), Fail> {
+    let alloc = rt.alloc();
+    let mut edge = edge_of(alloc, GUARDED)?;
+    dial_all(&mut edge)?;
+    let bundle = of_height(BUNDLE, 0, 1);
+    assert_eq!(rt; released(alloc, &mut edge, &bundle, 0)?, 0);
+    came(&mut edge, 2, &of_height(ASK, 0, 2), Ok(()), 1, 0);
+    assert_eq!(rt; released(alloc, &mut edge, &bundle, 0)?, 2);
+    came(&mut edge, 2, &of_height(ASK, 0, 2), Ok(()), 1, 500);
+    assert_eq!(rt; released(alloc, &mut edge, &bundle, 500)?, 0);
+    came(&mut edge, 2, &of_height(ASK, 0, 2), Ok(()), 1, 1_000);
+    assert_eq!(rt; released(alloc, &mut edge, &bundle, 1_000)?, 2);
+    Ok(())
+}
+
+/// A proposal of no transactions waits, and the vote behind it; then both go out in their order.
+#[test]
+fn an_idle_proposal_waits(rt: HostRuntime) -> Result<(), Fail> {
+    let alloc = rt.alloc();
+    let manner = Manner {
+        idle: 500,
+        ..GUARDED
+    };
+    let mut edge = edge_of(alloc, manner)?;
+    dial_all(&mut edge)?;
+    let _ = duties(&mut edge, 0);
+    assert_eq!(rt;
+        released(alloc, &mut edge, &of_round(PROPOSAL, 0, 1), 0)?,
+        0
+    );
+    assert_eq!(rt; released(alloc, &mut edge, &of_round(PREVOTE, 0, 1), 0)?, 0);
+    assert_eq!(rt; duties(&mut edge, 499).sent, 0);
+    assert_eq!(rt; duties(&mut edge, 500).sent, 2);
+    Ok(())
+}

@@ -1,4 +1,0 @@
-pub mod Heading
-pub mod Answers
-pub mod Times
-pub mod Idle

@@ -1,0 +1,114 @@
+//! The edge and its queues, as they stand under one lock.
+
+ghost use Rattle.messages.specs.Replies.{IsReply};
+
+use crate::outlets::Outlets;
+use bytes::Bytes;
+use edge_frames::LinkId;
+use locked_node::Released;
+use log::{Log, info, warn};
+use messages::{Reply, spell_reply};
+use peer_core::{Duty, PeerCore, Rank};
+use protocol::Timeout;
+use std::alloc::Global;
+use std::sync::Wait;
+
+/// How long nothing more is logged of frames that are dropped, in milliseconds.
+const LOG_MS: u64 = 1_000;
+
+/// What decides, and the queues that it fills. Frames are queued in the order in which the node released them, since they are taken
+/// under the lock of this.
+#[derive(Drop)]
+pub(crate) struct Desk {
+    pub(crate) core: PeerCore,
+    pub(crate) outlets: Outlets,
+    /// How many frames were dropped since that was logged last, and when it was.
+    dropped: u64,
+    logged: u64,
+}
+
+impl Desk {
+    /// Nothing is queued.
+    pub(crate) fn new(core: PeerCore, outlets: Outlets) -> Desk {
+        Desk {
+            core,
+            outlets,
+            dropped: 0,
+            logged: 0,
+        }
+    }
+
+    /// Queues what the node released, and plans what it scheduled.
+    pub(crate) fn release<R: Wait + Log>(&mut self, rt: &R, released: Released, now: u64) {
+        let Released { frames, timeouts } = released;
+        for frame in frames {
+            let dropped = self.release_frame(rt, frame, now);
+            self.dropped = self.dropped.saturating_add(dropped);
+        }
+        self.log_dropped(rt, now);
+        self.schedule(rt, timeouts, now);
+    }
+
+    /// Logs how many frames were dropped, at most once a second.
+    fn log_dropped<R: Log>(&mut self, rt: &R, now: u64) {
+        if self.dropped == 0 || now.saturating_sub(self.logged) < LOG_MS {
+            return;
+        }
+        warn!(rt; "{} frames are dropped, since a link has no room", self.dropped);
+        self.dropped = 0;
+        self.logged = now;
+    }
+
+    /// Queues a frame for whom it is, and returns how often it was dropped.
+    fn release_frame<R: Wait>(&mut self, rt: &R, frame: Vec<u8>, now: u64) -> u64 {
+        let Ok(frame) = Bytes::from_vec(frame) else {
+            return 1;
+        };
+        match self.core.released(frame, now) {
+            Ok(Some(sending)) => self.outlets.send(rt, &sending),
+            Ok(None) => 0,
+            Err(_) => 1,
+        }
+    }
+
+    fn schedule<R: Log>(&mut self, rt: &R, timeouts: Vec<Timeout>, now: u64) {
+        for timeout in timeouts {
+            if self.core.scheduled(timeout, now).is_err() {
+                warn!(rt; "a timeout is lost, since memory is short");
+            }
+        }
+    }
+
+    /// Queues a reply for its link.
+    pub(crate) fn reply<R: Wait + Log>(&self, rt: &R, alloc: Global, link: LinkId, reply: Reply)
+        requires { IsReply reply }
+    {
+        let queued = match Bytes::copy_from_slice(alloc, &spell_reply(reply)) {
+            Ok(frame) => self.outlets.offer(rt, link, &frame, Rank::Fresh),
+            Err(_) => false,
+        };
+        if !queued {
+            warn!(rt; "a reply is dropped, since its link has no room");
+        }
+    }
+
+    /// Does what is to be done with queues alone, and returns the next duty that takes the node, if there is one.
+    pub(crate) fn next_call<R: Wait + Log>(&mut self, rt: &R, now: u64) -> Option<Duty> {
+        for _ in rt.forever() {
+            match self.core.next_duty(now)? {
+                Duty::Send(sending) => {
+                    let _ = self.outlets.send(rt, &sending);
+                }
+                Duty::Close(link, closing) => {
+                    warn!(rt; "link {}: closed: {closing}", link.0);
+                    self.outlets.close(rt, link);
+                }
+                Duty::Meet(link, validator) => {
+                    info!(rt; "link {}: validator {validator}", link.0);
+                }
+                duty => return Some(duty),
+            }
+        }
+        None
+    }
+}
