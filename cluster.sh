@@ -33,7 +33,7 @@ trap end_all EXIT
 # start ID LIST: a validator, whose list goes to this file
 start() {
     "$program" run --id "$1" --powers 1,1,1,1 --keys "keys/v$1.keys" --journal "v$1.journal" --peers "$peers" \
-        --start 200 --delta 100 > "$2" 2>> "v$1.log" &
+        --start 200 --delta 100 --links guarded --rest 60000 > "$2" 2>> "v$1.log" &
     pids[$1]=$!
 }
 # send CLIENT VALIDATOR NUMBER WORD..: a transaction, again until it is accepted

@@ -24,6 +24,7 @@ TOP = os.path.dirname(os.path.dirname(os.path.realpath(__file__)))
 IN_PYTHON = f"{TOP}/clients/python"
 sys.path.append(IN_PYTHON)
 import pomtsjef
+from link_trials import LINK_TRIALS
 from validators import (
     PATIENCE,
     PRECOMMIT,
@@ -38,6 +39,7 @@ from validators import (
     POWERS,
     Tap,
     Wires,
+    among,
     decisions_in,
     dial,
     free_addresses,
@@ -348,16 +350,6 @@ def a_journal_of_before_sessions(cluster, _):
     want([at for at, it in enumerate(after) if it[0] == MARK] == [len(before)], "the mark doesn't stand once, behind what was there")
 
 
-def among(powers):
-    """Has a test run with validators of these powers."""
-
-    def with_powers(test):
-        test.powers = powers
-        return test
-
-    return with_powers
-
-
 @among("5,1,1,1,1,1,1")
 def proposers_by_power(cluster, is_long):
     """Of eleven heights in turn the first validator of seven proposes five, and each other one of them one."""
@@ -661,24 +653,26 @@ def noise(cluster, is_long):
 
 
 def links_that_are_never_done(cluster, _):
-    """Two hundred links at once, more than are taken, each with half a frame or with frames whose replies nobody reads. Who was
-    linked before is served meanwhile, and others by the other validators, and by this one once they are gone."""
+    """Two hundred links at once, more than are taken, each with half a frame or with frames whose replies nobody reads. A client that
+    was served before is served meanwhile, and others by the other validators, and by this one once they are gone."""
     for me in range(4):
         cluster.start(me)
     cluster.send_until_taken(7, 0, 1, "--data", "61")
     cluster.want_same(1, *range(4))
     keys, early = cluster.tag_keys_of(9), dial(cluster.addresses[0])
     old = transaction_frame(9, 1, b"", keys)
+    early.sendall(old)
+    cluster.want_same(2, *range(4))
     held = [hold(cluster.addresses[0], old * 500 if it % 2 else b"\0\x0f\xff\xff" + b"x" * 5_000) for it in range(200)]
-    for number in range(1, 6):
+    for number in range(2, 7):
         early.sendall(transaction_frame(9, number, b"", keys))
-        cluster.send_until_taken(7, 1, number + 1, "--data", "62")
-        cluster.want_same(2 * number + 1, *range(4))
+        cluster.send_until_taken(7, 1, number, "--data", "62")
+        cluster.want_same(2 * number, *range(4))
     peak = peak_of(cluster.running[0])
     for link in [early, *held]:
         link.close()
     cluster.send_until_taken(7, 0, 7, "--data", "63")
-    cluster.want_same(12, *range(4))
+    cluster.want_same(13, *range(4))
     want(peak < 256 << 20, f"the validator held {peak} bytes")
 
 
@@ -713,6 +707,7 @@ TESTS = (
     a_clock_that_begins_anew,
     noise,
     links_that_are_never_done,
+    *LINK_TRIALS,
 )
 
 

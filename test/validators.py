@@ -12,7 +12,7 @@ POWERS = "1,1,1,1"
 # How long a list may take to grow as far as it is waited for, in seconds.
 PATIENCE = 120
 # The first byte of a body, and that of a record of a journal (docs/FORMATS.md).
-PROPOSAL, PREVOTE, PRECOMMIT = 0x10, 0x11, 0x12
+PROPOSAL, PREVOTE, PRECOMMIT, ASK, BUNDLE = 0x10, 0x11, 0x12, 0x13, 0x14
 OWN, LOCK, DECISION, MARK = 0x01, 0x02, 0x03, 0x04
 
 
@@ -27,6 +27,16 @@ class LeftOut(Exception):
 def want(is_so, why):
     if not is_so:
         raise Failed(why)
+
+
+def among(powers):
+    """Has a test run with validators of these powers."""
+
+    def with_powers(test):
+        test.powers = powers
+        return test
+
+    return with_powers
 
 
 def free_addresses(count):
