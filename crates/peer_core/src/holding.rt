@@ -1,6 +1,7 @@
 //! An own proposal of no transactions that waits, and the own frames behind it.
 
 ghost use Rattle.std.specs.Prelude.{◌≡◌, [], None, IfSome};
+ghost use Rattle.edge_frames.specs.Holding.{due_of};
 
 use bytes::Bytes;
 use edge_frames::HeldProposal;
@@ -66,7 +67,9 @@ impl HeldFrames {
     }
 
     /// Returns until when a proposal waits, if one does.
-    pub fn next_due(&self) -> Option<u64> {
+    pub fn next_due(&self) -> Option<u64>
+        ensures { result ≡ due_of self.now.0 }
+    {
         self.proposal.next_due()
     }
 

@@ -1,9 +1,12 @@
 //! What is to be done now.
 
-ghost use Rattle.std.specs.Prelude.{◌≡◌, Some};
+ghost use Rattle.std.specs.Prelude.{◌≡◌, Some, false};
 ghost use Rattle.timeouts.specs.Waiting.{given};
 ghost use Rattle.edge_frames.specs.Links.{IsGiven};
-ghost use Rattle.peer_core.specs.Duties.{IfHandedIn, IfFired};
+ghost use Rattle.timeouts.specs.Waiting.{earliest};
+ghost use Rattle.edge_frames.specs.Holding.{due_of};
+ghost use Rattle.peer_core.specs.Resting.{due_in};
+ghost use Rattle.peer_core.specs.Duties.{IfHandedIn, IfFired, next_of, is_behind};
 
 use crate::agenda::take;
 use crate::duty::{Duty, Rank, Sending};
@@ -44,16 +47,13 @@ impl PeerCore {
     }
 
     /// Returns when `next_duty` is to be called again if nothing comes before.
-    pub fn wake_at(&self, now: u64) -> u64 {
-        let timed = [
-            self.plan.next_due(),
-            self.held.next_due(),
-            self.rest.next_due(),
-        ];
-        let next = timed.iter().fold(
-            self.agenda.tick,
-            |least, due| due.map_or(least, |due| due.min(least)),
-        );
+    pub fn wake_at(&self, now: u64) -> u64
+        ensures { is_behind self.now.height self.now.catch_up ≡ false
+            → result ≡ next_of (next_of (next_of self.now.agenda.tick (earliest self.now.plan.due)) (due_of self.now.held.0)) (due_in self.now.rest.held) }
+    {
+        let next = earlier(self.agenda.tick, self.plan.next_due());
+        let next = earlier(next, self.held.next_due());
+        let next = earlier(next, self.rest.next_due());
         if self.catch_up.is_behind(self.height) {
             next.min(now.saturating_add(STILL_MS / 10))
         } else {
@@ -211,6 +211,13 @@ impl PeerCore {
         }
         Ok(())
     }
+}
+
+/// The earlier one of a time and of when something is due, if it is.
+fn earlier(next: u64, due: Option<u64>) -> u64
+    ensures { result ≡ next_of next due }
+{
+    due.map_or(next, |due| due.min(next))
 }
 
 /// One link alone.
