@@ -20,16 +20,4 @@ pub first_report : {E : Type 0} (s : Schedule) (old new : World) (result : Resul
     → IfOk result (IsRunOf s)
 first_report s old new result opened handed =
     let begun = opened.begun in
-    let k : ℕ → ℕ → Bool = λ number p. false in
-    if_ok _ _ result (handed opened.cast begun.made k begun.is_world) (λ report is. record {
-      cast = opened.cast;
-      powers_are = opened.powers_are;
-      clients_are = opened.clients_are;
-      lies = opened.lies;
-      first = begun.made;
-      settled = begun.settled;
-      old = old;
-      new = new;
-      served = begun.served;
-      reported = is;
-    })
+    if_ok _ _ result (handed opened.cast begun.made (λ number p. false) begun.is_world) (λ report is. record { old = old; new = new; opened = opened; reported = is })

@@ -3,3 +3,4 @@ pub mod KeyFiles
 pub mod KeyLines
 pub mod Rings
 pub mod Sets
+pub mod Encodings

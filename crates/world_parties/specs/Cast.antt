@@ -1,6 +1,6 @@
 -- Who takes part in a world.
-use Rattle.std.specs.Prelude.{◌≡◌, ◌==◌, ℕ, Bool, false, not, ◌&&◌, List, length, nat_lt, slice_index_or}
-use Rattle.std.specs.List.{filter, list_any}
+use Rattle.std.specs.Prelude.{◌≡◌, ◌==◌, ℕ, Bool, false, not, ◌&&◌, List, length, nat_lt, nat_le, slice_index_or}
+use Rattle.std.specs.List.{filter, list_all, list_any}
 use Rattle.protocol.specs.Tags.{Setting}
 use Rattle.protocol.specs.Messages.{below}
 use Rattle.world_parties.specs.Keys.{setting}
@@ -33,3 +33,7 @@ correct cast = filter (is_correct cast) (below (length cast.powers))
 -- just these validators lie
 abbrev pub LiesIn : Cast → List ℕ → Type 0
 LiesIn cast liars = (q : ℕ) → slice_index_or cast.lies q false ≡ list_any (λ liar. liar == q) liars
+
+-- one to 1,024 clients, and each liar is a validator
+abbrev pub are_parties : List ℕ → ℕ → List ℕ → Bool
+are_parties powers clients liars = nat_le 1 clients && nat_le clients 1024 && list_all (λ liar. nat_lt liar (length powers)) liars

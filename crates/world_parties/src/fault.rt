@@ -16,7 +16,7 @@ pub enum FaultNumber {
     /// The client has sent its close.
     #[error("the client has closed")]
     ClientClosed = 3,
-    /// What it is about has no spelling: a value or a transaction above a limit, or a field out of its range.
+    /// What it is about has no encoding: a value or a transaction above a limit, or a field out of its range.
     #[error("it cannot be spelled")]
     TooLong = 4,
     /// A growth was refused memory.

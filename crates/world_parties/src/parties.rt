@@ -1,9 +1,9 @@
 //! Who takes part in a world.
 
-ghost use Rattle.std.specs.Prelude.{◌≡◌, ◌≤◌, ◌==◌, ℕ, true, false, length, nat_lt, slice_index_or, IfOk, IfErr, MatchOption};
+ghost use Rattle.std.specs.Prelude.{◌≡◌, ◌≤◌, ◌==◌, ℕ, true, false, length, nat_lt, slice_index_or, IfOk, OnOk, IfErr, MatchOption};
 ghost use Rattle.std.specs.List.{list_all, list_any};
 ghost use Rattle.protocol.specs.Rings.{IsRingOf};
-ghost use Rattle.world_parties.specs.Cast.{setting_of, is_validator, is_correct, is_liar, is_client, LiesIn};
+ghost use Rattle.world_parties.specs.Cast.{setting_of, is_validator, is_correct, is_liar, is_client, are_parties, LiesIn};
 
 use crate::fault::FaultNumber;
 use crate::keys::ring_of;
@@ -41,7 +41,8 @@ impl Parties {
         ensures powers { IfOk result (λ made. made.powers ≡ powers) }
         ensures clients { IfOk result (λ made. made.clients ≡ clients) }
         ensures lies { IfOk result (λ made. LiesIn made liars.now) }
-        ensures err { IfErr result (λ fault. fault ≡ FaultNumber.NoSuchParty) }
+        ensures fit { OnOk result (are_parties powers clients liars.now ≡ true) }
+        ensures err { IfErr result (λ fault. (fault ≡ FaultNumber.NoSuchParty) × (are_parties powers clients liars.now ≡ false)) }
     {
         if clients == 0 || clients > MOST_CLIENTS {
             return Err(FaultNumber::NoSuchParty);
@@ -132,7 +133,7 @@ fn flags_of(validators: u16, liars: &[u16]) -> Option<[bool; MOST_VALIDATORS]>
     requires { validators ≤ 128 }
     ensures { MatchOption result
         (list_all (λ number. nat_lt number validators) liars.now ≡ false)
-        (λ lies. (q : ℕ) → slice_index_or lies q false ≡ list_any (λ number. number == q) liars.now) }
+        (λ lies. (list_all (λ number. nat_lt number validators) liars.now ≡ true) × ((q : ℕ) → slice_index_or lies q false ≡ list_any (λ number. number == q) liars.now)) }
 {
     let mut lies = [false; MOST_VALIDATORS];
     for liar in liars {

@@ -1,17 +1,17 @@
 //! The frames of what liars and clients send.
 
-ghost use Rattle.std.specs.Prelude.{◌≡◌, ◌⊎◌, [], ◌∷◌, ℕ, List, true, false, None, map, length, IfOk, OnOk, IfErr, IsErrOf, option_map};
+ghost use Rattle.std.specs.Prelude.{◌≡◌, ◌⊎◌, ◌≤◌, [], ◌∷◌, ℕ, List, true, false, None, map, length, IfOk, OnOk, IfErr, IsErrOf, option_map};
 ghost use Rattle.std.specs.List.{list_all};
-ghost use Rattle.messages.specs.Grammar.{body_spelling};
-ghost use Rattle.messages.specs.Framing.{SpellsFrame};
+ghost use Rattle.messages.specs.Grammar.{body_spelling, IsBody};
+ghost use Rattle.messages.specs.Framing.{SpellsFrame, IsMessage};
 ghost use Rattle.protocol.specs.Values.{id};
 ghost use Rattle.protocol.specs.Tags.{Validator, Client};
 ghost use Rattle.protocol.specs.Messages.{OfTx, OfProposal, OfVote, OfBundle, sender_of, tagged};
-ghost use Rattle.transactions.specs.Grammar.{tx_body_spelling};
-ghost use Rattle.world_parties.specs.Faults.{IsUnspelled};
+ghost use Rattle.transactions.specs.Grammar.{tx_body_spelling, IsValue};
+ghost use Rattle.world_parties.specs.Faults.{IsUnencoded};
 ghost use Rattle.world_parties.specs.Keys.{tags_for};
 ghost use Rattle.world_parties.specs.Cast.{setting_of, is_liar};
-ghost use Rattle.world_parties.specs.Sending.{proposed, voted, bundled, submitted, bare_tx, precommit_by};
+ghost use Rattle.world_parties.specs.Sending.{proposed, voted, bundled, submitted, bare_tx, precommit_by, FitsTx, FitsProposal, FitsVote, FitsBundle, HasId};
 
 use crate::fault::FaultNumber;
 use crate::keys::tags_of;
@@ -21,8 +21,9 @@ use authenticators::Party;
 use messages::{
     Body, Bundle, MOST_PRECOMMITS, Message, Precommit, Proposal, Step, Vote, spell, spell_body,
 };
+use sha2::{Digest, Sha256};
 use std::alloc::{AllocError, Global};
-use transactions::{Duplicate, Id, Seq, Tx, Value, value_id};
+use transactions::{Duplicate, Id, Seq, Tx, Value, spell_value};
 
 impl Parties {
     /// The frame of a liar's proposal, with right tags for everyone.
@@ -31,7 +32,7 @@ impl Parties {
         ensures known { OnOk result (is_liar self.now line.now.sender ≡ true) }
         ensures unknown { IsErrOf result FaultNumber.NoSuchParty → is_liar self.now line.now.sender ≡ false }
         ensures order { IsErrOf result FaultNumber.TooLong → is_liar self.now line.now.sender ≡ true }
-        ensures err { IfErr result (λ fault. (fault ≡ FaultNumber.NoSuchParty) ⊎ IsUnspelled fault) }
+        ensures err { IfErr result (λ fault. (fault ≡ FaultNumber.NoSuchParty) ⊎ IsUnencoded (FitsProposal (setting_of self.now) line.now) fault) }
     {
         let sender = self.liar_at(line.sender)?;
         let body = Body::Proposal(Proposal {
@@ -47,10 +48,11 @@ impl Parties {
     /// The frame of a liar's vote, with right tags for everyone.
     pub fn frame_of_vote(&self, alloc: Global, line: &Voting) -> Result<Vec<u8>, FaultNumber>
         ensures frame { IfOk result (λ frame. SpellsFrame frame.items (tagged (setting_of self.now) (OfVote (voted line.now)))) }
+        ensures fits { OnOk result (FitsVote (setting_of self.now) line.now) }
         ensures known { OnOk result (is_liar self.now line.now.sender ≡ true) }
         ensures unknown { IsErrOf result FaultNumber.NoSuchParty → is_liar self.now line.now.sender ≡ false }
         ensures order { IsErrOf result FaultNumber.TooLong → is_liar self.now line.now.sender ≡ true }
-        ensures err { IfErr result (λ fault. (fault ≡ FaultNumber.NoSuchParty) ⊎ IsUnspelled fault) }
+        ensures err { IfErr result (λ fault. (fault ≡ FaultNumber.NoSuchParty) ⊎ IsUnencoded (FitsVote (setting_of self.now) line.now) fault) }
     {
         let sender = self.liar_at(line.sender)?;
         let body = Body::Vote(Vote {
@@ -66,10 +68,11 @@ impl Parties {
     /// The frame of a liar's bundle, with right tags for everyone.
     pub fn frame_of_bundle(&self, alloc: Global, line: &Bundling) -> Result<Vec<u8>, FaultNumber>
         ensures frame { IfOk result (λ frame. SpellsFrame frame.items (tagged (setting_of self.now) (OfBundle (bundled (setting_of self.now) line.now)))) }
+        ensures fits { OnOk result (FitsBundle (setting_of self.now) line.now) }
         ensures known { OnOk result (list_all (is_liar self.now) (line.now.sender ∷ line.now.signers) ≡ true) }
         ensures unknown { IsErrOf result FaultNumber.NoSuchParty → list_all (is_liar self.now) (line.now.sender ∷ line.now.signers) ≡ false }
         ensures order { IsErrOf result FaultNumber.TooLong → list_all (is_liar self.now) (line.now.sender ∷ line.now.signers) ≡ true }
-        ensures err { IfErr result (λ fault. (fault ≡ FaultNumber.NoSuchParty) ⊎ IsUnspelled fault) }
+        ensures err { IfErr result (λ fault. (fault ≡ FaultNumber.NoSuchParty) ⊎ IsUnencoded (FitsBundle (setting_of self.now) line.now) fault) }
     {
         let sender = self.liar_at(line.sender)?;
         let signers = self.liars_at(alloc, line.signers.as_slice())?;
@@ -80,7 +83,7 @@ impl Parties {
     /// The frame of a client's transaction, with the tags that are to be right.
     pub fn frame_of_tx(&self, alloc: Global, line: &Tagged) -> Result<Vec<u8>, FaultNumber>
         ensures frame { IfOk result (λ frame. SpellsFrame frame.items (submitted (length self.now.powers) line.now)) }
-        ensures err { IfErr result (λ fault. IsUnspelled fault) }
+        ensures err { IfErr result (IsUnencoded (FitsTx (length self.now.powers) line.now)) }
     {
         let body = Body::Tx(bare_tx(alloc, line)?);
         let spelled = spelled(alloc, &body)?;
@@ -94,7 +97,7 @@ impl Parties {
     pub fn frame_from(&self, alloc: Global, from: Party, body: Body) -> Result<Vec<u8>, FaultNumber>
         requires { sender_of body ≡ from }
         ensures frame { IfOk result (λ frame. SpellsFrame frame.items (tagged (setting_of self.now) body)) }
-        ensures err { IfErr result (λ fault. IsUnspelled fault) }
+        ensures err { IfErr result (IsUnencoded (IsMessage (tagged (setting_of self.now) body))) }
     {
         let message = self.signed(alloc, from, body)?;
         framed(alloc, &message)
@@ -105,7 +108,7 @@ impl Parties {
     fn signed(&self, alloc: Global, from: Party, body: Body) -> Result<Message, FaultNumber>
         requires { sender_of body ≡ from }
         ensures tagged { IfOk result (λ message. message ≡ tagged (setting_of self.now) body) }
-        ensures err { IfErr result (λ fault. IsUnspelled fault) }
+        ensures err { IfErr result (IsUnencoded (IsBody body)) }
     {
         match self.tags_by(alloc, from, &body) {
             Ok(tags) => Ok(Message { body, tags }),
@@ -116,7 +119,7 @@ impl Parties {
     /// A party's tags of a body, all of them right.
     fn tags_by(&self, alloc: Global, from: Party, body: &Body) -> Result<Seq<[u8; 32]>, FaultNumber>
         ensures tags { IfOk result (λ tags. tags ≡ tags_for None from (length self.now.powers) (body_spelling body.now)) }
-        ensures err { IfErr result (λ fault. IsUnspelled fault) }
+        ensures err { IfErr result (IsUnencoded (IsBody body.now)) }
     {
         let spelled = spelled(alloc, body)?;
         let tags = tags_of(alloc, from, self.count(), &None, &spelled)?;
@@ -134,7 +137,8 @@ impl Parties {
         requires sender { sender ≡ line.now.sender }
         requires signers { signers.now ≡ line.now.signers }
         ensures bundle { IfOk result (λ bundle. bundle ≡ bundled (setting_of self.now) line.now) }
-        ensures err { IfErr result (λ fault. IsUnspelled fault) }
+        ensures named { OnOk result (IsValue line.now.named) }
+        ensures err { IfErr result (IsUnencoded (IsValue line.now.named × (length line.now.signers ≤ 128))) }
     {
         let id = id_of(alloc, &line.named)?;
         let precommits = self.precommits(alloc, signers, line.height, line.round, id)?;
@@ -172,7 +176,7 @@ impl Parties {
         id: Id,
     ) -> Result<Seq<Precommit>, FaultNumber>
         ensures each { IfOk result (λ precommits. precommits ≡ map (precommit_by (setting_of self.now) height round id) signers.now) }
-        ensures err { IfErr result (λ fault. IsUnspelled fault) }
+        ensures err { IfErr result (IsUnencoded (length signers.now ≤ 128)) }
     {
         if signers.len() > MOST_PRECOMMITS {
             return Err(FaultNumber::TooLong);
@@ -194,7 +198,7 @@ impl Parties {
         id: Id,
     ) -> Result<Precommit, FaultNumber>
         ensures same { IfOk result (λ precommit. precommit ≡ precommit_by (setting_of self.now) height round id sender) }
-        ensures err { IfErr result (λ fault. IsUnspelled fault) }
+        ensures err { IfErr result (λ fault. fault ≡ FaultNumber.OutOfMemory) }
     {
         let body = Body::Vote(Vote {
             step: Step::Precommit,
@@ -211,7 +215,8 @@ impl Parties {
 /// Nil, or the id of a value.
 fn content_of(alloc: Global, value: &Option<Value>) -> Result<Option<Id>, FaultNumber>
     ensures content { IfOk result (λ content. content ≡ option_map id value.now) }
-    ensures err { IfErr result (λ fault. IsUnspelled fault) }
+    ensures fits { OnOk result (HasId value.now) }
+    ensures err { IfErr result (IsUnencoded (HasId value.now)) }
 {
     match value {
         None => Ok(None),
@@ -222,9 +227,11 @@ fn content_of(alloc: Global, value: &Option<Value>) -> Result<Option<Id>, FaultN
 #[tactic(auto, unfolding(protocol::specs::Values::id))]
 fn id_of(alloc: Global, value: &Value) -> Result<Id, FaultNumber>
     ensures id { IfOk result (λ x. x ≡ id value.now) }
-    ensures err { IfErr result (λ fault. IsUnspelled fault) }
+    ensures fits { OnOk result (IsValue value.now) }
+    ensures err { IfErr result (IsUnencoded (IsValue value.now)) }
 {
-    Ok(value_id(alloc, value)?)
+    let bytes = spell_value(alloc, value)?;
+    Ok(Sha256::digest(&bytes))
 }
 
 /// The transaction without tags.
@@ -242,14 +249,14 @@ fn bare_tx(alloc: Global, line: &Tagged) -> Result<Tx, AllocError>
 
 fn spelled(alloc: Global, body: &Body) -> Result<Vec<u8>, FaultNumber>
     ensures spelling { IfOk result (λ bytes. bytes.items ≡ body_spelling body.now) }
-    ensures err { IfErr result (λ fault. IsUnspelled fault) }
+    ensures err { IfErr result (IsUnencoded (IsBody body.now)) }
 {
     Ok(spell_body(alloc, body)?)
 }
 
 fn framed(alloc: Global, message: &Message) -> Result<Vec<u8>, FaultNumber>
     ensures frame { IfOk result (λ frame. SpellsFrame frame.items message.now) }
-    ensures err { IfErr result (λ fault. IsUnspelled fault) }
+    ensures err { IfErr result (IsUnencoded (IsMessage message.now)) }
 {
     Ok(spell(alloc, message)?)
 }

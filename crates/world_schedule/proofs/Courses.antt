@@ -1,10 +1,10 @@
 -- Events, one after the other.
-use Rattle.std.proofs.Common.{◌≡◌, ℕ, suc, ◌+◌, ◌<◌, None, List, [], ◌∷◌, ◌++◌, length, take, get_or, refl, sym, ap, ap₂, ◌∙◌, subst, append_assoc, append-nil, arith}
+use Rattle.std.proofs.Common.{◌≡◌, ℕ, suc, ◌+◌, ◌<◌, List, [], ◌∷◌, ◌++◌, length, take, get_or, refl, sym, ap, ap₂, ◌∙◌, subst, append_assoc, append-nil, arith}
 use Rattle.std.proofs.lemmas.List.{take_more}
 use Rattle.world_parties.specs.Cast.{Cast, setting_of}
 use Rattle.world_schedule.specs.Reports.{Made, told}
 use Rattle.world_schedule.specs.Making.{Scene, scene_after}
-use Rattle.world_schedule.specs.Events.{Course, Happens, HaveHappened, course_after, cause_of}
+use Rattle.world_schedule.specs.Events.{Course, Happens, HaveHappened, course_after, CanHappen}
 use Rattle.world_schedule.specs.Worlds.{Rests, HasHappened, HaveAll}
 use Rattle.world_schedule.specs.declared.event.Event.{Event}
 use Rattle.world_schedule.specs.declared.stage.Stage.{Stage}
@@ -13,14 +13,14 @@ use Rattle.world_schedule.proofs.Turning.{scene_append, told_append}
 use Rattle.world_schedule.proofs.InTurn.{length_take}
 
 -- one event more
-pub happened_more : (cast : Cast) (w : Course) (k : ℕ) (es : List Event) (made : List Made) (mid : Course) (event : Event) (first : List Made) → HaveHappened cast w k es made mid → cause_of cast mid.scene.standing event ≡ None
+pub happened_more : (cast : Cast) (w : Course) (k : ℕ) (es : List Event) (made : List Made) (mid : Course) (event : Event) (first : List Made) → HaveHappened cast w k es made mid → CanHappen cast mid.scene.standing event
     → Happens cast mid (suc (k + length es)) event first → HaveHappened cast w k (es ++ event ∷ []) (made ++ first) (course_after cast mid event first)
 happened_more cast w k [] made mid event first h possible happens =
     let at : suc (k + 0) ≡ suc k = omega arith in (
       first,
       [],
       ap (λ l. l ++ first) h.0 ∙ sym (append-nil first),
-      subst (λ (x : Course). cause_of cast x.scene.standing event ≡ None) h.1 possible,
+      subst (λ (x : Course). CanHappen cast x.scene.standing event) h.1 possible,
       subst (λ x. Happens cast x (suc k) event first) h.1 (subst (λ n. Happens cast mid n event first) at happens),
       (refl, ap (λ x. course_after cast x event first) h.1),
     )

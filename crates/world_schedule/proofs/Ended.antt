@@ -1,5 +1,5 @@
 -- How a run ends.
-use Rattle.std.proofs.Common.{◌≡◌, ℕ, suc, ◌+◌, ◌≤◌, Bool, false, Result, Ok, Err, List, [], ◌++◌, flat_map, take, length, sym, ap, subst, ◌∙◌, arith}
+use Rattle.std.proofs.Common.{◌≡◌, ℕ, suc, ◌+◌, ◌≤◌, Bool, false, Result, Ok, Err, List, [], ◌++◌, inl, inr, flat_map, take, length, sym, ap, subst, ◌∙◌, arith}
 use Rattle.std.specs.Prelude.{IfOk, IfErr}
 use Rattle.std.proofs.lemmas.List.{take_all}
 use Rattle.world_parties.specs.Cast.{Cast, setting_of}
@@ -50,12 +50,13 @@ reported cast ms brought events old begun mid new report k same unspent rest unt
     }
 
 -- all events happened, and memory was refused to the report
-pub unreported : (cast : Cast) (ms : List Made) (brought : ℕ → ℕ → Bool) (events : List Event) (old begun mid new : World) (fault : RunFault) → HaveAll cast (course_of cast ms brought) 0 events begun mid → begun.told ≡ old.told → mid.event ≡ length events
-    → fault ≡ record { event = mid.event + 1; number = OutOfMemory; told = mid.told.items } → IsStop cast ms brought events old new fault
-unreported cast ms brought events old begun mid new fault k same count is =
+pub unreported : (cast : Cast) (ms : List Made) (brought : ℕ → ℕ → Bool) (events : List Event) (old begun mid new : World) (fault : RunFault) → HaveAll cast (course_of cast ms brought) 0 events begun mid → begun.told ≡ old.told → mid.event ≡ length events → mid.spent ≡ false
+    → fault ≡ record { event = mid.event + 1; number = OutOfMemory; told = mid.told.items } → new ≡ record mid { told = new.told; event = new.event } → IsStop cast ms brought events old new fault
+unreported cast ms brought events old begun mid new fault k same count unspent is rest =
     let c = setting_of cast in
     let all : List Made = ms ++ k.made in
     let last_is : k.last ≡ course_of cast all k.last.brought = lasts cast all k.last (k.leads ∙ sym (scene_append c beginning ms k.made)) in
+    let at : Rests cast (course_of cast all k.last.brought) mid.stage = subst (λ x. Rests cast x mid.stage) last_is k.at in
     let next : mid.event + 1 ≡ suc (length events) = omega (arith, count) in record {
       before = length events;
       event_is = ap (λ (x : RunFault). x.event) is ∙ next;
@@ -65,7 +66,7 @@ unreported cast ms brought events old begun mid new fault k same count is =
       happened = subst (λ es. HaveHappened cast (course_of cast ms brought) 0 es k.made (course_of cast all k.last.brought)) (sym (take_all (length events) events (omega arith)))
           (subst (λ x. HaveHappened cast (course_of cast ms brought) 0 events k.made x) last_is k.happened);
       told_is = ap (λ (x : RunFault). x.told) is ∙ k.told_is ∙ ap (λ v. v.items ++ told c (scene_of cast ms).standing k.made) same;
-      is_world = λ other. absurd (other (ap (λ (x : RunFault). x.number) is));
+      is_world = inl (subst (Rests cast (course_of cast all k.last.brought)) (sym (ap (λ (x : World). x.stage) rest)) at, ap (λ (x : World). x.spent) rest ∙ unspent);
       cause = λ other. absurd (other (ap (λ (x : RunFault). x.number) is));
     }
 
@@ -84,9 +85,10 @@ halted cast ms brought events number old begun mid new fault k same is rest =
       last = k.last.brought;
       happened = subst (λ x. HaveHappened cast (course_of cast ms brought) 0 (take k.before events) k.made x) last_is k.happened;
       told_is = ap (λ (x : RunFault). x.told) is ∙ k.told_is ∙ ap (λ v. v.items ++ told c (scene_of cast ms).standing k.made) same;
-      is_world = λ other.
-          let r = k.rests (λ e. other (ap (λ (x : RunFault). x.number) is ∙ e)) in
-          (subst (Rests cast (course_of cast all k.last.brought)) (sym (ap (λ (x : World). x.stage) rest)) (subst (λ x. Rests cast x mid.stage) last_is r.0), ap (λ (x : World). x.spent) rest ∙ r.1);
+      is_world = elim k.rests [
+        | inl r ↦ inl (subst (Rests cast (course_of cast all k.last.brought)) (sym (ap (λ (x : World). x.stage) rest)) (subst (λ x. Rests cast x mid.stage) last_is r.0), ap (λ (x : World). x.spent) rest ∙ r.1)
+        | inr s ↦ inr (record { starved = ap (λ (x : RunFault). x.number) is ∙ s.starved; spent = ap (λ (x : World). x.spent) rest ∙ s.spent })
+      ];
       cause = λ other. (
         k.event,
         k.event_at,

@@ -1,12 +1,13 @@
 -- What an event leaves of a world.
-use Rattle.std.proofs.Common.{◌≡◌, ◌≢◌, ℕ, ◌<◌, inl, inr, Bool, true, false, cond, Option, Some, None, Result, Ok, Err, OnOk, List, [], ◌∷◌, ◌++◌, map, set, length, eq-eqb, ne_eqb, refl, sym, ap, ap₂, ◌∙◌, subst, append-nil, arith}
+use Rattle.std.proofs.Common.{◌≡◌, ◌≢◌, ℕ, ◌<◌, ◌^◌, inl, inr, Bool, true, false, cond, Option, Some, None, Result, Ok, Err, OnOk, List, [], ◌∷◌, ◌++◌, map, set, length, eq-eqb, ne_eqb, refl, sym, ap, ap₂, ◌∙◌, subst, append-nil, arith}
 use Rattle.std.specs.Prelude.{slice_get, nat_lt, option_to_list, ◌==◌, ◌&&◌, ◌||◌, not}
 use Rattle.std.proofs.Math.ListN.{length-set}
 use Rattle.std.proofs.lemmas.Bool.{cases_eq, cases_Bool}
 use Rattle.protocol.specs.Values.{Op, Item, fresh, left_by, left_after, session_wanted, number_wanted}
 use Rattle.protocol.specs.declared.standing.Standing.{Standing as Reached}
 use Rattle.protocol.specs.Tags.{Setting}
-use Rattle.protocol.specs.Messages.{Body}
+use Rattle.messages.specs.Framing.{IsMessage}
+use Rattle.protocol.specs.Messages.{Body, tagged}
 use Rattle.protocol.specs.World.{next_item}
 use Rattle.protocol.specs.History.{Settle, Given}
 use Rattle.world_parties.specs.Cast.{Cast, setting_of, is_correct, is_client, correct}
@@ -20,7 +21,7 @@ use Rattle.world_schedule.specs.Making.{Request, Hands, Scene, IsInsisted, IsTur
 use Rattle.world_schedule.specs.Standings.{Holds, Says}
 use Rattle.world_schedule.specs.Validators.{HaveTurned}
 use Rattle.world_schedule.specs.Restarting.{HaveRestarted}
-use Rattle.world_schedule.specs.Events.{Course, Happens, asked_of, comes, passes, unless, brought_by, cause_of}
+use Rattle.world_schedule.specs.Events.{Course, Happens, asked_of, comes, passes, unless, brought_by, cause_of, CanHappen}
 use Rattle.world_schedule.specs.Worlds.{LeadOn, HaveMet, HaveSent, has_come, IsAt, IsMet, HasActed}
 use Rattle.world_schedule.specs.declared.event.Event.{Event}
 use Rattle.world_schedule.specs.declared.event.Event.TheVariants as events
@@ -120,7 +121,7 @@ pub passed_by : (holds : Bool) (fault : FaultNumber) (more : Option FaultNumber)
 passed_by holds fault more e = rw e refl
 
 -- one validator had its turn, and nothing is noted of what was brought
-pub acted : (cast : Cast) (w : Course) (event : Event) (p : ℕ) (request : Request) (old new : Stage) → cause_of cast w.scene.standing event ≡ None
+pub acted : (cast : Cast) (w : Course) (event : Event) (p : ℕ) (request : Request) (old new : Stage) → CanHappen cast w.scene.standing event
     → ((k : ℕ) (made : List Made) → AreTurns (setting_of cast) w.scene k (asked_of request p ∷ []) made → Happens cast w k event made) → ((i q : ℕ) → brought_by w event i q ≡ w.brought i q) → IsMet cast w p request old new → HasActed cast w event old new
 acted cast w event p request old new possible happens same k = record {
   made = k.made;
@@ -139,7 +140,7 @@ acted cast w event p request old new possible happens same k = record {
 }
 
 -- bytes came to a validator
-pub heard : (cast : Cast) (w : Course) (event : Event) (p q : ℕ) (wanted given : List ℕ) (old new : Stage) → q ≡ p → given ≡ wanted → cause_of cast w.scene.standing event ≡ None
+pub heard : (cast : Cast) (w : Course) (event : Event) (p q : ℕ) (wanted given : List ℕ) (old new : Stage) → q ≡ p → given ≡ wanted → CanHappen cast w.scene.standing event
     → ((k : ℕ) (made : List Made) → AreTurns (setting_of cast) w.scene k (comes p wanted) made → Happens cast w k event made) → ((i r : ℕ) → brought_by w event i r ≡ w.brought i r) → IsMet cast w q (Hands (Given given)) old new → HasActed cast w event old new
 heard cast w event p q wanted given old new e f possible happens same k =
     acted cast w event p (Hands (Given wanted)) old new possible happens same (subst (λ r. IsMet cast w r (Hands (Given wanted)) old new) e (subst (λ b. IsMet cast w q (Hands (Given b)) old new) f k))
@@ -151,7 +152,7 @@ restarts cast w p q old vs chronicle e known at k =
     let after = after_calls cast w k.made old vs chronicle at (restarted_leads c w.scene q old.validators.each.items vs.each.items old.chronicle chronicle k) (λ client. unsent_restart c w.scene old.chronicle.event q k.made client k.restart) in record {
       made = k.made;
       happens = subst (λ r. IsRestart c w.scene old.chronicle.event r k.made) e k.restart;
-      possible = passed_by (is_correct cast p) NoSuchParty None known;
+      possible = record { no_cause = passed_by (is_correct cast p) NoSuchParty None known; encodable = tt };
       at = record {
         parties = after.parties;
         correct_are = after.correct_are;
@@ -169,7 +170,7 @@ pub struck : (cast : Cast) (w : Course) (p : ℕ) (failing : Failing) (old : Sta
 struck cast w p failing old known at = record {
   made = [];
   happens = refl;
-  possible = passed_by (is_correct cast p) NoSuchParty None known;
+  possible = record { no_cause = passed_by (is_correct cast p) NoSuchParty None known; encodable = tt };
   at = record { parties = at.parties; correct_are = at.correct_are; up = at.up; places_are = at.places_are; holds = at.holds; sent = at.sent; brought = at.brought };
   told_is = sym (append-nil old.chronicle.told.items);
 }
@@ -191,7 +192,7 @@ delivered cast w number p q b given old mid brought k e f at known correct noted
     let asked : map (λ x. (p, Hands (Given (frame_in (setting_of cast) x)))) (option_to_list (slice_get w.scene.standing.numbered number)) ≡ asked_of (Hands (Given (frame_in (setting_of cast) b))) p ∷ [] = ap (λ o. map (λ x. (p, Hands (Given (frame_in (setting_of cast) x)))) (option_to_list o)) at in record {
       made = k.made;
       happens = subst (λ rs. AreTurns (setting_of cast) w.scene old.chronicle.event rs k.made) (sym asked) (k.made, [], sym (append-nil k.made), t, refl);
-      possible = passed_by _ NoSuchMessage _ known ∙ passed_by _ NoSuchParty _ correct;
+      possible = record { no_cause = passed_by _ NoSuchMessage _ known ∙ passed_by _ NoSuchParty _ correct; encodable = tt };
       at = record {
         parties = k.at.parties;
         correct_are = k.at.correct_are;
@@ -215,7 +216,7 @@ passed cast w old vs chronicle brought count at k size noted =
     let after = after_calls cast w k.made old vs chronicle at k.leads (λ client. unsent_turns (setting_of cast) w.scene old.chronicle.event _ k.made client k.turn) in record {
       made = k.made;
       happens = subst (λ rs. AreTurns (setting_of cast) w.scene old.chronicle.event rs k.made) same k.turn;
-      possible = refl;
+      possible = record { no_cause = refl; encodable = tt };
       at = record {
         parties = at.parties;
         correct_are = at.correct_are;
@@ -261,17 +262,17 @@ moved_one c clients client s call each last h known own others = (
   ],
 )
 
-pub sends : (cast : Cast) (w : Course) (client : ℕ) (op : Op) (old : Stage) (chronicle : Chronicle) (clients : Clients) → IsAt cast w old → is_client cast client ≡ true → client < cast.clients → is_shut w.scene.standing client ≡ false
+pub sends : (cast : Cast) (w : Course) (client : ℕ) (op : Op) (old : Stage) (chronicle : Chronicle) (clients : Clients) → IsAt cast w old → is_client cast client ≡ true → client < cast.clients → is_shut w.scene.standing client ≡ false → IsMessage (tagged (setting_of cast) (said_as (next_item client op (w.scene.standing.sent client))))
     → Says (setting_of cast) w.scene.standing.numbered None (said_as (next_item client op (w.scene.standing.sent client)) ∷ []) old.chronicle chronicle → clients.each.items ≡ set old.clients.each.items client (left_by (next_item client op (w.scene.standing.sent client)))
     → HasActed cast w (events.Send client op) old (record old { chronicle = chronicle; clients = clients })
-sends cast w client op old chronicle clients at known within unshut says counted =
+sends cast w client op old chronicle clients at known within unshut fits says counted =
     let m : Made = record { event = old.chronicle.event; call = Sent client op; answer = (0, 0); health = Serving } in
     let s : Scene = w.scene in
     let c : Setting = setting_of cast in
     let own : stands_in (next c s.standing (Sent client op)) client ≡ left_by (next_item client op (s.standing.sent client)) = rw (eq-eqb client client refl) (left_push fresh (s.standing.sent client) (next_item client op (s.standing.sent client))) in record {
       made = m ∷ [];
       happens = refl;
-      possible = passed_by _ NoSuchParty _ known ∙ passed_by _ ClientClosed None (ap not unshut);
+      possible = record { no_cause = passed_by _ NoSuchParty _ known ∙ passed_by _ ClientClosed None (ap not unshut); encodable = fits };
       at = record {
         parties = at.parties;
         correct_are = at.correct_are;
@@ -286,16 +287,16 @@ sends cast w client op old chronicle clients at known within unshut says counted
 
 -- ---- a client begins a session
 
-pub begins : (cast : Cast) (w : Course) (client : ℕ) (old : Stage) (clients : Clients) → IsAt cast w old → is_client cast client ≡ true → client < cast.clients → is_shut w.scene.standing client ≡ true
+pub begins : (cast : Cast) (w : Course) (client : ℕ) (old : Stage) (clients : Clients) → IsAt cast w old → is_client cast client ≡ true → client < cast.clients → is_shut w.scene.standing client ≡ true → (begun_after (stands_in w.scene.standing client)).session < 2 ^ 32
     → clients.each.items ≡ set old.clients.each.items client (begun_after (stands_in w.scene.standing client)) → HasActed cast w (events.Open client) old (record old { clients = clients })
-begins cast w client old clients at known within shut counted =
+begins cast w client old clients at known within shut session counted =
     let m : Made = record { event = old.chronicle.event; call = Began client; answer = (0, 0); health = Serving } in
     let s : Scene = w.scene in
     let c : Setting = setting_of cast in
     let own : stands_in (next c s.standing (Began client)) client ≡ begun_after (stands_in s.standing client) = rw (eq-eqb client client refl) (begun_own (left_after fresh (s.standing.sent client)) (s.standing.begun client) shut) in record {
       made = m ∷ [];
       happens = refl;
-      possible = passed_by _ NoSuchParty _ known ∙ passed_by _ NotClosed None shut;
+      possible = record { no_cause = passed_by _ NoSuchParty _ known ∙ passed_by _ NotClosed None shut; encodable = session };
       at = record {
         parties = at.parties;
         correct_are = at.correct_are;

@@ -1,18 +1,19 @@
 -- What is done to a world, and which calls it comes to.
-use Rattle.std.specs.Prelude.{◌≡◌, ◌⊎◌, ℕ, suc, Bool, true, false, cond, not, ◌&&◌, ◌||◌, Option, Some, None, List, [], ◌∷◌, ◌++◌, map, filter, length, nat_lt, option_to_list, ◌==◌}
+use Rattle.std.specs.Prelude.{◌≡◌, ◌⊎◌, ℕ, suc, ◌<◌, ◌^◌, Bool, true, false, cond, not, ◌&&◌, ◌||◌, Option, Some, None, List, [], ◌∷◌, ◌++◌, map, filter, length, nat_lt, option_to_list, ◌==◌}
 use Rattle.std.specs.List.{list_all, slice_get}
-use Rattle.messages.specs.Framing.{frame_spelling}
+use Rattle.messages.specs.Framing.{frame_spelling, IsMessage}
 use Rattle.protocol.specs.Tags.{Setting}
-use Rattle.protocol.specs.Messages.{Body, OfProposal, OfVote, OfBundle}
+use Rattle.protocol.specs.Messages.{Body, OfProposal, OfVote, OfBundle, tagged}
+use Rattle.protocol.specs.World.{next_item}
 use Rattle.protocol.specs.History.{Given, Due}
 use Rattle.world_parties.specs.Cast.{Cast, setting_of, is_correct, is_liar, is_client, correct}
-use Rattle.world_parties.specs.Sending.{proposed, voted, bundled, submitted}
+use Rattle.world_parties.specs.Sending.{proposed, voted, bundled, submitted, FitsTx, FitsProposal, FitsVote, FitsBundle}
 use Rattle.world_parties.specs.declared.fault.FaultNumber.{FaultNumber}
 use Rattle.world_parties.specs.declared.fault.FaultNumber.TheVariants.{NoSuchMessage, NoSuchParty, ClientClosed, TooLong, OutOfMemory, NotClosed}
 use Rattle.world_schedule.specs.Calls.{Sent, Began}
 use Rattle.world_schedule.specs.Health.{Serving}
 use Rattle.world_schedule.specs.Cores.{frame_in}
-use Rattle.world_schedule.specs.Reports.{Made, Standing, is_by, is_shut}
+use Rattle.world_schedule.specs.Reports.{Made, Standing, said_as, begun_after, stands_in, is_by, is_shut}
 use Rattle.world_schedule.specs.Making.{Request, Hands, Asks, Resends, Scene, scene_after, AreTurns, IsRestart}
 use Rattle.world_schedule.specs.Standings.{sayer}
 use Rattle.world_schedule.specs.declared.event.Event.{Event}
@@ -80,7 +81,7 @@ course_after cast w event made = record { scene = scene_after (setting_of cast) 
 abbrev pub unless : Bool → FaultNumber → Option FaultNumber → Option FaultNumber
 unless holds fault more = cond holds more (Some fault)
 
--- the first cause, of those that are found before anything is spelled
+-- the first cause, of those that are found before anything is encoded
 abbrev pub cause_of : Cast → Standing → Event → Option FaultNumber
 cause_of cast s (events.Send client op) = unless (is_client cast client) NoSuchParty (unless (not (is_shut s client)) ClientClosed None)
 cause_of cast s (events.Open client) = unless (is_client cast client) NoSuchParty (unless (is_shut s client) NotClosed None)
@@ -97,20 +98,25 @@ cause_of cast s (events.Vote p line) = unless (is_correct cast p) NoSuchParty (u
 cause_of cast s (events.Bundle p line) = unless (is_correct cast p) NoSuchParty (unless (list_all (is_liar cast) (line.sender ∷ line.signers)) NoSuchParty None)
 cause_of cast s (events.Frame p bytes) = unless (is_correct cast p) NoSuchParty None
 
--- whether it is about something that has to be spelled
-abbrev pub is_spelled : Event → Bool
-is_spelled (events.Send client op) = true
-is_spelled (events.Open client) = true
-is_spelled (events.Submit p line) = true
-is_spelled (events.Propose p line) = true
-is_spelled (events.Vote p line) = true
-is_spelled (events.Bundle p line) = true
-is_spelled event = false
+-- What it is about has an encoding: a message and the values that it names, or the number of a session.
+abbrev pub IsEncodable : Cast → Standing → Event → Type 0
+IsEncodable cast s (events.Send client op) = IsMessage (tagged (setting_of cast) (said_as (next_item client op (s.sent client))))
+IsEncodable cast s (events.Open client) = (begun_after (stands_in s client)).session < 2 ^ 32
+IsEncodable cast s (events.Submit p line) = FitsTx (length cast.powers) line
+IsEncodable cast s (events.Propose p line) = FitsProposal (setting_of cast) line
+IsEncodable cast s (events.Vote p line) = FitsVote (setting_of cast) line
+IsEncodable cast s (events.Bundle p line) = FitsBundle (setting_of cast) line
+IsEncodable cast s event = Unit {0}
 
--- The fault is the first cause, or that there is no spelling, where no other cause is. Memory can be wanting to any event.
+-- No fault but want of memory applies to it.
+pub record CanHappen (cast : Cast) (s : Standing) (event : Event) : Type 0 where
+  pub no_cause : cause_of cast s event ≡ None
+  pub encodable : IsEncodable cast s event
+
+-- The fault is the first cause, or that there is no encoding, where no other cause is. Memory can be wanting to any event.
 abbrev pub CannotHappen : FaultNumber → Cast → Standing → Event → Type 0
 CannotHappen OutOfMemory cast s event = Unit {0}
-CannotHappen TooLong cast s event = (cause_of cast s event ≡ None) × (is_spelled event ≡ true)
+CannotHappen TooLong cast s event = (cause_of cast s event ≡ None) × (IsEncodable cast s event → ⊥)
 CannotHappen NoSuchMessage cast s event = cause_of cast s event ≡ Some NoSuchMessage
 CannotHappen NoSuchParty cast s event = cause_of cast s event ≡ Some NoSuchParty
 CannotHappen ClientClosed cast s event = cause_of cast s event ≡ Some ClientClosed
@@ -125,5 +131,5 @@ IsUnknown cast p fault = (fault ≡ OutOfMemory) ⊎ ((fault ≡ NoSuchParty) ×
 -- Events, of which the first is the one after event k, are these calls, and leave the world so.
 abbrev pub HaveHappened : Cast → Course → ℕ → List Event → List Made → Course → Type 0
 HaveHappened cast w k [] made last = (made ≡ []) × (last ≡ w)
-HaveHappened cast w k (event ∷ more) made last = (first : List Made) × (rest : List Made) × (made ≡ first ++ rest) × (cause_of cast w.scene.standing event ≡ None) × Happens cast w (suc k) event first
+HaveHappened cast w k (event ∷ more) made last = (first : List Made) × (rest : List Made) × (made ≡ first ++ rest) × CanHappen cast w.scene.standing event × Happens cast w (suc k) event first
     × HaveHappened cast (course_after cast w event first) (suc k) more rest last

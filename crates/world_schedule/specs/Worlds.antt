@@ -1,5 +1,5 @@
 -- A world of code, and the run that its report tells of.
-use Rattle.std.specs.Prelude.{◌≡◌, ◌≢◌, ℕ, suc, ◌<◌, ◌≤◌, Bool, false, ◌||◌, ◌&&◌, Option, Some, None, List, [], ◌∷◌, ◌++◌, map, flat_map, take, length, nat_lt, ◌==◌}
+use Rattle.std.specs.Prelude.{◌≡◌, ◌≢◌, ◌⊎◌, ℕ, suc, ◌<◌, ◌≤◌, Bool, true, false, ◌||◌, ◌&&◌, Option, Some, None, List, [], ◌∷◌, ◌++◌, map, flat_map, take, length, nat_lt, ◌==◌}
 use Rattle.std.specs.List.{list_any, slice_get}
 use Rattle.protocol.specs.Values.{items}
 use Rattle.protocol.specs.Tags.{Setting}
@@ -9,13 +9,13 @@ use Rattle.protocol.specs.History.{Settle}
 use Rattle.round_states.specs.Machine.{Machine}
 use Rattle.world_parties.specs.Cast.{Cast, setting_of, is_correct, correct, LiesIn}
 use Rattle.world_parties.specs.declared.fault.FaultNumber.{FaultNumber}
-use Rattle.world_parties.specs.declared.fault.FaultNumber.TheVariants.{OutOfMemory}
+use Rattle.world_parties.specs.declared.fault.FaultNumber.TheVariants.{NoSuchParty, OutOfMemory}
 use Rattle.world_schedule.specs.Reports.{Made, calls_of, stands_in, told, end_of}
 use Rattle.world_schedule.specs.Making.{Request, Hands, Scene, beginning, scene_after, IsTurn, AreTurns}
 use Rattle.world_schedule.specs.Serving.{AreServed}
 use Rattle.world_schedule.specs.Standings.{Holds}
 use Rattle.world_schedule.specs.Validators.{AreUp, places}
-use Rattle.world_schedule.specs.Events.{Course, asked_of, Happens, HaveHappened, course_after, cause_of, CannotHappen}
+use Rattle.world_schedule.specs.Events.{Course, asked_of, Happens, HaveHappened, course_after, CanHappen, CannotHappen}
 use Rattle.world_schedule.specs.declared.validator.Validator.{Validator}
 use Rattle.world_schedule.specs.declared.restarting.Stopped.{Stopped}
 use Rattle.world_schedule.specs.declared.seat.Seat.{Seat}
@@ -120,6 +120,10 @@ pub record HasBegun (cast : Cast) (world : World) : Type 0 where
   pub told_is : world.told.items ≡ told (setting_of cast) beginning.standing made
   pub served : AreServed world.told.items
 
+-- There are no such parties; or there are, and memory was refused.
+abbrev pub IsUnopened : Bool → FaultNumber → Type 0
+IsUnopened parties fault = ((fault ≡ NoSuchParty) × (parties ≡ false)) ⊎ ((fault ≡ OutOfMemory) × (parties ≡ true))
+
 -- with these powers, so many clients, and these liars
 pub record HasOpened (powers : List ℕ) (clients : ℕ) (liars : List ℕ) (world : World) : Type 0 where
   pub cast : Cast
@@ -141,7 +145,7 @@ pub record IsMet (cast : Cast) (w : Course) (p : ℕ) (request : Request) (old n
 pub record HasActed (cast : Cast) (w : Course) (event : Event) (old new : Stage) : Type 0 where
   pub made : List Made
   pub happens : Happens cast w old.chronicle.event event made
-  pub possible : cause_of cast w.scene.standing event ≡ None
+  pub possible : CanHappen cast w.scene.standing event
   pub at : IsAt cast (course_after cast w event made) new
   pub told_is : new.chronicle.told.items ≡ old.chronicle.told.items ++ told (setting_of cast) w.scene.standing made
 
@@ -149,7 +153,7 @@ pub record HasActed (cast : Cast) (w : Course) (event : Event) (old new : Stage)
 pub record HasHappened (cast : Cast) (w : Course) (k : ℕ) (event : Event) (old new : World) : Type 0 where
   pub made : List Made
   pub happens : Happens cast w k event made
-  pub possible : cause_of cast w.scene.standing event ≡ None
+  pub possible : CanHappen cast w.scene.standing event
   pub at : Rests cast (course_after cast w event made) new.stage
   pub told_is : new.told.items ≡ old.told.items ++ told (setting_of cast) w.scene.standing made
 
@@ -162,6 +166,11 @@ pub record HaveAll (cast : Cast) (w : Course) (k : ℕ) (events : List Event) (o
   pub at : Rests cast last new.stage
   pub told_is : new.told.items ≡ old.told.items ++ told (setting_of cast) w.scene.standing made
 
+-- Memory was refused in the midst of an event, and the world is spent.
+pub record IsSpent (fault : FaultNumber) (world : World) : Type 0 where
+  pub starved : fault ≡ OutOfMemory
+  pub spent : world.spent ≡ true
+
 -- Some of the events happened, and the one after them can't, for its first cause.
 pub record HaveSome (cast : Cast) (w : Course) (events : List Event) (fault : FaultNumber) (old new : World) : Type 0 where
   pub before : ℕ
@@ -172,7 +181,7 @@ pub record HaveSome (cast : Cast) (w : Course) (events : List Event) (fault : Fa
   pub happened : HaveHappened cast w 0 (take before events) made last
   pub leads : last.scene ≡ scene_after (setting_of cast) w.scene made
   pub told_is : new.told.items ≡ old.told.items ++ told (setting_of cast) w.scene.standing made
-  pub rests : fault ≢ OutOfMemory → Rests cast last new.stage × (new.spent ≡ false)
+  pub rests : (Rests cast last new.stage × (new.spent ≡ false)) ⊎ IsSpent fault new
   pub event : Event
   pub event_at : slice_get events before ≡ Some event
   pub cause : CannotHappen fault cast last.scene.standing event
@@ -187,7 +196,7 @@ pub record IsReport (cast : Cast) (ms : List Made) (brought : ℕ → ℕ → Bo
   pub untold : new.told.items ≡ []
   pub ends_are : report.ends ≡ map (end_of (setting_of cast) (calls_of (ms ++ more))) (correct cast)
 
--- The event after some of these can't happen, for its first cause: those before it stand, and are told.
+-- The event after some of these can't happen, for its first cause: those before it stand, and are told. The world stands as they left it, or is spent.
 pub record IsStop (cast : Cast) (ms : List Made) (brought : ℕ → ℕ → Bool) (events : List Event) (old new : World) (fault : RunFault) : Type 0 where
   pub before : ℕ
   pub event_is : fault.event ≡ suc before
@@ -196,5 +205,5 @@ pub record IsStop (cast : Cast) (ms : List Made) (brought : ℕ → ℕ → Bool
   pub last : ℕ → ℕ → Bool
   pub happened : HaveHappened cast (record { scene = scene_of cast ms; brought = brought }) 0 (take before events) more (record { scene = scene_of cast (ms ++ more); brought = last })
   pub told_is : fault.told ≡ old.told.items ++ told (setting_of cast) (scene_of cast ms).standing more
-  pub is_world : fault.number ≢ OutOfMemory → IsWorld cast (ms ++ more) last new
+  pub is_world : IsWorld cast (ms ++ more) last new ⊎ IsSpent fault.number new
   pub cause : fault.number ≢ OutOfMemory → (event : Event) × (slice_get events before ≡ Some event) × CannotHappen fault.number cast (scene_of cast (ms ++ more)).standing event

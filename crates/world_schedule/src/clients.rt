@@ -1,6 +1,6 @@
 //! What the clients of a world sent.
 
-ghost use Rattle.std.specs.Prelude.{◌≡◌, ◌⊎◌, true, false, set, slice_get, Some, IfOk, IfErr, OnOk};
+ghost use Rattle.std.specs.Prelude.{◌≡◌, ◌⊎◌, ◌<◌, ◌≤◌, ◌^◌, true, false, set, slice_get, Some, IfOk, IfErr, OnOk};
 ghost use Rattle.protocol.specs.Values.{fresh, is_close, session_wanted, number_wanted};
 ghost use Rattle.protocol.specs.declared.standing.Standing.{Standing as Reached};
 ghost use Rattle.world_schedule.specs.Reports.{begun_after};
@@ -74,10 +74,10 @@ impl Clients {
     ///
     /// `NotClosed` (6) where it has not sent its close; `TooLong` (4) behind the last session that there is.
     pub(crate) fn begin(&mut self, client: u16) -> Result<(), FaultNumber>
-        ensures ok { (reached : Reached) → slice_get self.old.each.items client ≡ Some reached → OnOk result ((reached.closed ≡ true) × (self.new.each.items ≡ set self.old.each.items client (begun_after reached))) }
+        ensures ok { (reached : Reached) → slice_get self.old.each.items client ≡ Some reached → OnOk result ((reached.closed ≡ true) × ((begun_after reached).session < 2 ^ 32) × (self.new.each.items ≡ set self.old.each.items client (begun_after reached))) }
         ensures err { IfErr result (λ fault. self.new ≡ self.old) }
         ensures cause { (reached : Reached) → slice_get self.old.each.items client ≡ Some reached
-            → IfErr result (λ fault. ((fault ≡ FaultNumber.NotClosed) × (reached.closed ≡ false)) ⊎ (((fault ≡ FaultNumber.TooLong) × (reached.closed ≡ true)) ⊎ (fault ≡ FaultNumber.OutOfMemory))) }
+            → IfErr result (λ fault. ((fault ≡ FaultNumber.NotClosed) × (reached.closed ≡ false)) ⊎ (((fault ≡ FaultNumber.TooLong) × (reached.closed ≡ true) × (2 ^ 32 ≤ (begun_after reached).session)) ⊎ (fault ≡ FaultNumber.OutOfMemory))) }
     {
         let place = usize::from(client);
         if place >= self.each.len() {

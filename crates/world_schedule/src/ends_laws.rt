@@ -1,7 +1,7 @@
 //! What the ends of a report come to.
 
 ghost use Rattle.world_schedule.specs.Ends.{EndsLaw, SceneLaw};
-ghost use Rattle.world_schedule.specs.Outcome.{OutcomeLaw};
+ghost use Rattle.world_schedule.specs.Outcome.{OutcomeLaw, ReportsLaw};
 
 /// Any two ends of one report, of correct validators: of their delivered lists one begins the other, each keeps every
 /// client's order, and a correct client's items in it begin what the client sent. The premises are on the very run that
@@ -19,4 +19,11 @@ pub fn scene_law()
 /// other, each keeps every client's order, and a correct client's items in it begin what the client sent.
 pub fn outcome_law()
     ensures { OutcomeLaw }
+{}
+
+/// Any end of a report of a world's run and any end of a later report of the same world, whatever was done between. Of one
+/// validator the earlier delivered list begins the later. Of two correct ones, one begins the other, the later keeps every
+/// client's order, and a correct client's items in it begin what the client sent.
+pub fn reports_law()
+    ensures { ReportsLaw }
 {}

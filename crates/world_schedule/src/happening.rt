@@ -1,10 +1,10 @@
 //! What each event does.
 
 ghost use Rattle.std.specs.Prelude.{◌≡◌, ◌≢◌, true, IfOk, OnOk, IfErr};
-ghost use Rattle.messages.specs.Framing.{SpellsFrame};
+ghost use Rattle.messages.specs.Framing.{SpellsFrame, IsMessage};
 ghost use Rattle.protocol.specs.Tags.{Setting};
 ghost use Rattle.protocol.specs.Messages.{tagged};
-ghost use Rattle.world_parties.specs.Faults.{IsUnspelled};
+ghost use Rattle.world_parties.specs.Faults.{IsUnencoded};
 ghost use Rattle.world_parties.specs.Cast.{Cast, setting_of, is_correct};
 ghost use Rattle.world_schedule.specs.Reports.{said_as};
 ghost use Rattle.world_schedule.specs.Making.{Scene, Request as Wanted};
@@ -167,7 +167,7 @@ impl Stage {
         op: &Op,
     ) -> Result<Vec<u8>, FaultNumber>
         ensures frame { IfOk result (λ frame. SpellsFrame frame.items (tagged (setting_of self.now.parties) (said_as (record { client = client; session = session; number = number; op = op.now })))) }
-        ensures err { IfErr result IsUnspelled }
+        ensures err { IfErr result (IsUnencoded (IsMessage (tagged (setting_of self.now.parties) (said_as (record { client = client; session = session; number = number; op = op.now }))))) }
     {
         let tx = Tx {
             client,

@@ -34,7 +34,7 @@ pub use core_laws::{
     answered_law, called_law, core_law, count_law, growing_law, handed_law, headline_law, kept_law,
     own_law, step_law,
 };
-pub use ends_laws::{ends_law, outcome_law, scene_law};
+pub use ends_laws::{ends_law, outcome_law, reports_law, scene_law};
 pub use event::{Event, Failing};
 pub use fault::RunFault;
 pub use handing::{hand_frame, hand_timeout, settle};

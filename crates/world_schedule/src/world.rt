@@ -1,12 +1,12 @@
 //! A world: validators, what clients send and liars say, and what comes to whom.
 
-ghost use Rattle.std.specs.Prelude.{◌≡◌, ◌≢◌, ◌⊎◌, ◌<◌, ◌+◌, ◌-◌, ◌^◌, ◌∷◌, [], ◌&&◌, ℕ, Bool, List, true, false, length, flat_map, option_map, is_some, Err, IfOk, OnOk, IfErr, IfSome};
-ghost use Rattle.world_parties.specs.Cast.{Cast, setting_of, is_correct};
+ghost use Rattle.std.specs.Prelude.{◌≡◌, ◌≢◌, ◌<◌, ◌+◌, ◌-◌, ◌^◌, ◌∷◌, [], ◌&&◌, ℕ, Bool, List, true, false, length, flat_map, option_map, is_some, Err, IfOk, OnOk, IfErr, IsErrOf, IfSome};
+ghost use Rattle.world_parties.specs.Cast.{Cast, setting_of, is_correct, are_parties};
 ghost use Rattle.world_schedule.specs.Calls.{node_after};
 ghost use Rattle.world_schedule.specs.Health.{has_node};
 ghost use Rattle.world_schedule.specs.Reports.{Made, calls_of};
 ghost use Rattle.world_schedule.specs.Events.{Course, CannotHappen};
-ghost use Rattle.world_schedule.specs.Worlds.{HasOpened, HasBegun, HasHappened, HaveAll, HaveSome, Rests, scene_of, IsWorld, IsReport, IsStop, ends_in, machine_at};
+ghost use Rattle.world_schedule.specs.Worlds.{IsUnopened, HasOpened, HasBegun, HasHappened, HaveAll, HaveSome, Rests, scene_of, IsWorld, IsReport, IsStop, ends_in, machine_at};
 
 use crate::event::Event;
 use crate::fault::RunFault;
@@ -43,7 +43,8 @@ impl World {
         liars: &[u16],
     ) -> Result<World, RunFault>
         ensures opened { IfOk result (λ world. HasOpened powers clients liars.now world) }
-        ensures err { IfErr result (λ fault. (fault.event ≡ 0) × (fault.told ≡ []) × ((fault.number ≡ FaultNumber.NoSuchParty) ⊎ (fault.number ≡ FaultNumber.OutOfMemory))) }
+        ensures fit { OnOk result (are_parties powers clients liars.now ≡ true) }
+        ensures err { IfErr result (λ fault. (fault.event ≡ 0) × (fault.told ≡ []) × IsUnopened (are_parties powers clients liars.now) fault.number) }
     {
         match World::open(alloc, powers, clients, liars) {
             Ok(world) => Ok(world),
@@ -62,7 +63,8 @@ impl World {
         liars: &[u16],
     ) -> Result<World, FaultNumber>
         ensures opened { IfOk result (λ world. HasOpened powers clients liars.now world) }
-        ensures err { IfErr result (λ fault. (fault ≡ FaultNumber.NoSuchParty) ⊎ (fault ≡ FaultNumber.OutOfMemory)) }
+        ensures fit { OnOk result (are_parties powers clients liars.now ≡ true) }
+        ensures err { IfErr result (IsUnopened (are_parties powers clients liars.now)) }
     {
         let parties = Parties::new(powers, clients, liars)?;
         Ok(World::of(alloc, parties, clients)?)
@@ -91,7 +93,7 @@ impl World {
     pub fn run(&mut self, events: &[Event]) -> Result<Report, RunFault>
         ensures ok { (cast : Cast) (ms : List Made) (brought : ℕ → ℕ → Bool) → IsWorld cast ms brought self.old → IfOk result (λ report. IsReport cast ms brought events.now self.old self.new report) }
         ensures err { (cast : Cast) (ms : List Made) (brought : ℕ → ℕ → Bool) → IsWorld cast ms brought self.old → IfErr result (λ fault. IsStop cast ms brought events.now self.old self.new fault) }
-        ensures spent { self.old.spent ≡ true → result ≡ Err (record { event = 1; number = FaultNumber.OutOfMemory; told = [] }) }
+        ensures spent { self.old.spent ≡ true → (result ≡ Err (record { event = 1; number = FaultNumber.OutOfMemory; told = [] })) × (self.new ≡ self.old) }
     {
         if self.spent {
             return Err(RunFault {
@@ -142,6 +144,7 @@ impl World {
         ensures serves { OnOk result (self.new.spent ≡ self.old.spent) }
         ensures err { (cast : Cast) (w : Course) → Rests cast w self.old.stage → IfErr result (λ fault. fault ≢ FaultNumber.OutOfMemory → Rests cast w self.new.stage) }
         ensures spends { IfErr result (λ fault. fault ≢ FaultNumber.OutOfMemory → self.new.spent ≡ false) }
+        ensures starves { IsErrOf result FaultNumber.OutOfMemory → self.new.spent ≡ true }
         ensures stays { IfErr result (λ fault. self.new.told.items ≡ self.old.told.items) }
         ensures cause { (cast : Cast) (w : Course) → Rests cast w self.old.stage → IfErr result (λ fault. CannotHappen fault cast w.scene.standing event.now) }
         ensures event { self.new.event ≡ self.old.event }

@@ -25,4 +25,4 @@ pub returns : goal.returns
 returns c =
     let liars = c.args.liars.now in
     let all : take c.loop-liar.liar-index liars ≡ liars = take_all c.loop-liar.liar-index liars (omega (arith, c.loop-liar-test.false)) in
-    λ q. rw all at (c.loop-liar.invariant.2 q)
+    (rw all at c.loop-liar.invariant.1, λ q. rw all at (c.loop-liar.invariant.2 q))

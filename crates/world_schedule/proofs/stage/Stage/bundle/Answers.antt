@@ -1,8 +1,8 @@
-use Rattle.std.proofs.Common.{◌≡◌, ◌∙◌, true, ◌∷◌, refl, ap, subst, false, Err}
+use Rattle.std.proofs.Common.{◌≡◌, ◌∙◌, true, ◌∷◌, refl, sym, ap, subst, false, Err}
 use Rattle.std.specs.List.{list_all}
 use Rattle.protocol.specs.Messages.{OfBundle}
 use Rattle.world_parties.specs.Cast.{Cast, setting_of, is_correct, is_liar}
-use Rattle.world_parties.specs.Sending.{bundled}
+use Rattle.world_parties.specs.Sending.{bundled, FitsBundle}
 use Rattle.world_parties.specs.declared.fault.FaultNumber.TheVariants.{NoSuchParty, TooLong}
 use Rattle.world_schedule.specs.Cores.{frame_in}
 use Rattle.world_schedule.specs.declared.event.Event.TheVariants as events
@@ -18,7 +18,7 @@ returns-clause-ok c = λ cast w at.
     on_ok_both c.meet.result (c.meet.ensures.met cast w at) (λ k. heard cast w (events.Bundle c.args.validator c.args.line.now) c.args.validator c.in_ok-to.to (frame_in (setting_of cast) (OfBundle (bundled (setting_of cast) c.args.line.now))) c.deref.result.now c.args.self.now c.meet.new.self
     c.in_ok-to.ensures.ok.0
     (c.deref.ensures.value ∙ c.in_ok-frame.ensures.frame.same ∙ ap (λ (x : Cast). frame_in (setting_of x) (OfBundle (bundled (setting_of x) c.args.line.now))) at.parties)
-    (passed_by (is_correct cast c.args.validator) NoSuchParty _ known ∙ passed_by (list_all (is_liar cast) (c.args.line.now.sender ∷ c.args.line.now.signers)) NoSuchParty _ (subst (λ (x : Cast). list_all (is_liar x) (c.args.line.now.sender ∷ c.args.line.now.signers) ≡ true) at.parties c.in_ok-frame.ensures.known))
+    (record { no_cause = passed_by (is_correct cast c.args.validator) NoSuchParty _ known ∙ passed_by (list_all (is_liar cast) (c.args.line.now.sender ∷ c.args.line.now.signers)) NoSuchParty _ (subst (λ (x : Cast). list_all (is_liar x) (c.args.line.now.sender ∷ c.args.line.now.signers) ≡ true) at.parties c.in_ok-frame.ensures.known); encodable = subst (λ (x : Cast). FitsBundle (setting_of x) c.args.line.now) at.parties c.in_ok-frame.ensures.fits })
     (λ j made t. t) (λ i r. refl) k)
 
 pub returns-in_err-to-clause-cause : goal.returns-in_err-to-clause-cause
@@ -31,7 +31,7 @@ returns-in_err-frame-clause-cause c = λ cast w at.
     let known : is_correct cast c.args.validator ≡ true = subst (λ (x : Cast). is_correct x c.args.validator ≡ true) at.parties c.in_ok-to.ensures.ok.1 in
     let unknown : fault ≡ NoSuchParty → list_all (is_liar cast) (c.args.line.now.sender ∷ c.args.line.now.signers) ≡ false = subst (λ (x : Cast). fault ≡ NoSuchParty → list_all (is_liar x) (c.args.line.now.sender ∷ c.args.line.now.signers) ≡ false) at.parties (λ e. c.in_err-frame.ensures.unknown (ap Err e)) in
     let order : fault ≡ TooLong → list_all (is_liar cast) (c.args.line.now.sender ∷ c.args.line.now.signers) ≡ true = subst (λ (x : Cast). fault ≡ TooLong → list_all (is_liar x) (c.args.line.now.sender ∷ c.args.line.now.signers) ≡ true) at.parties (λ e. c.in_err-frame.ensures.order (ap Err e)) in
-    cause_from _ c.from_residual-in_err-frame.result _ c.from_residual-in_err-frame.ensures.1 (frame_cause cast w.scene.standing (events.Bundle c.args.validator c.args.line.now) (list_all (is_liar cast) (c.args.line.now.sender ∷ c.args.line.now.signers)) fault (passed_by (is_correct cast c.args.validator) NoSuchParty _ known) refl unknown order c.in_err-frame.ensures.err)
+    cause_from _ c.from_residual-in_err-frame.result _ c.from_residual-in_err-frame.ensures.1 (frame_cause cast w.scene.standing (events.Bundle c.args.validator c.args.line.now) (list_all (is_liar cast) (c.args.line.now.sender ∷ c.args.line.now.signers)) _ fault (passed_by (is_correct cast c.args.validator) NoSuchParty _ known) (subst (λ (x : Cast). FitsBundle (setting_of x) c.args.line.now) (sym at.parties)) unknown order c.in_err-frame.ensures.err)
 
 pub returns-clause-cause : goal.returns-clause-cause
 returns-clause-cause c = λ cast w at. if_err _ _ c.meet.result c.meet.ensures.err (starved_cause cast w.scene.standing (events.Bundle c.args.validator c.args.line.now))

@@ -17,26 +17,26 @@ returns-in-Timeout-clause-ok c = λ cast w at.
     let p = c.in-Timeout.validator in
     let t = c.in-Timeout.timeout in
     on_ok_two c.turn.result (c.turn.ensures.met cast w at) (c.turn.ensures.known cast at.parties) (λ k e. subst (λ x. HasActed cast w x c.args.self.now c.turn.new.self) (sym c.in-Timeout.is)
-    (acted cast w (events.Timeout p t) p (Hands (Due t)) c.args.self.now c.turn.new.self (passed_by (is_correct cast p) NoSuchParty _ e) (λ j made x. x) (λ i r. refl) k))
+    (acted cast w (events.Timeout p t) p (Hands (Due t)) c.args.self.now c.turn.new.self (record { no_cause = passed_by (is_correct cast p) NoSuchParty _ e; encodable = tt }) (λ j made x. x) (λ i r. refl) k))
 
 pub returns-in-Ask-clause-ok : goal.returns-in-Ask-clause-ok
 returns-in-Ask-clause-ok c = λ cast w at.
     let p = c.in-Ask.validator in
     on_ok_two c.turn-in-Ask.result (c.turn-in-Ask.ensures.met cast w at) (c.turn-in-Ask.ensures.known cast at.parties) (λ k e. subst (λ x. HasActed cast w x c.args.self.now c.turn-in-Ask.new.self) (sym c.in-Ask.is)
-    (acted cast w (events.Ask p) p Asks c.args.self.now c.turn-in-Ask.new.self (passed_by (is_correct cast p) NoSuchParty _ e) (λ j made x. x) (λ i r. refl) k))
+    (acted cast w (events.Ask p) p Asks c.args.self.now c.turn-in-Ask.new.self (record { no_cause = passed_by (is_correct cast p) NoSuchParty _ e; encodable = tt }) (λ j made x. x) (λ i r. refl) k))
 
 pub returns-in-Resend-clause-ok : goal.returns-in-Resend-clause-ok
 returns-in-Resend-clause-ok c = λ cast w at.
     let p = c.in-Resend.validator in
     on_ok_two c.turn-in-Resend.result (c.turn-in-Resend.ensures.met cast w at) (c.turn-in-Resend.ensures.known cast at.parties) (λ k e. subst (λ x. HasActed cast w x c.args.self.now c.turn-in-Resend.new.self) (sym c.in-Resend.is)
-    (acted cast w (events.Resend p) p Resends c.args.self.now c.turn-in-Resend.new.self (passed_by (is_correct cast p) NoSuchParty _ e) (λ j made x. x) (λ i r. refl) k))
+    (acted cast w (events.Resend p) p Resends c.args.self.now c.turn-in-Resend.new.self (record { no_cause = passed_by (is_correct cast p) NoSuchParty _ e; encodable = tt }) (λ j made x. x) (λ i r. refl) k))
 
 pub returns-in-Frame-clause-ok : goal.returns-in-Frame-clause-ok
 returns-in-Frame-clause-ok c = λ cast w at.
     let p = c.in-Frame.validator in
     let bytes = c.in-Frame.bytes in
     on_ok_two c.turn-in-Frame.result (c.turn-in-Frame.ensures.met cast w at) (c.turn-in-Frame.ensures.known cast at.parties) (λ k e. subst (λ x. HasActed cast w x c.args.self.now c.turn-in-Frame.new.self) (sym c.in-Frame.is)
-    (acted cast w (events.Frame p bytes) p (Hands (Given bytes)) c.args.self.now c.turn-in-Frame.new.self (passed_by (is_correct cast p) NoSuchParty _ e) (λ j made x. x) (λ i r. refl) (subst (λ b. IsMet cast w p (Hands (Given b)) c.args.self.now c.turn-in-Frame.new.self) c.as_slice.ensures k)))
+    (acted cast w (events.Frame p bytes) p (Hands (Given bytes)) c.args.self.now c.turn-in-Frame.new.self (record { no_cause = passed_by (is_correct cast p) NoSuchParty _ e; encodable = tt }) (λ j made x. x) (λ i r. refl) (subst (λ b. IsMet cast w p (Hands (Given b)) c.args.self.now c.turn-in-Frame.new.self) c.as_slice.ensures k)))
 
 pub returns-in-Timeout-clause-cause : goal.returns-in-Timeout-clause-cause
 returns-in-Timeout-clause-cause c = λ cast w at.

@@ -1,6 +1,6 @@
 use Rattle.std.proofs.Common.{◌≡◌, ◌∙◌, ◌<◌, ℕ, true, set, ap, subst, false, refl, inl, inr, sym}
 use Rattle.std.specs.Prelude.{slice_get, not}
-use Rattle.messages.specs.Framing.{SpellsFrame}
+use Rattle.messages.specs.Framing.{SpellsFrame, IsMessage}
 use Rattle.messages.proofs.MessageFormats.{frame_again}
 use Rattle.protocol.specs.Values.{Item, Op, left_by}
 use Rattle.protocol.specs.Messages.{Body, tagged}
@@ -10,11 +10,14 @@ use Rattle.world_schedule.specs.Reports.{said_as, stands_in, is_shut}
 use Rattle.world_schedule.proofs.Clauses.{at_ok}
 use Rattle.world_schedule.proofs.InTurn.{less_of}
 use Rattle.world_schedule.proofs.Happenings.{sends, passed_by, wanted_same}
-use Rattle.world_schedule.proofs.Causes.{cause_from, party_cause, unspelled_cause, starved_cause, stopped_by}
+use Rattle.world_schedule.proofs.Causes.{cause_from, party_cause, unencoded_cause, starved_cause, stopped_by}
 use Rattle.world_parties.specs.declared.fault.FaultNumber.TheVariants.{NoSuchParty, ClientClosed}
 use Rattle.world_schedule.specs.Events.{CannotHappen}
 use Rattle.world_schedule.specs.declared.event.Event.TheVariants as events
 use Rattle.world_schedule.proofs.stage.Stage.send.Goals as goal
+
+item_of : (a b c d e f : ℕ) (op : Op) → a ≡ b → c ≡ d → e ≡ f → (let x : Item = record { client = a; session = c; number = e; op = op } in x) ≡ record { client = b; session = d; number = f; op = op }
+item_of a b c d e f op i j k = cc
 
 pub returns-in-Ok-clause-ok : goal.returns-in-Ok-clause-ok
 returns-in-Ok-clause-ok c = λ cast w at.
@@ -35,11 +38,8 @@ returns-in-Ok-clause-ok c = λ cast w at.
     let spelled : SpellsFrame c.in_ok-frame.frame.items (tagged (setting_of cast) body) = subst (λ (x : Item). SpellsFrame c.in_ok-frame.frame.items (tagged (setting_of cast) (said_as x))) is_item
     (subst (λ (x : Cast). SpellsFrame c.in_ok-frame.frame.items (tagged (setting_of x) (said_as (record { client = c.in_ok-sender.sender; session = session; number = number; op = op })))) at.parties c.in_ok-frame.ensures.frame) in
     let says = at_ok _ c.tell_message.result (c.tell_message.ensures (setting_of cast) s.numbered body at.holds (c.deref.ensures.value ∙ spelled.same) (frame_again (tagged (setting_of cast) body) spelled.lawful)) c.in-Ok.is in
-    sends cast w client op c.args.self.now c.tell_message.new.self c.note.new.self at known within next.2 says
+    sends cast w client op c.args.self.now c.tell_message.new.self c.note.new.self at known within next.2 spelled.lawful says
     (c.note.ensures ∙ ap (λ (x : Item). set each x.client (left_by x)) is_item)
-  where
-    item_of : (a b c d e f : ℕ) (op : Op) → a ≡ b → c ≡ d → e ≡ f → (let x : Item = record { client = a; session = c; number = e; op = op } in x) ≡ record { client = b; session = d; number = f; op = op }
-    item_of a b c d e f op i j k = cc
 
 pub returns-in_err-sender-clause-cause : goal.returns-in_err-sender-clause-cause
 returns-in_err-sender-clause-cause c = λ cast w at.
@@ -67,4 +67,12 @@ returns-in_err-frame-clause-cause c = λ cast w at.
     let same : c.in_ok-sender.sender ≡ client = c.in_ok-sender.ensures.ok.0 in
     let known : is_client cast client ≡ true = subst (λ (x : Cast). is_client x client ≡ true) at.parties c.in_ok-sender.ensures.ok.1 in
     let next = c.in_ok-session.ensures.ok (stands_in s client) (ap (λ i. slice_get c.args.self.now.clients.each.items i) same ∙ at.sent.1 client (less_of client cast.clients known)) in
-    cause_from _ c.from_residual-in_err-frame.result _ c.from_residual-in_err-frame.ensures.1 (unspelled_cause cast w.scene.standing (events.Send c.args.client c.args.op.now) c.in_err-frame.field-0.0 (passed_by (is_client cast client) NoSuchParty _ known ∙ passed_by (not (is_shut s client)) ClientClosed _ (ap not next.2)) refl c.in_err-frame.ensures.err)
+    let session = c.in_ok-session.session in
+    let number = c.in_ok-session.number in
+    let op = c.args.op.now in
+    let t : Item = next_item client op (s.sent client) in
+    let wanted = wanted_same s client in
+    let is_item : record { client = c.in_ok-sender.sender; session = session; number = number; op = op } ≡ t = item_of c.in_ok-sender.sender client session t.session number t.number op same (next.0 ∙ wanted.0) (next.1 ∙ wanted.1) in
+    cause_from _ c.from_residual-in_err-frame.result _ c.from_residual-in_err-frame.ensures.1 (unencoded_cause cast w.scene.standing (events.Send c.args.client c.args.op.now) _ c.in_err-frame.field-0.0 (passed_by (is_client cast client) NoSuchParty _ known ∙ passed_by (not (is_shut s client)) ClientClosed _ (ap not next.2))
+    (λ fits. subst (λ (x : Cast). IsMessage (tagged (setting_of x) (said_as (record { client = c.in_ok-sender.sender; session = session; number = number; op = op })))) (sym at.parties) (subst (λ (x : Item). IsMessage (tagged (setting_of cast) (said_as x))) (sym is_item) fits))
+    c.in_err-frame.ensures.err)

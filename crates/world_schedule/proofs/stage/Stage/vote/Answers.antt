@@ -1,7 +1,7 @@
-use Rattle.std.proofs.Common.{◌≡◌, ◌∙◌, true, refl, ap, subst, false, Err}
+use Rattle.std.proofs.Common.{◌≡◌, ◌∙◌, true, refl, sym, ap, subst, false, Err}
 use Rattle.protocol.specs.Messages.{OfVote}
 use Rattle.world_parties.specs.Cast.{Cast, setting_of, is_correct, is_liar}
-use Rattle.world_parties.specs.Sending.{voted}
+use Rattle.world_parties.specs.Sending.{voted, FitsVote}
 use Rattle.world_parties.specs.declared.fault.FaultNumber.TheVariants.{NoSuchParty, TooLong}
 use Rattle.world_schedule.specs.Cores.{frame_in}
 use Rattle.world_schedule.specs.declared.event.Event.TheVariants as events
@@ -17,7 +17,7 @@ returns-clause-ok c = λ cast w at.
     on_ok_both c.meet.result (c.meet.ensures.met cast w at) (λ k. heard cast w (events.Vote c.args.validator c.args.line.now) c.args.validator c.in_ok-to.to (frame_in (setting_of cast) (OfVote (voted c.args.line.now))) c.deref.result.now c.args.self.now c.meet.new.self
     c.in_ok-to.ensures.ok.0
     (c.deref.ensures.value ∙ c.in_ok-frame.ensures.frame.same ∙ ap (λ (x : Cast). frame_in (setting_of x) (OfVote (voted c.args.line.now))) at.parties)
-    (passed_by (is_correct cast c.args.validator) NoSuchParty _ known ∙ passed_by (is_liar cast c.args.line.now.sender) NoSuchParty _ (subst (λ (x : Cast). is_liar x c.args.line.now.sender ≡ true) at.parties c.in_ok-frame.ensures.known))
+    (record { no_cause = passed_by (is_correct cast c.args.validator) NoSuchParty _ known ∙ passed_by (is_liar cast c.args.line.now.sender) NoSuchParty _ (subst (λ (x : Cast). is_liar x c.args.line.now.sender ≡ true) at.parties c.in_ok-frame.ensures.known); encodable = subst (λ (x : Cast). FitsVote (setting_of x) c.args.line.now) at.parties c.in_ok-frame.ensures.fits })
     (λ j made t. t) (λ i r. refl) k)
 
 pub returns-in_err-to-clause-cause : goal.returns-in_err-to-clause-cause
@@ -30,7 +30,7 @@ returns-in_err-frame-clause-cause c = λ cast w at.
     let known : is_correct cast c.args.validator ≡ true = subst (λ (x : Cast). is_correct x c.args.validator ≡ true) at.parties c.in_ok-to.ensures.ok.1 in
     let unknown : fault ≡ NoSuchParty → is_liar cast c.args.line.now.sender ≡ false = subst (λ (x : Cast). fault ≡ NoSuchParty → is_liar x c.args.line.now.sender ≡ false) at.parties (λ e. c.in_err-frame.ensures.unknown (ap Err e)) in
     let order : fault ≡ TooLong → is_liar cast c.args.line.now.sender ≡ true = subst (λ (x : Cast). fault ≡ TooLong → is_liar x c.args.line.now.sender ≡ true) at.parties (λ e. c.in_err-frame.ensures.order (ap Err e)) in
-    cause_from _ c.from_residual-in_err-frame.result _ c.from_residual-in_err-frame.ensures.1 (frame_cause cast w.scene.standing (events.Vote c.args.validator c.args.line.now) (is_liar cast c.args.line.now.sender) fault (passed_by (is_correct cast c.args.validator) NoSuchParty _ known) refl unknown order c.in_err-frame.ensures.err)
+    cause_from _ c.from_residual-in_err-frame.result _ c.from_residual-in_err-frame.ensures.1 (frame_cause cast w.scene.standing (events.Vote c.args.validator c.args.line.now) (is_liar cast c.args.line.now.sender) _ fault (passed_by (is_correct cast c.args.validator) NoSuchParty _ known) (subst (λ (x : Cast). FitsVote (setting_of x) c.args.line.now) (sym at.parties)) unknown order c.in_err-frame.ensures.err)
 
 pub returns-clause-cause : goal.returns-clause-cause
 returns-clause-cause c = λ cast w at. if_err _ _ c.meet.result c.meet.ensures.err (starved_cause cast w.scene.standing (events.Vote c.args.validator c.args.line.now))

@@ -1,9 +1,10 @@
-use Rattle.std.proofs.Common.{sym, ◌≡◌, ◌∙◌, ◌+◌, suc, Some, refl, ap, subst, arith}
+use Rattle.std.proofs.Common.{sym, ◌≡◌, ◌∙◌, ◌+◌, suc, Some, Err, inl, inr, refl, ap, subst, arith}
 use Rattle.std.proofs.lemmas.List.{take_all}
 use Rattle.std.proofs.lemmas.Option.{slice_get-get_or}
 use Rattle.std.proofs.lemmas.Result.{err_from_is_err_and}
 use Rattle.world_schedule.specs.Worlds.{HaveAll, HaveSome, HasHappened}
 use Rattle.world_schedule.specs.declared.world.World.{World}
+use Rattle.world_schedule.proofs.Causes.{is_starved}
 use Rattle.world_schedule.proofs.Courses.{have_none, have_more}
 use Rattle.world_schedule.proofs.world.World.happen_all.Goals as goal
 
@@ -37,7 +38,10 @@ returns-in_err-step-clause-err c = λ cast w at.
       happened = k.happened;
       leads = k.leads;
       told_is = c.in_err-step.ensures.stays ∙ k.told_is;
-      rests = λ other. (c.in_err-step.ensures.err cast k.last k.at other, c.in_err-step.ensures.spends other);
+      rests = elim (is_starved c.in_err-step.field-0.0) [
+        | inl e ↦ inr (record { starved = e; spent = c.in_err-step.ensures.starves (ap Err e) })
+        | inr other ↦ inl (c.in_err-step.ensures.err cast k.last k.at other, c.in_err-step.ensures.spends other)
+      ];
       event = c.event-item.result;
       event_at = slice_get-get_or c.args.events.now c.loop-event.event-index c.event-item.result c.loop-event-test.true ∙ ap Some (sym c.event-item.is);
       cause = c.in_err-step.ensures.cause cast k.last k.at;

@@ -12,7 +12,7 @@ pub returns-in-Ok-clause-err : goal.returns-in-Ok-clause-err
 returns-in-Ok-clause-err c = λ cast ms brought at.
     let old = c.args.self.now in
     if_err _ _ c.report.result c.report.ensures.err (λ fault is. unreported cast ms brought c.args.events.now old _ c.happen_all.new.self c.report.new.self fault
-    (c.in-Ok.ensures.ok cast (course_of cast ms brought) at.0) refl c.in-Ok.ensures.count is)
+    (c.in-Ok.ensures.ok cast (course_of cast ms brought) at.0) refl c.in-Ok.ensures.count (c.in-Ok.ensures.serves ∙ at.1) is c.report.ensures.rest)
 
 pub returns-in-Err-clause-err : goal.returns-in-Err-clause-err
 returns-in-Err-clause-err c = λ cast ms brought at.
