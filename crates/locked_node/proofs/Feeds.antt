@@ -1,7 +1,6 @@
 -- Rings and places, as decisions are added.
-use Rattle.std.proofs.Common.{false, ◌≡◌, ℕ, zero, suc, true, ◌+◌, ◌<◌, ◌≤◌, ◌-◌, List, [], ◌∷◌, ◌++◌, drop, take, length, refl, sym, ap, ◌∙◌, subst, arith, append_assoc, append-nil, length-append, get_or, slice_index_or, slice_set, Result, Ok, MatchResult, take-append-drop, length-take-le}
+use Rattle.std.proofs.Common.{◌≡◌, ℕ, zero, suc, true, ◌+◌, ◌<◌, ◌≤◌, ◌-◌, List, [], ◌∷◌, ◌++◌, drop, take, length, refl, sym, ap, ◌∙◌, subst, arith, append_assoc, append-nil, length-append, get_or, slice_index_or, slice_set, Result, Ok, MatchResult, take-append-drop, length-take-le}
 use Rattle.std.proofs.lemmas.List.{map-append}
-use Rattle.std.proofs.lemmas.Bool.{false≢true}
 use Rattle.std.proofs.lemmas.List.{take_more, length-map}
 use Rattle.std.proofs.lemmas.Grind.{flat_map-append}
 use Rattle.std.proofs.lemmas.List.{drop-append-le}
@@ -11,14 +10,12 @@ use Rattle.node_core.specs.Core.{delivered_in}
 use Rattle.proposal_validity.proofs.Turns.{fifo_beginning}
 use Rattle.subscriber_ring.specs.declared.delivered.Delivered.{Delivered}
 use Rattle.subscriber_ring.specs.Order.{items_of}
-use denote.Enum.Bare.{sameb}
 use Rattle.subscriber_ring.specs.Ends.{Feed}
-use Rattle.locked_node.specs.contracts.feeding.Stop.{the_type}
 use Rattle.locked_node.specs.declared.feeding.Stop.{Stop}
 use Rattle.locked_node.specs.declared.feeding.Stop.TheVariants.{Unoffered, Full, Gone, NoneLeft, OutOfMemory}
 use Rattle.locked_node.specs.declared.place.Place.{Place}
 use Rattle.locked_node.specs.declared.feeding.Fed.{Fed}
-use Rattle.locked_node.specs.Feeding.{left_at, IsPlace, IsFed, AreFed, IsOffered, AreOffered, AreMore, HasFilled}
+use Rattle.locked_node.specs.Feeding.{left_at, IsPlace, IsFed, AreFed, answered, with_more, IsOffered, AreOffered, LacksMemory, HasFilled}
 
 pub delivered_append : (d e : List Bundle) → delivered_in (d ++ e) ≡ delivered_in d ++ delivered_in e
 delivered_append d e = flat_map-append (λ (b : Bundle). items b.value) d e
@@ -54,7 +51,7 @@ count_one_more d i b h e =
 
 -- ---- offering
 
-none_before : (before : List Item) (first : ℕ) → length before ≡ first → first ≡ 0 → before ≡ []
+pub none_before : (before : List Item) (first : ℕ) → length before ≡ first → first ≡ 0 → before ≡ []
 none_before [] first e z = refl
 none_before (x ∷ xs) first e z = absurd (omega (arith, e, z))
 
@@ -115,7 +112,7 @@ are_fed_push d (x ∷ fs) f s new = (s.0, are_fed_push d fs f s.1 new)
 -- ---- one ring
 
 pub filled_set : {E : Type 0} (d : List Bundle) (place : ℕ) (fs : List Fed) (other g : Fed) (result : Result ℕ E) → place < length fs → IsOffered d (slice_index_or fs place other) g
-    → MatchResult result (λ n. (length g.feeder.offered ≡ length (slice_index_or fs place other).feeder.offered + n) × (g.stopped ≡ OutOfMemory → ⊥)) (λ e. g.stopped ≡ OutOfMemory) → HasFilled d place fs (slice_set fs place g) result
+    → MatchResult result (λ n. (length g.feeder.offered ≡ length (slice_index_or fs place other).feeder.offered + n) × (LacksMemory g.stopped → ⊥)) (λ e. LacksMemory g.stopped) → HasFilled d place fs (slice_set fs place g) result
 filled_set d place [] other g result h o r = absurd (omega (arith, h))
 filled_set d zero (f ∷ fs) other g result h o r = (o, refl, r)
 filled_set d (suc place) (f ∷ fs) other g result h o r = (refl, filled_set d place fs other g result (omega (arith, h)) o r)
@@ -126,22 +123,29 @@ filled_none d zero (f ∷ fs) result h r = absurd (omega (arith, h))
 filled_none d (suc place) (f ∷ fs) result h r = (refl, filled_none d place fs result (omega (arith, h)) r)
 
 pub filled_at : {E : Type 0} (d : List Bundle) (place : ℕ) (fs : List Fed) (o g : Fed) (result : Result ℕ E) → place < length fs → o ≡ slice_index_or fs place o → IsOffered d o g
-    → MatchResult result (λ n. (length g.feeder.offered ≡ length o.feeder.offered + n) × (g.stopped ≡ OutOfMemory → ⊥)) (λ e. g.stopped ≡ OutOfMemory) → HasFilled d place fs (slice_set fs place g) result
+    → MatchResult result (λ n. (length g.feeder.offered ≡ length o.feeder.offered + n) × (LacksMemory g.stopped → ⊥)) (λ e. LacksMemory g.stopped) → HasFilled d place fs (slice_set fs place g) result
 filled_at d place fs o g result h e offered r =
     filled_set d place fs o g result h (subst (λ (l : Fed). IsOffered d l g) e offered)
-    (subst (λ (l : Fed). MatchResult result (λ n. (length g.feeder.offered ≡ length l.feeder.offered + n) × (g.stopped ≡ OutOfMemory → ⊥)) (λ e. g.stopped ≡ OutOfMemory)) e r)
+    (subst (λ (l : Fed). MatchResult result (λ n. (length g.feeder.offered ≡ length l.feeder.offered + n) × (LacksMemory g.stopped → ⊥)) (λ e. LacksMemory g.stopped)) e r)
 
-pub is_memory : (s : Stop) → sameb the_type s OutOfMemory ≡ true → s ≡ OutOfMemory
-is_memory Unoffered p = absurd (false≢true p)
-is_memory Full p = absurd (false≢true p)
-is_memory Gone p = absurd (false≢true p)
-is_memory NoneLeft p = absurd (false≢true p)
-is_memory OutOfMemory p = refl
+-- a stop changes neither where a ring begins nor what it was offered
+pub answered_first : (s : Stop) (feed : Feed) → (answered s feed).first ≡ feed.first
+answered_first Unoffered feed = refl
+answered_first Full feed = refl
+answered_first Gone feed = refl
+answered_first NoneLeft feed = refl
+answered_first (OutOfMemory cause) feed = refl
 
-pub not_memory : (s : Stop) → sameb the_type s OutOfMemory ≡ false → s ≡ OutOfMemory → ⊥
-not_memory s p e = false≢true (sym (subst (λ t. sameb the_type t OutOfMemory ≡ false) e p))
+pub answered_offered : (s : Stop) (feed : Feed) → (answered s feed).offered ≡ feed.offered
+answered_offered Unoffered feed = refl
+answered_offered Full feed = refl
+answered_offered Gone feed = refl
+answered_offered NoneLeft feed = refl
+answered_offered (OutOfMemory cause) feed = refl
 
 -- a ring's offered items are counted by its next position
-pub counted : (o g : Fed) (before after : ℕ) → before ≡ o.feeder.first + length o.feeder.offered → after ≡ g.feeder.first + length g.feeder.offered → AreMore o g → length g.feeder.offered ≡ length o.feeder.offered + (after - before)
-counted o g before after a b m =
-    omega (arith, a, b, ap (λ (f : Feed). f.first) m.1, ap (λ (f : Feed). length f.offered) m.1, length-append o.feeder.offered m.0)
+pub counted : (d : List Bundle) (o g : Fed) (before after : ℕ) → before ≡ o.feeder.first + length o.feeder.offered → after ≡ g.feeder.first + length g.feeder.offered → IsOffered d o g → length g.feeder.offered ≡ length o.feeder.offered + (after - before)
+counted d o g before after a b m =
+    let feed = with_more o.feeder m.more in
+    omega
+    (arith, a, b, ap (λ (f : Feed). f.first) m.offered ∙ answered_first g.stopped feed, ap (λ (f : Feed). length f.offered) m.offered ∙ ap length (answered_offered g.stopped feed), length-append o.feeder.offered m.more)

@@ -6,3 +6,4 @@ mod Stepping
 mod Certifying
 mod Places
 mod Meetings
+mod Subscribers

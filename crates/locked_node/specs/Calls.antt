@@ -1,5 +1,5 @@
 -- What a node answers to each event, and what it then is: the clauses of its core.
-use Rattle.std.specs.Prelude.{◌≡◌, ◌⊎◌, ◌++◌, ◌∷◌, [], map, Option, None, Result, IfErr, OnOk, OnErr}
+use Rattle.std.specs.Prelude.{◌≡◌, ◌⊎◌, ◌++◌, ◌∷◌, [], map, Option, None, Result, Err, IfErr, OnOk, OnErr}
 use Rattle.protocol.specs.Messages.{OfAsk}
 use Rattle.protocol.specs.State.{Node}
 use Rattle.protocol.specs.Order.{enabled}
@@ -11,7 +11,7 @@ use Rattle.protocol.specs.declared.refusal.Refusal.{Refusal}
 use Rattle.protocol.specs.declared.refusal.Refusal.TheVariants.{Halted, OutOfMemory, JournalFailed}
 use Rattle.node_core.specs.Core.{Core, Stands, setting_of, frame_by}
 use Rattle.protocol.specs.Answers.{Answers}
-use Rattle.node_core.specs.Calls.{IsDone, IsUnchanged, TellsJournal}
+use Rattle.node_core.specs.Calls.{IsDone, IsBroken, IsUnchanged, TellsJournal}
 use Rattle.locked_node.specs.History.{Heard, Took, Asked, Resent}
 
 -- why what is handed in is refused
@@ -24,6 +24,7 @@ cause_of core n (Due t) = timeout_answer core.machine.state t
 pub record IsHanded (input : Input) (result : Result (Unit {0}) Refusal) (old new : Core) : Type 0 where
   pub answer : (n : Node) → Stands n old → Answers old.journal.failed (cause_of old n input) result
   pub done : (n : Node) → Stands n old → IsDone n input result old new
+  pub broken : result ≡ Err JournalFailed → (n : Node) → Stands n old → IsBroken n input old new
   pub refused : IfErr result (λ r. (r ≡ OutOfMemory) ⊎ (r ≡ JournalFailed) ⊎ IsUnchanged old new)
   pub journal : TellsJournal result old.journal new.journal
   pub quiet : OnOk result (enabled new.machine.powers new.machine.state ≡ None)

@@ -4,6 +4,7 @@ use Rattle.protocol.specs.Values.{Item}
 use Rattle.protocol.specs.Messages.{Bundle}
 use Rattle.node_core.specs.Core.{delivered_in}
 use Rattle.subscriber_ring.specs.Order.{items_of}
+use Rattle.subscriber_ring.specs.Ends.{Feed, found_full, found_gone}
 use Rattle.subscriber_ring.specs.declared.delivered.Delivered.{Delivered}
 use Rattle.locked_node.specs.declared.place.Place.{Place}
 use Rattle.locked_node.specs.declared.feeding.Fed.{Fed}
@@ -50,22 +51,43 @@ after_one place = record { height = place.height; index = place.index + 1 }
 abbrev pub IsOneMore : Fed → Fed → Type 0
 IsOneMore old new = (d : Delivered) × (new.feeder ≡ record old.feeder { offered = old.feeder.offered ++ d ∷ [] })
 
+-- the feeder with these items offered too
+abbrev pub with_more : Feed → List Delivered → Feed
+with_more feed more = record feed { offered = feed.offered ++ more }
+
 -- some items more were offered to the ring
 abbrev pub AreMore : Fed → Fed → Type 0
-AreMore old new = (more : List Delivered) × (new.feeder ≡ record old.feeder { offered = old.feeder.offered ++ more })
+AreMore old new = (more : List Delivered) × (new.feeder ≡ with_more old.feeder more)
 
--- Why the offering stopped. What a ring holds was offered to it, and a position is a u64.
+-- The feeder after the stop: one more offer was answered that the ring is full, or one was that its subscription is gone.
+abbrev pub answered : Stop → Feed → Feed
+answered Full feed = found_full feed
+answered Gone feed = found_gone feed
+answered Unoffered feed = feed
+answered NoneLeft feed = feed
+answered (OutOfMemory cause) feed = feed
+
+-- Whether this may be why the offering stopped. What a ring holds was offered to it, and a position is a u64.
 abbrev pub IsStop : List Bundle → Fed → Stop → Type 0
 IsStop decisions fed Unoffered = ⊥
 IsStop decisions fed Full = fed.feeder.capacity ≤ length fed.feeder.offered
 IsStop decisions fed Gone = Unit {0}
 IsStop decisions fed NoneLeft = (left_at decisions fed.place ≡ []) ⊎ (fed.feeder.first + length fed.feeder.offered ≡ 2 ^ 64 - 1)
-IsStop decisions fed OutOfMemory = Unit {0}
+IsStop decisions fed (OutOfMemory cause) = Unit {0}
 
--- the ring was offered the next items, until this stop
+-- The ring was offered the next items, until this stop. Full was answered by the ring within this offering, and gone in it or before.
 pub record IsOffered (decisions : List Bundle) (old new : Fed) : Type 0 where
-  pub more : AreMore old new
+  pub more : List Delivered
+  pub offered : new.feeder ≡ answered new.stopped (with_more old.feeder more)
   pub stop : IsStop decisions new new.stopped
+
+-- a copy of an item was refused memory
+abbrev pub LacksMemory : Stop → Type 0
+LacksMemory (OutOfMemory cause) = Unit {0}
+LacksMemory Unoffered = ⊥
+LacksMemory Full = ⊥
+LacksMemory Gone = ⊥
+LacksMemory NoneLeft = ⊥
 
 -- the first so many rings were, and the others are as they were
 abbrev pub AreOffered : List Bundle → ℕ → List Fed → List Fed → Type 0
@@ -77,6 +99,6 @@ AreOffered decisions (suc n) olds news = ⊥
 abbrev pub HasFilled : {E : Type 0} → List Bundle → ℕ → List Fed → List Fed → Result ℕ E → Type 0
 HasFilled decisions place [] news result = (news ≡ []) × (result ≡ Ok 0)
 HasFilled decisions zero (old ∷ olds) [] result = ⊥
-HasFilled decisions zero (old ∷ olds) (new ∷ news) result = IsOffered decisions old new × (news ≡ olds) × MatchResult result (λ n. (length new.feeder.offered ≡ length old.feeder.offered + n) × (new.stopped ≡ OutOfMemory → ⊥)) (λ e. new.stopped ≡ OutOfMemory)
+HasFilled decisions zero (old ∷ olds) (new ∷ news) result = IsOffered decisions old new × (news ≡ olds) × MatchResult result (λ n. (length new.feeder.offered ≡ length old.feeder.offered + n) × (LacksMemory new.stopped → ⊥)) (λ e. LacksMemory new.stopped)
 HasFilled decisions (suc place) (old ∷ olds) [] result = ⊥
 HasFilled decisions (suc place) (old ∷ olds) (new ∷ news) result = (new ≡ old) × HasFilled decisions place olds news result

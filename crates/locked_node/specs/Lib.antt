@@ -5,3 +5,4 @@ pub mod Locked
 pub mod Certified
 pub mod Subscribing
 pub mod Meeting
+pub mod Subscribers

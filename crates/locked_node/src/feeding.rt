@@ -3,27 +3,27 @@
 ghost use Rattle.std.specs.Prelude.{◌≡◌, ◌<◌, true, IfSome, IfNone, length};
 ghost use Rattle.protocol.specs.Values.{fifo};
 ghost use Rattle.node_core.specs.Core.{delivered_in};
-ghost use Rattle.locked_node.specs.Feeding.{IsFed, AreFed, IsStop, IsOneMore, AreMore, IsOffered, AreOffered, HasFilled};
+ghost use Rattle.locked_node.specs.Feeding.{IsFed, AreFed, answered, IsStop, IsOneMore, IsOffered, AreOffered, HasFilled};
 
-use crate::place::{Place, item_of, normal, tx_at};
+use crate::place::{Place, Uncopied, item_of, normal, tx_at};
 use messages::Bundle;
 use std::alloc::{AllocError, Global};
 use std::sync::Wait;
 use subscriber_ring::{Delivered, Feeder, OfferFault};
 
 /// Why the offering to a ring stopped.
-#[derive(Clone, Copy, Debug, PartialEq, Eq)]
+#[derive(Debug, Drop)]
 pub enum Stop {
     /// Nothing was offered yet.
     Unoffered,
-    /// The ring was full at one moment.
+    /// The ring answered that it is full.
     Full,
-    /// The channel answers that the subscription is gone.
+    /// The ring answered that its subscription is gone.
     Gone,
     /// Each delivered item that has a position was offered.
     NoneLeft,
     /// A copy of an item was refused memory.
-    OutOfMemory,
+    OutOfMemory(Uncopied),
 }
 
 /// A ring, and how far it was offered the delivered list.
@@ -40,7 +40,7 @@ fn offer_next<R: Wait>(rt: &R, alloc: Global, fed: &mut Fed, decisions: &[Bundle
     requires order { fifo (delivered_in decisions.now) ≡ true }
     ensures fed { IsFed decisions.now fed.new }
     ensures more { IfNone result (IsOneMore fed.old fed.new) }
-    ensures same { IfSome result (λ stop. fed.new.feeder ≡ fed.old.feeder) }
+    ensures answered { IfSome result (λ stop. fed.new.feeder ≡ answered stop fed.old.feeder) }
     ensures stop { IfSome result (λ stop. IsStop decisions.now fed.new stop) }
 {
     fed.place = normal(decisions, fed.place);
@@ -51,8 +51,9 @@ fn offer_next<R: Wait>(rt: &R, alloc: Global, fed: &mut Fed, decisions: &[Bundle
     let Some(tx) = tx_at(decisions, fed.place) else {
         return Some(Stop::NoneLeft);
     };
-    let Ok(item) = item_of(alloc, tx) else {
-        return Some(Stop::OutOfMemory);
+    let item = match item_of(alloc, tx) {
+        Ok(item) => item,
+        Err(cause) => return Some(Stop::OutOfMemory(cause)),
     };
     match fed.feeder.offer(rt, Delivered { position, item }) {
         Ok(()) => {
@@ -109,7 +110,7 @@ pub(crate) fn fill_at<R: Wait>(
     let fed = &mut feeders[place];
     let before = fed.feeder.next();
     feed(rt, alloc, fed, decisions);
-    if fed.stopped == Stop::OutOfMemory {
+    if matches!(fed.stopped, Stop::OutOfMemory(_)) {
         return Err(AllocError);
     }
     Ok(fed.feeder.next() - before)

@@ -1,9 +1,10 @@
 //! What holds of every shared node.
 
 ghost use Rattle.locked_node.specs.Certified.{CertificatesLaw, CountLaw};
+ghost use Rattle.locked_node.specs.Subscribers.{SubscribersLaw};
 
-/// Each decision of a shared node has its certificate: precommits of distinct validators, who are a quorum, for its value's
-/// id. It holds at each moment of a node that `NodeCore::new` or `NodeCore::open` made, also after it halted; and of any
+/// Each decision of a shared node has its certificate: precommits for its value's id that name distinct senders, a quorum's.
+/// It holds at each moment of a node that `NodeCore::new` or `NodeCore::open` made, also after it halted; and of any
 /// other until it halts.
 pub fn certificates_law()
     ensures { CertificatesLaw }
@@ -12,4 +13,10 @@ pub fn certificates_law()
 /// The published number of items is all that it delivered, of the same nodes: it is at most 2^56, and stays within a u64.
 pub fn count_law()
     ensures { CountLaw }
+{}
+
+/// What a subscriber took from position 0 on, of a ring whose rule holds, begins what the node delivered. So of what subscribers took
+/// of two nodes one begins the other, where so it is with the delivered lists, as the headline says of correct validators.
+pub fn subscribers_law()
+    ensures { SubscribersLaw }
 {}

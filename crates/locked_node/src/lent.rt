@@ -153,6 +153,29 @@ impl<'a> Met<'a> {
     }
 }
 
+/// That a first position lies ahead of the delivered list, and how many items that had. Only `subscribe` makes one.
+#[derive(Debug, Drop)]
+pub struct Ahead {
+    delivered: u64,
+}
+
+impl Model for Ahead {
+    ghost use Rattle.std.specs.Prelude.{ℕ};
+
+    ghost Value = { ℕ };
+
+    ghost view = { λ a. a.delivered };
+}
+
+impl Ahead {
+    /// How many items were delivered, counted up to the greatest u64.
+    pub fn delivered(&self) -> u64
+        ensures { result ≡ self.now }
+    {
+        self.delivered
+    }
+}
+
 impl<S: Store + Drop, J: Node> State<S, J> {
     /// A core as it is opened, to which nothing was handed yet.
     pub fn new(alloc: Global, core: NodeCore<S>, publisher: Publisher<J>) -> State<S, J>
@@ -208,7 +231,7 @@ impl<S: Store + Drop, J: Node> State<S, J> {
         Offered { event, answer }
     }
 
-    /// Publishes the status, which the caller's seat has then seen.
+    /// Publishes the status, which the caller's seat has then seen, and which is in neither part less than what it had seen.
     pub fn publish<'a>(
         &mut self,
         words: &Words<J>,
@@ -219,6 +242,7 @@ impl<S: Store + Drop, J: Node> State<S, J> {
         ensures status { (result.height ≡ self.new.core.machine.state.height) × (result.delivered ≡ count_of self.new.core) }
         ensures same { self.new ≡ record self.old { published = with_both self.old.published result.height result.delivered } }
         ensures seen { seat.new ≡ with_both seat.old result.height result.delivered }
+        ensures later { (seat.old.height ≤ result.height) × (seat.old.delivered ≤ result.delivered) }
         ensures of_these { IsOf self.new.published seat.new }
     {
         let Offered { event, answer } = offered;
@@ -260,7 +284,8 @@ impl<S: Store + Drop, J: Node> State<S, J> {
         ensures locked { IsLocked self.new }
     {
         if from > self.delivered {
-            return Err(SubscribeFault::FromAhead);
+            let delivered = self.delivered;
+            return Err(SubscribeFault::FromAhead(Ahead { delivered }));
         }
         let (feeder, ring) = ring(self.alloc, from, capacity)?;
         self.feeders.reserve(1)?;

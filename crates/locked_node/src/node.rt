@@ -1,6 +1,6 @@
 //! The node that threads share.
 
-ghost use Rattle.std.specs.Prelude.{ℕ, ◌≡◌, ◌≤◌, [], true, IfOk, IfErr};
+ghost use Rattle.std.specs.Prelude.{◌≡◌, ◌≤◌, [], true, IfOk, IfErr};
 ghost use Rattle.status_words.specs.Seen.{unseen, opened as opened_at, with_both};
 ghost use Rattle.status_words.specs.Ends.{opened_table, opened_words};
 ghost use Rattle.protocol.specs.State.{Node as ProtocolNode};
@@ -8,7 +8,7 @@ ghost use Rattle.protocol.specs.History.{Settle, Given, Due};
 ghost use Rattle.node_core.specs.Core.{Stands};
 ghost use Rattle.locked_node.specs.History.{heard, Took, Asked, Resent};
 ghost use Rattle.locked_node.specs.Locked.{count_of};
-ghost use Rattle.locked_node.specs.Subscribing.{subscribe_fault};
+ghost use Rattle.locked_node.specs.Subscribing.{IsSubscribeFault};
 ghost use Rattle.subscriber_ring.specs.Ends.{is_capacity};
 
 use crate::event::Event;
@@ -75,6 +75,7 @@ impl<S: Store + Drop, J: Node> LockedNode<S, J> {
     pub fn handle<'a, R: Wait>(&self, rt: &R, seat: &mut Seat<J>, frame: &'a [u8]) -> Done<'a>
         ensures event { result.event ≡ Took (Given frame.now) }
         ensures seen { seat.new ≡ with_both seat.old result.height result.delivered }
+        ensures later { (seat.old.height ≤ result.height) × (seat.old.delivered ≤ result.delivered) }
     {
         self.act(rt, seat, Event::Frame(frame))
     }
@@ -88,6 +89,7 @@ impl<S: Store + Drop, J: Node> LockedNode<S, J> {
     ) -> Done<'static>
         ensures event { result.event ≡ Took (Due timeout) }
         ensures seen { seat.new ≡ with_both seat.old result.height result.delivered }
+        ensures later { (seat.old.height ≤ result.height) × (seat.old.delivered ≤ result.delivered) }
     {
         self.act(rt, seat, Event::Timeout(timeout))
     }
@@ -96,6 +98,7 @@ impl<S: Store + Drop, J: Node> LockedNode<S, J> {
     pub fn settle<R: Wait>(&self, rt: &R, seat: &mut Seat<J>) -> Done<'static>
         ensures event { result.event ≡ Took Settle }
         ensures seen { seat.new ≡ with_both seat.old result.height result.delivered }
+        ensures later { (seat.old.height ≤ result.height) × (seat.old.delivered ≤ result.delivered) }
     {
         self.act(rt, seat, Event::Settle)
     }
@@ -104,6 +107,7 @@ impl<S: Store + Drop, J: Node> LockedNode<S, J> {
     pub fn ask<R: Wait>(&self, rt: &R, seat: &mut Seat<J>) -> Done<'static>
         ensures event { result.event ≡ Asked }
         ensures seen { seat.new ≡ with_both seat.old result.height result.delivered }
+        ensures later { (seat.old.height ≤ result.height) × (seat.old.delivered ≤ result.delivered) }
     {
         self.act(rt, seat, Event::Ask)
     }
@@ -112,6 +116,7 @@ impl<S: Store + Drop, J: Node> LockedNode<S, J> {
     pub fn resend<R: Wait>(&self, rt: &R, seat: &mut Seat<J>) -> Done<'static>
         ensures event { result.event ≡ Resent }
         ensures seen { seat.new ≡ with_both seat.old result.height result.delivered }
+        ensures later { (seat.old.height ≤ result.height) × (seat.old.delivered ≤ result.delivered) }
     {
         self.act(rt, seat, Event::Resend)
     }
@@ -121,6 +126,7 @@ impl<S: Store + Drop, J: Node> LockedNode<S, J> {
     fn act<'a, R: Wait>(&self, rt: &R, seat: &mut Seat<J>, event: Event<'a>) -> Done<'a>
         ensures event { result.event ≡ heard event.entry }
         ensures seen { seat.new ≡ with_both seat.old result.height result.delivered }
+        ensures later { (seat.old.height ≤ result.height) × (seat.old.delivered ≤ result.delivered) }
     {
         let mut guard = self.state.lock(rt);
         let state = &mut *guard;
@@ -150,8 +156,8 @@ impl<S: Store + Drop, J: Node> LockedNode<S, J> {
     }
 
     /// A ring whose first item has this position, and which holds at most so many items at a time.
-    /// Nothing is offered to it yet. The faults are `FromAhead` (1), `BadCapacity` (3) and
-    /// `OutOfMemory` (2), in this order.
+    /// Nothing is offered to it yet. The faults are `FromAhead` (1), with the number of delivered items
+    /// that stood under the lock, `BadCapacity` (3) and `OutOfMemory` (2), in this order.
     pub fn subscribe<R: Wait>(
         &self,
         rt: &R,
@@ -160,7 +166,7 @@ impl<S: Store + Drop, J: Node> LockedNode<S, J> {
     ) -> Result<Subscription, SubscribeFault>
         ensures ok { IfOk result (λ s. s.ring ≡ record { ring = s.ring.ring; first = from; taken = [] }) }
         ensures possible { IfOk result (λ s. is_capacity capacity ≡ true) }
-        ensures err { IfErr result (λ e. (d : ℕ) × (e ≡ subscribe_fault d from capacity)) }
+        ensures err { IfErr result (λ e. IsSubscribeFault e from capacity) }
     {
         self.state.lock(rt).subscribe(from, capacity)
     }

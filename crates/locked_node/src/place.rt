@@ -46,16 +46,25 @@ pub(crate) fn tx_at(decisions: &[Bundle], place: Place) -> Option<&Tx>
     Some(tx)
 }
 
+/// That a copy of an item was refused memory. Only `item_of` makes one.
+#[derive(Debug, Drop)]
+pub struct Uncopied {
+    cause: AllocError,
+}
+
 /// What is delivered of a transaction, copied.
-pub(crate) fn item_of(alloc: Global, tx: &Tx) -> Result<Item, AllocError>
+pub(crate) fn item_of(alloc: Global, tx: &Tx) -> Result<Item, Uncopied>
     ensures { IfOk result (λ i. i ≡ item tx.now) }
 {
-    Ok(Item {
-        client: tx.client,
-        session: tx.session,
-        number: tx.number,
-        op: tx.op.copy(alloc)?,
-    })
+    match tx.op.copy(alloc) {
+        Ok(op) => Ok(Item {
+            client: tx.client,
+            session: tx.session,
+            number: tx.number,
+            op,
+        }),
+        Err(cause) => Err(Uncopied { cause }),
+    }
 }
 
 /// So many items and those of the decisions from this one on together, up to the greatest u64.

@@ -152,12 +152,14 @@ impl<J: Node> Publisher<J> {
         }
     }
 
-    /// Publishes a status, which the seat has then seen. Whatever the seat was told before had
-    /// been published or stood at the opening. It takes no memory and waits for nobody.
+    /// Publishes a status, which the seat has then seen, and which is in neither part less than what
+    /// it had seen. Whatever the seat was told before had been published or stood at the opening. It
+    /// takes no memory and waits for nobody.
     pub fn publish(&mut self, words: &Words<J>, seat: &mut Seat<J>, status: Status)
         requires later { (self.old.height ≤ status.height) × (self.old.delivered ≤ status.delivered) }
         ensures published { self.new ≡ with_both self.old status.height status.delivered }
         ensures seen { seat.new ≡ with_both seat.old status.height status.delivered }
+        ensures later { (seat.old.height ≤ status.height) × (seat.old.delivered ≤ status.delivered) }
         ensures of_these { IsOf self.new seat.new }
     {
         let cells = &words.cells;

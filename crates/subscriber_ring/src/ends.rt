@@ -1,11 +1,11 @@
 //! The two ends of a ring.
 
-ghost use Rattle.std.specs.Prelude.{ℕ, ◌≡◌, ◌+◌, ◌≤◌, ◌<◌, ◌^◌, true, [], ◌∷◌, ◌++◌, length, cond, IfOk, IfErr, IfSome, IfNone, MatchResult};
+ghost use Rattle.std.specs.Prelude.{ℕ, ◌≡◌, ◌+◌, ◌≤◌, ◌<◌, ◌^◌, true, false, [], ◌∷◌, ◌++◌, length, cond, IfOk, IfErr, IfSome, IfNone, MatchResult};
 ghost use Rattle.crossbeam_channel.specs.Fifo.{Held, Learns};
 ghost use Rattle.protocol.specs.Values.{fifo};
 ghost use Rattle.subscriber_ring.specs.Order.{items_of, IsInOrder};
 ghost use Rattle.subscriber_ring.specs.Rule.{offering, taking, BeginsWith, Relayed};
-ghost use Rattle.subscriber_ring.specs.Ends.{given_back, is_capacity, IsFullRing};
+ghost use Rattle.subscriber_ring.specs.Ends.{given_back, is_capacity, refused_by, IsFullRing};
 
 use crate::delivered::Delivered;
 use crate::fault::{OfferFault, RingFault};
@@ -27,6 +27,8 @@ pub struct Feeder {
     first: u64,
     offered: u64,
     capacity: usize,
+    times_full: u64,
+    gone: bool,
     sender: RuledSender<Delivered, Hand, InOrder>,
     pass: Pass<Delivered, Hand>,
 }
@@ -41,7 +43,7 @@ impl Model for Feeder {
 
     ghost Value = { Feed };
 
-    ghost view = { λ a. record { ring = name_of (sends_on a.sender); first = a.first; capacity = a.capacity; offered = (known a.pass).offered } };
+    ghost view = { λ a. record { ring = name_of (sends_on a.sender); first = a.first; capacity = a.capacity; offered = (known a.pass).offered; times_full = a.times_full; gone = a.gone } };
 
     ghost invariant = { λ a. (a.offered ≡ length (known a.pass).offered) × IsSeatAt (sends_on a.sender) a.pass × (ruled_capacity (sends_on a.sender) ≡ a.capacity) × (known a.pass ≡ offering a.first (known a.pass).offered) × IsInOrder a.first (known a.pass).offered };
 }
@@ -75,7 +77,7 @@ impl Model for Subscription {
 /// its two ends. The faults are `BadCapacity` (1), for 0 and for more than 65,536 items, and
 /// `OutOfMemory` (2).
 pub fn ring(alloc: Global, first: u64, capacity: usize) -> Result<(Feeder, Subscription), RingFault>
-    ensures feeder { IfOk result (λ ends. ends.0 ≡ record { ring = ends.1.ring; first = first; capacity = capacity; offered = [] }) }
+    ensures feeder { IfOk result (λ ends. ends.0 ≡ record { ring = ends.1.ring; first = first; capacity = capacity; offered = []; times_full = 0; gone = false }) }
     ensures subscription { IfOk result (λ ends. ends.1 ≡ record { ring = ends.0.ring; first = first; taken = [] }) }
     ensures capacity { IfOk result (λ ends. is_capacity capacity ≡ true) }
     ensures fault { IfErr result (λ e. e ≡ cond (is_capacity capacity) RingFault.OutOfMemory RingFault.BadCapacity) }
@@ -94,7 +96,7 @@ fn parted<S: Start>(
 ) -> Result<(Feeder, Subscription), AllocError>
     requires capacity { 0 < capacity }
     requires first { first ≡ S.start }
-    ensures feeder { IfOk result (λ ends. ends.0 ≡ record { ring = ends.1.ring; first = first; capacity = capacity; offered = [] }) }
+    ensures feeder { IfOk result (λ ends. ends.0 ≡ record { ring = ends.1.ring; first = first; capacity = capacity; offered = []; times_full = 0; gone = false }) }
     ensures subscription { IfOk result (λ ends. ends.1 ≡ record { ring = ends.0.ring; first = first; taken = [] }) }
 {
     let (sender, receiver, mut pass) = bounded_with::<Delivered, Hand, InOrder, Global>(
@@ -105,6 +107,8 @@ fn parted<S: Start>(
         first,
         offered: 0,
         capacity,
+        times_full: 0,
+        gone: false,
         sender,
         pass,
     };
@@ -139,15 +143,30 @@ impl Feeder {
         self.capacity
     }
 
+    /// How often an offer was answered that the ring is full, modulo 2^64.
+    pub fn times_full(&self) -> u64
+        ensures { result ≡ self.now.times_full }
+    {
+        self.times_full
+    }
+
+    /// Whether an offer was answered that the subscription is gone.
+    pub fn is_gone(&self) -> bool
+        ensures { result ≡ self.now.gone }
+    {
+        self.gone
+    }
+
     /// Offers the item that is next, or gives it back: as `Full`, or as `Gone` where the channel
-    /// answers that the subscription is gone. It takes no memory, and the lock of nobody.
+    /// answers that the subscription is gone. The feeder notes which. It takes no memory, and the lock
+    /// of nobody.
     pub fn offer<R: Wait>(&mut self, rt: &R, delivered: Delivered) -> Result<(), OfferFault>
         requires next { delivered.position ≡ self.old.first + length self.old.offered }
         requires last { delivered.position + 1 < 2 ^ 64 }
         requires order { self.old.first ≡ 0 → fifo (items_of (self.old.offered ++ delivered ∷ [])) ≡ true }
         ensures answer { MatchResult result
             (λ _. self.new ≡ record self.old { offered = self.old.offered ++ delivered ∷ [] })
-            (λ e. (self.new ≡ self.old) × (given_back e ≡ delivered) × (IsFullRing e → self.old.capacity ≤ length self.old.offered)) }
+            (λ e. (self.new ≡ refused_by e self.old) × (given_back e ≡ delivered) × (IsFullRing e → self.old.capacity ≤ length self.old.offered)) }
     {
         self.offer_or_learn::<Queued, R>(rt, delivered)
     }
@@ -165,7 +184,7 @@ impl Feeder {
         requires lesson { (place : ℕ) → Learns Relayed place (offering self.old.first self.old.offered) (L.fact (offering self.old.first self.old.offered)) }
         ensures answer { MatchResult result
             (λ _. self.new ≡ record self.old { offered = self.old.offered ++ delivered ∷ [] })
-            (λ e. (self.new ≡ self.old) × (given_back e ≡ delivered) × (IsFullRing e → Held self.old.capacity (L.fact (offering self.old.first self.old.offered)))) }
+            (λ e. (self.new ≡ refused_by e self.old) × (given_back e ≡ delivered) × (IsFullRing e → Held self.old.capacity (L.fact (offering self.old.first self.old.offered)))) }
     {
         match self
             .sender
@@ -175,8 +194,14 @@ impl Feeder {
                 self.offered += 1;
                 Ok(())
             }
-            Err(TrySendError::Full(delivered)) => Err(OfferFault::Full(delivered)),
-            Err(e) => Err(OfferFault::Gone(e.into_inner())),
+            Err(TrySendError::Full(delivered)) => {
+                self.times_full = self.times_full.wrapping_add(1);
+                Err(OfferFault::Full(delivered))
+            }
+            Err(e) => {
+                self.gone = true;
+                Err(OfferFault::Gone(e.into_inner()))
+            }
         }
     }
 }

@@ -17,4 +17,4 @@ mod rule;
 pub use delivered::Delivered;
 pub use ends::{Feeder, MOST_ITEMS, Subscription, ring};
 pub use fault::{OfferFault, RingFault};
-pub use rule::{Hand, InOrder};
+pub use rule::{Hand, InOrder, Nothing};

@@ -20,7 +20,7 @@ use std::marker::Brand;
 use std::process::Abort;
 use std::sync::Wait;
 use std::test::Fail;
-use subscriber_ring::Delivered;
+use subscriber_ring::{Delivered, Nothing};
 use vote_journal::MemoryStore;
 
 const NOTHING: Status = Status {
@@ -158,9 +158,12 @@ fn fills_from_the_beginning<J: Node, R: Abort + Wait>(
         assert_eq!(rt; node.fill(rt, &subscription)?, 1);
     }
     assert_eq!(rt; taken(rt, &mut subscription), Some(3));
-    assert_eq!(rt; taken(rt, &mut subscription), Some(4));
+    let Some(last) = subscription.take_or_learn::<Nothing, R>(rt) else {
+        panic!(rt; "an item waits");
+    };
+    assert_eq!(rt; last.position, 4);
     assert_eq!(rt; node.fill(rt, &subscription)?, 0);
-    assert_eq!(rt; taken(rt, &mut subscription), None);
+    assert!(rt; subscription.take_or_learn::<Nothing, R>(rt).is_none());
     Ok(())
 }
 
@@ -230,9 +233,25 @@ fn refuses_rings<J: Node, R: Abort + Wait>(
 ) -> Result<(), Fail> {
     let subscription = node.subscribe(rt, 5, 2)?;
     assert_eq!(rt; node.fill(rt, &subscription)?, 0);
-    assert!(rt; matches!(node.subscribe(rt, 6, 2), Err(SubscribeFault::FromAhead)));
-    assert!(rt; matches!(node.subscribe(rt, 0, 0), Err(SubscribeFault::BadCapacity)));
+    assert_eq!(rt; fault_of(rt, node, 6, 0), Some((1, Some(5))));
+    assert_eq!(rt; fault_of(rt, node, 0, 0), Some((3, None)));
+    assert_eq!(rt; SubscribeFault::OutOfMemory.number(), 2);
     Ok(())
+}
+
+/// The number of the fault of such a ring, and where it lies ahead how many items were delivered.
+fn fault_of<J: Node, R: Wait>(
+    rt: &R,
+    node: &LockedNode<MemoryStore, J>,
+    from: u64,
+    capacity: usize,
+) -> Option<(u8, Option<u64>)> {
+    let fault = node.subscribe(rt, from, capacity).err()?;
+    let delivered = match &fault {
+        SubscribeFault::FromAhead(ahead) => Some(ahead.delivered()),
+        SubscribeFault::OutOfMemory | SubscribeFault::BadCapacity => None,
+    };
+    Some((fault.number(), delivered))
 }
 
 fn with_rings<J: Node, R: Abort + Wait>(

@@ -158,11 +158,19 @@ fn capacities(rt: HostRuntime) {
 }
 
 #[test]
+fn numbers_of_faults(rt: HostRuntime) {
+    assert_eq!(rt; RingFault::BadCapacity as u8, 1);
+    assert_eq!(rt; RingFault::OutOfMemory as u8, 2);
+}
+
+#[test]
 fn an_offer_to_nobody(rt: HostRuntime) -> Result<(), Fail> {
     let (mut feeder, subscription) = ring(rt.alloc(), 5, 2)?;
     assert_eq!(rt; offer_next(&rt, rt.alloc(), &mut feeder), Answer::Taken);
+    assert!(rt; !feeder.is_gone());
     drop(subscription);
     assert_eq!(rt; offer_next(&rt, rt.alloc(), &mut feeder), Answer::Gone(6));
+    assert!(rt; feeder.is_gone());
     Ok(())
 }
 
@@ -240,6 +248,7 @@ fn a_full_ring_loses_nothing(rt: HostRuntime) -> Result<(), Fail> {
     let (mut feeder, mut subscription) = ring(rt.alloc(), 1, 8)?;
     assert_eq!(rt; feed(&rt, rt.alloc(), &mut feeder, 8), 8);
     assert_eq!(rt; times_full(&rt, rt.alloc(), &mut feeder, 1_000), 1_000);
+    assert_eq!(rt; feeder.times_full(), 1_000);
     assert_eq!(rt; feeder.next(), 9);
     assert_eq!(rt; follow(&rt, &mut subscription, 1, 8), 8);
     assert_eq!(rt; take_next(&rt, &mut subscription), None);
