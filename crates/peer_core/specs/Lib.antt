@@ -7,3 +7,4 @@ pub mod Budgets
 pub mod Sendings
 pub mod Duties
 pub mod Choosing
+pub mod Grounds

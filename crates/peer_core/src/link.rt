@@ -10,8 +10,8 @@ use peer_links::Way;
 /// How many frames in a row that are of no use close a link.
 const MOST_USELESS: u32 = 1_000;
 
-/// How long a link of a validator may be silent, in milliseconds.
-const SILENT_MS: u64 = 10_000;
+/// For how many seconds a link of a validator may be silent, as this validator sees them pass.
+const MOST_SILENT: u32 = 10;
 
 /// How long nothing is sent on a link of a validator until it is sent an ask, in milliseconds: often enough that its other
 /// end doesn't take it for silent.
@@ -74,6 +74,8 @@ pub struct PeerLink {
     /// Whether its closing was given as a duty.
     pub is_over: bool,
     heard: u64,
+    /// How many ticks passed since something came.
+    silent: u32,
     sent: u64,
     useless: u32,
     /// The height whose bundle the peer asked for and wasn't sent.
@@ -101,6 +103,7 @@ impl PeerLink {
             closing: None,
             is_over: false,
             heard: now,
+            silent: 0,
             sent: now,
             useless: 0,
             asked: None,
@@ -149,6 +152,7 @@ impl PeerLink {
     /// Notes that bytes came.
     pub(crate) fn heard(&mut self, now: u64) {
         self.heard = now;
+        self.silent = 0;
     }
 
     /// Notes that a frame is queued for it.
@@ -156,9 +160,14 @@ impl PeerLink {
         self.sent = now;
     }
 
+    /// Notes that a second passed. One in which this validator stood still, or came to nothing, counts once, however long it was.
+    pub(crate) fn tick(&mut self) {
+        self.silent = self.silent.saturating_add(1);
+    }
+
     /// Returns whether a validator is behind it that has said nothing for ten seconds.
-    pub(crate) fn is_silent(&self, now: u64) -> bool {
-        self.is_open() && self.validator().is_some() && now.saturating_sub(self.heard) >= SILENT_MS
+    pub(crate) fn is_silent(&self) -> bool {
+        self.is_open() && self.validator().is_some() && self.silent >= MOST_SILENT
     }
 
     /// Returns whether a validator is behind it that was sent nothing for three seconds.

@@ -411,11 +411,12 @@ impl PeerLinks {
         any
     }
 
-    /// Lets the links of validators be closed that are silent. Their next ones take their places.
-    pub fn close_silent(&mut self, now: u64) {
+    /// Notes that a second passed, and lets the links of validators be closed that are silent. Their next ones take their places.
+    pub fn close_silent(&mut self) {
         let mut any = false;
         for link in self.links.iter_mut() {
-            if link.is_silent(now) {
+            link.tick();
+            if link.is_silent() {
                 link.close(Closing::Silent);
                 any = true;
             }

@@ -11,6 +11,7 @@ ghost use Rattle.peer_core.specs.Duties.{IfHandedIn, IfFired, next_of, is_behind
 use crate::agenda::take;
 use crate::duty::{Duty, Rank, Sending};
 use crate::edge::PeerCore;
+use crate::grounds::{grounds_of, is_prevote_of};
 use crate::manner::Keeping;
 use crate::own::MOST_AGAIN;
 use bytes::Bytes;
@@ -96,7 +97,7 @@ impl PeerCore {
     /// Sees each second to guarded links: closes the silent ones, keeps the others from seeming silent, sends the own messages again,
     /// and asks all where the node is behind and doesn't get on.
     fn tick_guarded(&mut self, now: u64) {
-        self.links.close_silent(now);
+        self.links.close_silent();
         if self.catch_up.is_behind(self.height) && self.is_still(now) {
             self.links.want_asks();
             self.agenda.asks = true;
@@ -128,13 +129,46 @@ impl PeerCore {
         Ok(())
     }
 
-    /// Puts a turn of the height's frames of others into the outbox, for one validator, whose turn it is, as many as the budget has
-    /// room for. The next turn begins behind them.
+    /// Passes on to one validator, whose turn it is, what it may lack: first what the last own message rests on, and then a turn of
+    /// the height's frames.
     fn pass_on(&mut self) -> Result<(), AllocError> {
         let Some(link) = self.links.next_behind(self.passed_to) else {
             return Ok(());
         };
         self.passed_to = Some(link);
+        if let Some(round) = self.grounds() {
+            self.pass_grounds(link, round)?;
+        }
+        self.pass_turn(link)
+    }
+
+    /// Returns the round of the prevotes that the last own message rests on which rests on any.
+    fn grounds(&self) -> Option<u32> {
+        let mut found = None;
+        for sent in self.own.frames() {
+            found = grounds_of(&sent.frame).or(found);
+        }
+        found
+    }
+
+    /// Puts the prevotes of a round for a value into the outbox, as many as the budget has room for: who has them all can follow the
+    /// own message that rests on them, whatever came before they were cast.
+    fn pass_grounds(&mut self, link: LinkId, round: u32) -> Result<(), AllocError> {
+        for sent in self.own.frames().iter().chain(self.taken.frames()) {
+            if is_prevote_of(&sent.frame, round) && self.budget.spend(1) {
+                self.outbox.put(Sending {
+                    frame: sent.frame.clone()?,
+                    links: one_link(self.alloc, link)?,
+                    rank: Rank::Repair,
+                });
+            }
+        }
+        Ok(())
+    }
+
+    /// Puts a turn of the height's frames of others into the outbox, as many as the budget has room for. The next turn begins behind
+    /// them.
+    fn pass_turn(&mut self, link: LinkId) -> Result<(), AllocError> {
         let turn = turn_from(self.taken.frames(), self.turn);
         let mut count: usize = 0;
         for sent in turn.frames {

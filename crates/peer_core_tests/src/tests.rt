@@ -18,6 +18,8 @@ const PROPOSAL: u8 = 0x10;
 
 const PREVOTE: u8 = 0x11;
 
+const PRECOMMIT: u8 = 0x12;
+
 const ASK: u8 = 0x13;
 
 const BUNDLE: u8 = 0x14;

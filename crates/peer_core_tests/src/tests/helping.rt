@@ -1,25 +1,35 @@
 //! Early frames, catching up, and what is sent again.
 
 use super::{
-    ASK, GUARDED, PREVOTE, asks, came, dial_all, duties, edge_of, of_height, of_round, released,
+    ASK, GUARDED, PRECOMMIT, PREVOTE, asks, came, dial_all, duties, edge_of, of_height, of_round,
+    released,
 };
 use edge_frames::LinkId;
+use peer_core::{Duty, PeerCore, Sending};
 use peer_links::Way;
 use protocol::Refusal;
+use std::alloc::Global;
 use std::process::Abort;
 use std::test::Fail;
 
 #[test]
 fn an_early_frame_is_handed_in_once_its_height_has_come(rt: HostRuntime) -> Result<(), Fail> {
     let mut edge = edge_of(rt.alloc(), GUARDED)?;
-    dial_all(&mut edge)?;
+    try_an_early_frame_is_handed_in_once_its_height_has_come(&rt, &mut edge)
+}
+
+fn try_an_early_frame_is_handed_in_once_its_height_has_come(
+    rt: &impl Abort,
+    edge: &mut PeerCore,
+) -> Result<(), Fail> {
+    dial_all(edge)?;
     let early = of_round(PREVOTE, 1, 2);
-    came(&mut edge, 2, &early, Err(Refusal::OtherHeight), 0, 0);
-    assert_eq!(rt; duties(&mut edge, 0).handed_in, 0);
+    came(edge, 2, &early, Err(Refusal::OtherHeight), 0, 0);
+    assert_eq!(rt; duties(edge, 0).handed_in, 0);
     assert!(rt; edge.told(1, 10));
     assert!(rt; !edge.told(1, 10));
-    assert_eq!(rt; duties(&mut edge, 10).handed_in, 1);
-    assert_eq!(rt; duties(&mut edge, 10).handed_in, 0);
+    assert_eq!(rt; duties(edge, 10).handed_in, 1);
+    assert_eq!(rt; duties(edge, 10).handed_in, 0);
     Ok(())
 }
 
@@ -28,16 +38,24 @@ fn an_early_frame_is_handed_in_once_its_height_has_come(rt: HostRuntime) -> Resu
 fn who_is_behind_asks_one_and_then_all(rt: HostRuntime) -> Result<(), Fail> {
     let alloc = rt.alloc();
     let mut edge = edge_of(alloc, GUARDED)?;
-    dial_all(&mut edge)?;
-    let _ = duties(&mut edge, 0);
+    try_who_is_behind_asks_one_and_then_all(&rt, alloc, &mut edge)
+}
+
+fn try_who_is_behind_asks_one_and_then_all(
+    rt: &impl Abort,
+    alloc: Global,
+    edge: &mut PeerCore,
+) -> Result<(), Fail> {
+    dial_all(edge)?;
+    let _ = duties(edge, 0);
     let ask = of_height(ASK, 0, 1);
-    assert_eq!(rt; released(alloc, &mut edge, &ask, 0)?, 123);
+    assert_eq!(rt; released(alloc, edge, &ask, 0)?, 123);
     let later = of_height(ASK, 2, 2);
-    came(&mut edge, 2, &later, Err(Refusal::OtherHeight), 0, 0);
-    assert_eq!(rt; duties(&mut edge, 0).asks, 1);
-    assert_eq!(rt; released(alloc, &mut edge, &ask, 0)?, 1);
-    assert_eq!(rt; duties(&mut edge, 1_000).asks, 1);
-    assert_eq!(rt; released(alloc, &mut edge, &ask, 1_000)?, 123);
+    came(edge, 2, &later, Err(Refusal::OtherHeight), 0, 0);
+    assert_eq!(rt; duties(edge, 0).asks, 1);
+    assert_eq!(rt; released(alloc, edge, &ask, 0)?, 1);
+    assert_eq!(rt; duties(edge, 1_000).asks, 1);
+    assert_eq!(rt; released(alloc, edge, &ask, 1_000)?, 123);
     Ok(())
 }
 
@@ -46,13 +64,21 @@ fn who_is_behind_asks_one_and_then_all(rt: HostRuntime) -> Result<(), Fail> {
 fn own_messages_are_sent_again_by_doubling_pauses(rt: HostRuntime) -> Result<(), Fail> {
     let alloc = rt.alloc();
     let mut edge = edge_of(alloc, GUARDED)?;
-    dial_all(&mut edge)?;
-    let _ = duties(&mut edge, 0);
+    try_own_messages_are_sent_again_by_doubling_pauses(&rt, alloc, &mut edge)
+}
+
+fn try_own_messages_are_sent_again_by_doubling_pauses(
+    rt: &impl Abort,
+    alloc: Global,
+    edge: &mut PeerCore,
+) -> Result<(), Fail> {
+    dial_all(edge)?;
+    let _ = duties(edge, 0);
     let prevote = of_round(PREVOTE, 0, 1);
-    assert_eq!(rt; released(alloc, &mut edge, &prevote, 0)?, 123);
-    assert_eq!(rt; released(alloc, &mut edge, &prevote, 0)?, 0);
+    assert_eq!(rt; released(alloc, edge, &prevote, 0)?, 123);
+    assert_eq!(rt; released(alloc, edge, &prevote, 0)?, 0);
     for (second, sent) in [(1, 1), (2, 0), (3, 1), (4, 0), (5, 0), (6, 0), (7, 1)] {
-        assert_eq!(rt; duties(&mut edge, second * 1_000).sent, sent);
+        assert_eq!(rt; duties(edge, second * 1_000).sent, sent);
     }
     Ok(())
 }
@@ -61,12 +87,19 @@ fn own_messages_are_sent_again_by_doubling_pauses(rt: HostRuntime) -> Result<(),
 #[test]
 fn what_others_said_is_passed_on_by_turns(rt: HostRuntime) -> Result<(), Fail> {
     let mut edge = edge_of(rt.alloc(), GUARDED)?;
-    dial_all(&mut edge)?;
-    let _ = duties(&mut edge, 0);
-    came(&mut edge, 2, &of_round(PREVOTE, 0, 2), Ok(()), 0, 0);
-    assert_eq!(rt; duties(&mut edge, 999).sent, 0);
-    assert_eq!(rt; duties(&mut edge, 1_000).sent, 1);
-    assert_eq!(rt; duties(&mut edge, 2_000).sent, 1);
+    try_what_others_said_is_passed_on_by_turns(&rt, &mut edge)
+}
+
+fn try_what_others_said_is_passed_on_by_turns(
+    rt: &impl Abort,
+    edge: &mut PeerCore,
+) -> Result<(), Fail> {
+    dial_all(edge)?;
+    let _ = duties(edge, 0);
+    came(edge, 2, &of_round(PREVOTE, 0, 2), Ok(()), 0, 0);
+    assert_eq!(rt; duties(edge, 999).sent, 0);
+    assert_eq!(rt; duties(edge, 1_000).sent, 1);
+    assert_eq!(rt; duties(edge, 2_000).sent, 1);
     Ok(())
 }
 
@@ -75,12 +108,67 @@ fn what_others_said_is_passed_on_by_turns(rt: HostRuntime) -> Result<(), Fail> {
 fn who_comes_is_told_the_own_messages(rt: HostRuntime) -> Result<(), Fail> {
     let alloc = rt.alloc();
     let mut edge = edge_of(alloc, GUARDED)?;
-    assert_eq!(rt; released(alloc, &mut edge, &of_round(PREVOTE, 0, 1), 0)?, 0);
+    try_who_comes_is_told_the_own_messages(&rt, alloc, &mut edge)
+}
+
+fn try_who_comes_is_told_the_own_messages(
+    rt: &impl Abort,
+    alloc: Global,
+    edge: &mut PeerCore,
+) -> Result<(), Fail> {
+    assert_eq!(rt; released(alloc, edge, &of_round(PREVOTE, 0, 1), 0)?, 0);
     edge.opened(LinkId(7), Way::Accepted, 0)?;
-    assert_eq!(rt; duties(&mut edge, 0).sent, 0);
-    asks(&mut edge, 7, 2, 0);
-    let done = duties(&mut edge, 0);
+    assert_eq!(rt; duties(edge, 0).sent, 0);
+    asks(edge, 7, 2, 0);
+    let done = duties(edge, 0);
     assert_eq!(rt; (done.sent, done.asks), (1, 1));
-    assert_eq!(rt; released(alloc, &mut edge, &of_height(ASK, 0, 1), 0)?, 7);
+    assert_eq!(rt; released(alloc, edge, &of_height(ASK, 0, 1), 0)?, 7);
+    Ok(())
+}
+
+/// The front of a prevote of this round for a value, by a validator.
+fn prevote_of(round: u8, sender: u8) -> [u8; 25] {
+    let mut frame = of_round(PREVOTE, 0, sender);
+    frame[16] = round;
+    frame
+}
+
+/// The first frame that is to be sent, at most a thousand duties on.
+fn first_sent(edge: &mut PeerCore, now: u64) -> Option<Sending> {
+    for _ in 0..1_000 {
+        if let Duty::Send(sending) = edge.next_duty(now)? {
+            return Some(sending);
+        }
+    }
+    None
+}
+
+/// Where the height stays, the prevotes by which a validator precommitted a value are passed on before all others.
+#[test]
+fn what_a_lock_rests_on_is_passed_on_first(rt: HostRuntime) -> Result<(), Fail> {
+    let alloc = rt.alloc();
+    let mut edge = edge_of(alloc, GUARDED)?;
+    try_what_a_lock_rests_on_is_passed_on_first(&rt, alloc, &mut edge)
+}
+
+fn try_what_a_lock_rests_on_is_passed_on_first(
+    rt: &impl Abort,
+    alloc: Global,
+    edge: &mut PeerCore,
+) -> Result<(), Fail> {
+    dial_all(edge)?;
+    let _ = duties(edge, 0);
+    for round in [7, 8, 1, 9] {
+        came(edge, 2, &prevote_of(round, 2), Ok(()), 0, 0);
+    }
+    let mut precommit = of_round(PRECOMMIT, 0, 1);
+    precommit[16] = 1;
+    assert_eq!(rt; released(alloc, edge, &precommit, 0)?, 123);
+    let first = first_sent(edge, 33_000);
+    assert!(rt; first.is_some_and(|sending| sending.frame.as_slice() == precommit.as_slice()));
+    let second = first_sent(edge, 33_000);
+    assert!(rt;
+        second.is_some_and(|sending| sending.frame.as_slice() == prevote_of(1, 2).as_slice())
+    );
     Ok(())
 }

@@ -26,9 +26,16 @@ fn dialed(edge: &mut PeerCore, now: u64) -> u32 {
 #[test]
 fn with_open_links_each_address_is_dialed_once(rt: HostRuntime) -> Result<(), Fail> {
     let mut edge = edge_of(rt.alloc(), Manner::PLAIN)?;
+    try_with_open_links_each_address_is_dialed_once(&rt, &mut edge)
+}
+
+fn try_with_open_links_each_address_is_dialed_once(
+    rt: &impl Abort,
+    edge: &mut PeerCore,
+) -> Result<(), Fail> {
     assert!(rt; !edge.dials_again());
-    assert_eq!(rt; dialed(&mut edge, 0), 1_023);
-    assert_eq!(rt; dialed(&mut edge, 1_000_000), 1);
+    assert_eq!(rt; dialed(edge, 0), 1_023);
+    assert_eq!(rt; dialed(edge, 1_000_000), 1);
     Ok(())
 }
 
@@ -36,12 +43,16 @@ fn with_open_links_each_address_is_dialed_once(rt: HostRuntime) -> Result<(), Fa
 #[test]
 fn an_address_is_dialed_again(rt: HostRuntime) -> Result<(), Fail> {
     let mut edge = edge_of(rt.alloc(), GUARDED)?;
+    try_an_address_is_dialed_again(&rt, &mut edge)
+}
+
+fn try_an_address_is_dialed_again(rt: &impl Abort, edge: &mut PeerCore) -> Result<(), Fail> {
     assert!(rt; edge.dials_again());
-    assert_eq!(rt; dialed(&mut edge, 0), 1_023);
-    assert_eq!(rt; dialed(&mut edge, 999), 1);
-    assert_eq!(rt; dialed(&mut edge, 1_125), 1_023);
-    assert_eq!(rt; dialed(&mut edge, 3_124), 1);
-    assert_eq!(rt; dialed(&mut edge, 3_250), 1_023);
+    assert_eq!(rt; dialed(edge, 0), 1_023);
+    assert_eq!(rt; dialed(edge, 999), 1);
+    assert_eq!(rt; dialed(edge, 1_125), 1_023);
+    assert_eq!(rt; dialed(edge, 3_124), 1);
+    assert_eq!(rt; dialed(edge, 3_250), 1_023);
     Ok(())
 }
 
@@ -49,21 +60,51 @@ fn an_address_is_dialed_again(rt: HostRuntime) -> Result<(), Fail> {
 #[test]
 fn a_link_that_ended_comes_back(rt: HostRuntime) -> Result<(), Fail> {
     let mut edge = edge_of(rt.alloc(), GUARDED)?;
-    dial_all(&mut edge)?;
-    assert_eq!(rt; dialed(&mut edge, 5_000), 1);
+    try_a_link_that_ended_comes_back(&rt, &mut edge)
+}
+
+fn try_a_link_that_ended_comes_back(rt: &impl Abort, edge: &mut PeerCore) -> Result<(), Fail> {
+    dial_all(edge)?;
+    assert_eq!(rt; dialed(edge, 5_000), 1);
     edge.ended(LinkId(2));
-    assert_eq!(rt; dialed(&mut edge, 6_000), 12);
+    assert_eq!(rt; dialed(edge, 6_000), 12);
     Ok(())
 }
 
 #[test]
 fn a_silent_validator_is_closed(rt: HostRuntime) -> Result<(), Fail> {
     let mut edge = edge_of(rt.alloc(), GUARDED)?;
-    dial_all(&mut edge)?;
-    edge.heard(LinkId(1), 5_000);
-    assert_eq!(rt; duties(&mut edge, 9_999).closed, 0);
-    assert_eq!(rt; duties(&mut edge, 10_999).closed, 2);
+    try_a_silent_validator_is_closed(&rt, &mut edge)
+}
+
+fn try_a_silent_validator_is_closed(rt: &impl Abort, edge: &mut PeerCore) -> Result<(), Fail> {
+    dial_all(edge)?;
+    for second in 1..=9u64 {
+        assert_eq!(rt; duties(edge, second * 1_000).closed, 0);
+        if second == 5 {
+            edge.heard(LinkId(1), 5_000);
+        }
+    }
+    assert_eq!(rt; duties(edge, 10_000).closed, 2);
     assert!(rt; edge.has_links());
+    Ok(())
+}
+
+/// A validator that was stopped for half a minute doesn't take the others for silent.
+#[test]
+fn a_time_that_stood_still_is_no_silence(rt: HostRuntime) -> Result<(), Fail> {
+    let mut edge = edge_of(rt.alloc(), GUARDED)?;
+    try_a_time_that_stood_still_is_no_silence(&rt, &mut edge)
+}
+
+fn try_a_time_that_stood_still_is_no_silence(
+    rt: &impl Abort,
+    edge: &mut PeerCore,
+) -> Result<(), Fail> {
+    dial_all(edge)?;
+    assert_eq!(rt; duties(edge, 1_000).closed, 0);
+    assert_eq!(rt; duties(edge, 31_000).closed, 0);
+    assert_eq!(rt; duties(edge, 32_000).closed, 0);
     Ok(())
 }
 
@@ -71,15 +112,19 @@ fn a_silent_validator_is_closed(rt: HostRuntime) -> Result<(), Fail> {
 #[test]
 fn the_oldest_stranger_makes_room(rt: HostRuntime) -> Result<(), Fail> {
     let mut edge = edge_of(rt.alloc(), GUARDED)?;
+    try_the_oldest_stranger_makes_room(&rt, &mut edge)
+}
+
+fn try_the_oldest_stranger_makes_room(rt: &impl Abort, edge: &mut PeerCore) -> Result<(), Fail> {
     edge.opened(LinkId(0), Way::Accepted, 0)?;
-    asks(&mut edge, 0, 2, 0);
+    asks(edge, 0, 2, 0);
     for stranger in 1..=64u32 {
         edge.opened(LinkId(stranger), Way::Accepted, u64::from(stranger))?;
     }
     assert_eq!(rt; MOST_STRANGERS, 64);
-    assert_eq!(rt; duties(&mut edge, 70).closed, 0);
+    assert_eq!(rt; duties(edge, 70).closed, 0);
     edge.opened(LinkId(65), Way::Accepted, 70)?;
-    assert_eq!(rt; duties(&mut edge, 70).closed, 1);
+    assert_eq!(rt; duties(edge, 70).closed, 1);
     Ok(())
 }
 
@@ -87,26 +132,16 @@ fn the_oldest_stranger_makes_room(rt: HostRuntime) -> Result<(), Fail> {
 #[test]
 fn a_link_of_no_use_is_closed(rt: HostRuntime) -> Result<(), Fail> {
     let mut edge = edge_of(rt.alloc(), Manner::PLAIN)?;
+    try_a_link_of_no_use_is_closed(&rt, &mut edge)
+}
+
+fn try_a_link_of_no_use_is_closed(rt: &impl Abort, edge: &mut PeerCore) -> Result<(), Fail> {
     edge.opened(LinkId(0), Way::Accepted, 0)?;
     for _ in 0..999 {
-        came(
-            &mut edge,
-            0,
-            &[0, 0, 0, 1, 0x7f],
-            Err(Refusal::BadKind),
-            0,
-            0,
-        );
+        came(edge, 0, &[0, 0, 0, 1, 0x7f], Err(Refusal::BadKind), 0, 0);
     }
-    assert_eq!(rt; duties(&mut edge, 0).closed, 0);
-    came(
-        &mut edge,
-        0,
-        &[0, 0, 0, 1, 0x7f],
-        Err(Refusal::BadKind),
-        0,
-        0,
-    );
-    assert_eq!(rt; duties(&mut edge, 0).closed, 1);
+    assert_eq!(rt; duties(edge, 0).closed, 0);
+    came(edge, 0, &[0, 0, 0, 1, 0x7f], Err(Refusal::BadKind), 0, 0);
+    assert_eq!(rt; duties(edge, 0).closed, 1);
     Ok(())
 }

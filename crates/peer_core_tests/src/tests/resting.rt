@@ -3,6 +3,7 @@
 use super::{GUARDED, PREVOTE, PROPOSAL, came, dial_all, duties, edge_of, of_round, released};
 use peer_core::{Manner, PeerCore};
 use protocol::{Step, Timeout};
+use std::alloc::Global;
 use std::process::Abort;
 use std::test::Fail;
 
@@ -36,10 +37,14 @@ fn fired(edge: &mut PeerCore, from: u64, to: u64) -> u32 {
 #[test]
 fn a_height_is_held_open(rt: HostRuntime) -> Result<(), Fail> {
     let mut edge = edge_of(rt.alloc(), RESTING)?;
-    dial_all(&mut edge)?;
+    try_a_height_is_held_open(&rt, &mut edge)
+}
+
+fn try_a_height_is_held_open(rt: &impl Abort, edge: &mut PeerCore) -> Result<(), Fail> {
+    dial_all(edge)?;
     edge.scheduled(propose(0), 0)?;
-    assert_eq!(rt; fired(&mut edge, 0, 60), 0);
-    assert_eq!(rt; fired(&mut edge, 61, 62), 1);
+    assert_eq!(rt; fired(edge, 0, 60), 0);
+    assert_eq!(rt; fired(edge, 61, 62), 1);
     Ok(())
 }
 
@@ -47,15 +52,19 @@ fn a_height_is_held_open(rt: HostRuntime) -> Result<(), Fail> {
 #[test]
 fn a_transaction_wakes(rt: HostRuntime) -> Result<(), Fail> {
     let mut edge = edge_of(rt.alloc(), RESTING)?;
-    dial_all(&mut edge)?;
-    let _ = duties(&mut edge, 0);
+    try_a_transaction_wakes(&rt, &mut edge)
+}
+
+fn try_a_transaction_wakes(rt: &impl Abort, edge: &mut PeerCore) -> Result<(), Fail> {
+    dial_all(edge)?;
+    let _ = duties(edge, 0);
     edge.scheduled(propose(0), 0)?;
-    came(&mut edge, 9, &TRANSACTION, Ok(()), 0, 1_000);
-    assert_eq!(rt; duties(&mut edge, 1_000).sent, 1);
-    assert_eq!(rt; fired(&mut edge, 1, 2), 1);
+    came(edge, 9, &TRANSACTION, Ok(()), 0, 1_000);
+    assert_eq!(rt; duties(edge, 1_000).sent, 1);
+    assert_eq!(rt; fired(edge, 1, 2), 1);
     assert!(rt; edge.told(1, 2_000));
     edge.scheduled(propose(1), 2_000)?;
-    assert_eq!(rt; fired(&mut edge, 2, 3), 1);
+    assert_eq!(rt; fired(edge, 2, 3), 1);
     Ok(())
 }
 
@@ -63,21 +72,25 @@ fn a_transaction_wakes(rt: HostRuntime) -> Result<(), Fail> {
 #[test]
 fn a_vote_wakes(rt: HostRuntime) -> Result<(), Fail> {
     let mut edge = edge_of(rt.alloc(), RESTING)?;
-    dial_all(&mut edge)?;
+    try_a_vote_wakes(&rt, &mut edge)
+}
+
+fn try_a_vote_wakes(rt: &impl Abort, edge: &mut PeerCore) -> Result<(), Fail> {
+    dial_all(edge)?;
     edge.scheduled(propose(0), 0)?;
     let mut vote = of_round(PREVOTE, 0, 2);
-    came(&mut edge, 2, &vote, Ok(()), 0, 0);
-    assert_eq!(rt; fired(&mut edge, 0, 1), 1);
+    came(edge, 2, &vote, Ok(()), 0, 0);
+    assert_eq!(rt; fired(edge, 0, 1), 1);
     assert!(rt; edge.told(1, 1_000));
     edge.scheduled(propose(1), 1_000)?;
-    assert_eq!(rt; fired(&mut edge, 1, 9), 0);
+    assert_eq!(rt; fired(edge, 1, 9), 0);
     vote[12] = 1;
     vote[19] = 0;
-    came(&mut edge, 2, &vote, Ok(()), 1, 9_000);
-    assert_eq!(rt; fired(&mut edge, 9, 10), 1);
+    came(edge, 2, &vote, Ok(()), 1, 9_000);
+    assert_eq!(rt; fired(edge, 9, 10), 1);
     assert!(rt; edge.told(2, 10_000));
     edge.scheduled(propose(2), 10_000)?;
-    assert_eq!(rt; fired(&mut edge, 10, 11), 1);
+    assert_eq!(rt; fired(edge, 10, 11), 1);
     Ok(())
 }
 
@@ -86,14 +99,19 @@ fn a_vote_wakes(rt: HostRuntime) -> Result<(), Fail> {
 fn an_own_proposal_rests(rt: HostRuntime) -> Result<(), Fail> {
     let alloc = rt.alloc();
     let mut edge = edge_of(alloc, RESTING)?;
-    dial_all(&mut edge)?;
-    let _ = duties(&mut edge, 0);
-    assert_eq!(rt;
-        released(alloc, &mut edge, &of_round(PROPOSAL, 0, 1), 0)?,
-        0
-    );
-    assert_eq!(rt; duties(&mut edge, 59_999).sent, 0);
-    came(&mut edge, 9, &TRANSACTION, Ok(()), 0, 59_999);
-    assert_eq!(rt; duties(&mut edge, 59_999).sent, 2);
+    try_an_own_proposal_rests(&rt, alloc, &mut edge)
+}
+
+fn try_an_own_proposal_rests(
+    rt: &impl Abort,
+    alloc: Global,
+    edge: &mut PeerCore,
+) -> Result<(), Fail> {
+    dial_all(edge)?;
+    let _ = duties(edge, 0);
+    assert_eq!(rt; released(alloc, edge, &of_round(PROPOSAL, 0, 1), 0)?, 0);
+    assert_eq!(rt; duties(edge, 59_999).sent, 0);
+    came(edge, 9, &TRANSACTION, Ok(()), 0, 59_999);
+    assert_eq!(rt; duties(edge, 59_999).sent, 2);
     Ok(())
 }

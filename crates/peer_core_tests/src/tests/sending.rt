@@ -5,8 +5,9 @@ use super::{
     of_round, released,
 };
 use edge_frames::LinkId;
-use peer_core::Manner;
+use peer_core::{Manner, PeerCore};
 use peer_links::Way;
+use std::alloc::Global;
 use std::process::Abort;
 use std::test::Fail;
 
@@ -14,16 +15,18 @@ use std::test::Fail;
 fn with_open_links_every_frame_goes_to_every_link(rt: HostRuntime) -> Result<(), Fail> {
     let alloc = rt.alloc();
     let mut edge = edge_of(alloc, Manner::PLAIN)?;
-    dial_all(&mut edge)?;
+    try_with_open_links_every_frame_goes_to_every_link(&rt, alloc, &mut edge)
+}
+
+fn try_with_open_links_every_frame_goes_to_every_link(
+    rt: &impl Abort,
+    alloc: Global,
+    edge: &mut PeerCore,
+) -> Result<(), Fail> {
+    dial_all(edge)?;
     edge.opened(LinkId(4), Way::Accepted, 0)?;
-    assert_eq!(rt;
-        released(alloc, &mut edge, &of_round(PREVOTE, 0, 1), 0)?,
-        1_234
-    );
-    assert_eq!(rt;
-        released(alloc, &mut edge, &of_height(ASK, 0, 1), 0)?,
-        1_234
-    );
+    assert_eq!(rt; released(alloc, edge, &of_round(PREVOTE, 0, 1), 0)?, 1_234);
+    assert_eq!(rt; released(alloc, edge, &of_height(ASK, 0, 1), 0)?, 1_234);
     Ok(())
 }
 
@@ -31,14 +34,19 @@ fn with_open_links_every_frame_goes_to_every_link(rt: HostRuntime) -> Result<(),
 fn a_stranger_is_sent_nothing(rt: HostRuntime) -> Result<(), Fail> {
     let alloc = rt.alloc();
     let mut edge = edge_of(alloc, GUARDED)?;
+    try_a_stranger_is_sent_nothing(&rt, alloc, &mut edge)
+}
+
+fn try_a_stranger_is_sent_nothing(
+    rt: &impl Abort,
+    alloc: Global,
+    edge: &mut PeerCore,
+) -> Result<(), Fail> {
     edge.opened(LinkId(1), Way::Accepted, 0)?;
     edge.opened(LinkId(2), Way::Dialed(2), 0)?;
-    assert_eq!(rt; released(alloc, &mut edge, &of_round(PREVOTE, 0, 1), 0)?, 2);
-    asks(&mut edge, 1, 0, 1);
-    assert_eq!(rt;
-        released(alloc, &mut edge, &of_round(PREVOTE, 1, 1), 2)?,
-        12
-    );
+    assert_eq!(rt; released(alloc, edge, &of_round(PREVOTE, 0, 1), 0)?, 2);
+    asks(edge, 1, 0, 1);
+    assert_eq!(rt; released(alloc, edge, &of_round(PREVOTE, 1, 1), 2)?, 12);
     Ok(())
 }
 
@@ -48,27 +56,26 @@ fn a_stranger_is_sent_nothing(rt: HostRuntime) -> Result<(), Fail> {
 fn one_link_of_a_validator_is_used(rt: HostRuntime) -> Result<(), Fail> {
     let alloc = rt.alloc();
     let mut edge = edge_of(alloc, GUARDED)?;
-    dial_all(&mut edge)?;
+    try_one_link_of_a_validator_is_used(&rt, alloc, &mut edge)
+}
+
+fn try_one_link_of_a_validator_is_used(
+    rt: &impl Abort,
+    alloc: Global,
+    edge: &mut PeerCore,
+) -> Result<(), Fail> {
+    dial_all(edge)?;
     edge.opened(LinkId(4), Way::Accepted, 0)?;
     edge.opened(LinkId(5), Way::Accepted, 0)?;
-    asks(&mut edge, 4, 0, 1);
-    asks(&mut edge, 5, 2, 1);
-    assert_eq!(rt;
-        released(alloc, &mut edge, &of_round(PREVOTE, 0, 1), 1)?,
-        123
-    );
-    came(&mut edge, 4, &of_round(PREVOTE, 0, 0), Ok(()), 0, 2);
-    came(&mut edge, 5, &of_round(PREVOTE, 0, 2), Ok(()), 0, 2);
-    assert_eq!(rt;
-        released(alloc, &mut edge, &of_round(PREVOTE, 1, 1), 3)?,
-        234
-    );
+    asks(edge, 4, 0, 1);
+    asks(edge, 5, 2, 1);
+    assert_eq!(rt; released(alloc, edge, &of_round(PREVOTE, 0, 1), 1)?, 123);
+    came(edge, 4, &of_round(PREVOTE, 0, 0), Ok(()), 0, 2);
+    came(edge, 5, &of_round(PREVOTE, 0, 2), Ok(()), 0, 2);
+    assert_eq!(rt; released(alloc, edge, &of_round(PREVOTE, 1, 1), 3)?, 234);
     edge.ended(LinkId(4));
     edge.ended(LinkId(2));
-    assert_eq!(rt;
-        released(alloc, &mut edge, &of_round(PREVOTE, 2, 1), 4)?,
-        135
-    );
+    assert_eq!(rt; released(alloc, edge, &of_round(PREVOTE, 2, 1), 4)?, 135);
     Ok(())
 }
 
@@ -77,15 +84,23 @@ fn one_link_of_a_validator_is_used(rt: HostRuntime) -> Result<(), Fail> {
 fn a_bundle_goes_to_who_asked(rt: HostRuntime) -> Result<(), Fail> {
     let alloc = rt.alloc();
     let mut edge = edge_of(alloc, GUARDED)?;
-    dial_all(&mut edge)?;
+    try_a_bundle_goes_to_who_asked(&rt, alloc, &mut edge)
+}
+
+fn try_a_bundle_goes_to_who_asked(
+    rt: &impl Abort,
+    alloc: Global,
+    edge: &mut PeerCore,
+) -> Result<(), Fail> {
+    dial_all(edge)?;
     let bundle = of_height(BUNDLE, 0, 1);
-    assert_eq!(rt; released(alloc, &mut edge, &bundle, 0)?, 0);
-    came(&mut edge, 2, &of_height(ASK, 0, 2), Ok(()), 1, 0);
-    assert_eq!(rt; released(alloc, &mut edge, &bundle, 0)?, 2);
-    came(&mut edge, 2, &of_height(ASK, 0, 2), Ok(()), 1, 500);
-    assert_eq!(rt; released(alloc, &mut edge, &bundle, 500)?, 0);
-    came(&mut edge, 2, &of_height(ASK, 0, 2), Ok(()), 1, 1_000);
-    assert_eq!(rt; released(alloc, &mut edge, &bundle, 1_000)?, 2);
+    assert_eq!(rt; released(alloc, edge, &bundle, 0)?, 0);
+    came(edge, 2, &of_height(ASK, 0, 2), Ok(()), 1, 0);
+    assert_eq!(rt; released(alloc, edge, &bundle, 0)?, 2);
+    came(edge, 2, &of_height(ASK, 0, 2), Ok(()), 1, 500);
+    assert_eq!(rt; released(alloc, edge, &bundle, 500)?, 0);
+    came(edge, 2, &of_height(ASK, 0, 2), Ok(()), 1, 1_000);
+    assert_eq!(rt; released(alloc, edge, &bundle, 1_000)?, 2);
     Ok(())
 }
 
