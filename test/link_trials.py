@@ -2,11 +2,12 @@
 import collections
 import os
 import random
+import shutil
 import subprocess
 import time
 
 from switches import AT_ITS_START, WITHIN_IT, Strangers, Switch, linked_pairs
-from validators import BUNDLE, PATIENCE, Client, among, dial, read, want
+from validators import BUNDLE, PATIENCE, Client, LeftOut, among, dial, free_addresses, hold, limited, read, want
 
 GUARDED = {"links": "guarded", "redial": 200}
 # How often a processor's clock ticks a second, by which the system counts the time of processes.
@@ -236,7 +237,66 @@ def reads_until(descriptor, lines):
     return found
 
 
+def too_few_files(cluster, _):
+    """A validator that may open few files can't take all who connect, says so, and goes on with whom it has."""
+    told_at = free_addresses(1)[0]
+    for me in range(3):
+        cluster.start(me, {**GUARDED, "idle": 50})
+    want_all_to_go_on(cluster, range(3), PATIENCE, "at first")
+    # (a connection takes two files: with an odd number of them the last one is taken, and can't be used)
+    for limit in (24, 25):
+        cluster.start(3, {**GUARDED, "idle": 50, "status": told_at}, **limited(NOFILE=limit))
+        want_all_to_go_on(cluster, range(4), PATIENCE, "at first")
+        held = [hold(cluster.addresses[3], b"") for _ in range(30)] + [hold(told_at, b"") for _ in range(3)]
+        time.sleep(1)
+        want_all_to_go_on(cluster, range(4), 20, "with no files left")
+        for it in held:
+            it.close()
+        cluster.kill(3)
+    log = read(cluster.path("v3.log"))
+    for line in ("a peer cannot be taken", "cannot be used", "nobody can be told how far it is"):
+        want(line in log, f"'{line}' isn't logged")
+    cluster.start(3, {**GUARDED, "idle": 50})
+    want_all_to_go_on(cluster, range(4), 30, "with files again")
+
+
+def too_few_threads(cluster, _):
+    """A validator that may have few threads closes links for which it has none, says so, and the others go on."""
+    if os.geteuid() or not shutil.which("setpriv"):
+        raise LeftOut("it wants to be root, who may run it as somebody else, whose threads are counted")
+    program = shutil.copy2(cluster.program, cluster.path("tmnode"))
+    for path in (cluster.folder, cluster.path("keys"), program):
+        os.chmod(path, 0o777)
+    os.chmod(cluster.keys_of("v3"), 0o644)
+    for me in range(3):
+        cluster.start(me, {**GUARDED, "idle": 50})
+    want_all_to_go_on(cluster, range(3), PATIENCE, "at first")
+    cluster.program = program
+    nobody = ["setpriv", "--reuid=65534", "--regid=65534", "--clear-groups"]
+    cluster.start(3, {**GUARDED, "idle": 50}, nobody, **limited(NPROC=9))
+    log, ends = cluster.path("v3.log"), time.monotonic() + 20
+    while "closed: no thread can be started" not in read(log):
+        want(time.monotonic() < ends and cluster.running[3].poll() is None, f"it logs {read(log).splitlines()[-3:]}")
+        time.sleep(0.1)
+    want_all_to_go_on(cluster, range(3), 20, "beside one that has too few threads")
+
+
+def a_link_of_no_use(cluster, _):
+    """A link on which nothing comes that can be used is closed after a thousand frames, and those of others stay."""
+    for me in range(4):
+        cluster.start(me, {**GUARDED, "idle": 50})
+    want_all_to_go_on(cluster, range(4), PATIENCE, "at first")
+    with dial(cluster.addresses[0]) as link:
+        link.sendall(bytes.fromhex("000000017f") * 1_100)
+        want(link.recv(1) == b"", "the link gets an answer")
+    want("closed: it sends nothing that can be used" in read(cluster.path("v0.log")), "it isn't logged why")
+    want_all_to_go_on(cluster, range(4), 20, "after it")
+
+
 LINK_TRIALS = (
+    too_few_files,
+    too_few_threads,
+    a_link_of_no_use,
     lines_leave_in_blocks,
     links_that_are_reset,
     links_that_are_half_open,

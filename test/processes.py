@@ -24,7 +24,9 @@ TOP = os.path.dirname(os.path.dirname(os.path.realpath(__file__)))
 IN_PYTHON = f"{TOP}/clients/python"
 sys.path.append(IN_PYTHON)
 import pomtsjef
+from journal_trials import JOURNAL_TRIALS, want_journals_shown
 from link_trials import LINK_TRIALS
+from log_lines import LogLines
 from validators import (
     PATIENCE,
     PRECOMMIT,
@@ -707,8 +709,22 @@ TESTS = (
     a_clock_that_begins_anew,
     noise,
     links_that_are_never_done,
+    *JOURNAL_TRIALS,
     *LINK_TRIALS,
 )
+
+
+LOGGED = LogLines()
+
+
+def each_line_of_the_log(is_whole):
+    """Returns whether each line of the log that is documented was logged in some test, or nothing where one of them was left out."""
+    missing = LOGGED.missing()
+    if missing and not is_whole:
+        print(f"each_line_of_the_log: left out: not logged in the tests that there were: {'; '.join(missing)}", flush=True)
+        return None
+    print(f"each_line_of_the_log: {'FAILED: never logged: ' + '; '.join(missing) if missing else 'passed'}", flush=True)
+    return not missing
 
 
 def tried(test, program, is_long):
@@ -718,6 +734,8 @@ def tried(test, program, is_long):
     try:
         cluster.begin()
         test(cluster, is_long)
+        cluster.end()
+        want_journals_shown(cluster)
     except LeftOut as lack:
         print(f"{test.__name__}: left out: {lack}", flush=True)
         shutil.rmtree(folder)
@@ -727,6 +745,7 @@ def tried(test, program, is_long):
         return False
     finally:
         cluster.end()
+        LOGGED.note(folder)
     shutil.rmtree(folder)
     print(f"{test.__name__}: passed in {time.monotonic() - began:.1f} s", flush=True)
     return True
@@ -743,6 +762,8 @@ def main():
         print(f"processes.py: {program} is no program; ./build.sh makes it", file=sys.stderr)
         return 2
     wells = [tried(test, program, given.long) for test in TESTS if not given.names or test.__name__ in given.names]
+    if not given.names:
+        wells.append(each_line_of_the_log(None not in wells))
     print(f"{wells.count(True)} passed, {wells.count(False)} failed")
     return 1 if False in wells else 0
 

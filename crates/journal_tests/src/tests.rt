@@ -4,4 +4,5 @@ mod files;
 mod journals;
 mod longest;
 mod marks;
+mod reading;
 mod strikes;

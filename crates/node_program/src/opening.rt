@@ -1,10 +1,13 @@
 //! What a validator stands on: its keys and its journal.
 
-ghost use Rattle.std.specs.Prelude.{◌≡◌, ◌<◌, false, IfOk, length};
+ghost use Rattle.std.specs.Prelude.{◌≡◌, ◌<◌, List, false, IfOk, length, reverse};
 ghost use Rattle.protocol.specs.Tags.{Validator};
-ghost use Rattle.protocol.specs.State.{Node as ProtocolNode};
+ghost use Rattle.protocol.specs.Messages.{Record as AnyRecord};
+ghost use Rattle.protocol.specs.Restart.{opened as opened_over};
+ghost use Rattle.vote_journal.specs.Layout.{IsWhole};
 ghost use Rattle.node_core.specs.Core.{Stands};
 ghost use Rattle.node_core.specs.Opening.{IsRead};
+ghost use Rattle.node_program.specs.Opening.{IsOpenedOver};
 
 use authenticators::KeyRing;
 use journal_file::FileFault;
@@ -23,7 +26,7 @@ pub(crate) fn unopened(fault: FileFault) -> Failure {
     }
 }
 
-/// The validator that its journal tells of.
+/// The validator that comes back over the journal on this store.
 pub(crate) fn open_core<S: Store + Drop>(
     alloc: Global,
     config: Config,
@@ -33,7 +36,8 @@ pub(crate) fn open_core<S: Store + Drop>(
     requires owner { ring.me ≡ Validator config.me }
     requires count { ring.count ≡ length config.powers }
     requires me { config.me < length config.powers }
-    ensures { IfOk result (λ core. (n : ProtocolNode) × Stands n core) }
+    ensures opened { IfOk result (λ core. IsOpenedOver config.powers config.me (S.may_leave store) core) }
+    ensures same { IfOk result (λ core. (core.machine.powers ≡ config.powers) × (core.machine.me ≡ config.me) × (core.ring ≡ ring)) }
 {
     match Journal::open(alloc, store, config.me, &config.powers) {
         Ok(opened) => core_over(alloc, config, ring, opened),
@@ -41,7 +45,7 @@ pub(crate) fn open_core<S: Store + Drop>(
     }
 }
 
-/// The validator that an opened journal tells of.
+/// The validator that comes back over an opened journal.
 fn core_over<S: Store + Drop>(
     alloc: Global,
     config: Config,
@@ -53,7 +57,8 @@ fn core_over<S: Store + Drop>(
     requires me { config.me < length config.powers }
     requires journal { (opened.journal.me ≡ config.me) × (opened.journal.failed ≡ false) }
     requires read { IsRead config.powers config.me (S.seen opened.journal.store) opened.decisions.items opened.own.items }
-    ensures { IfOk result (λ core. (n : ProtocolNode) × Stands n core) }
+    ensures stands { IfOk result (λ core. (rs : List AnyRecord) → IsWhole config.powers config.me (S.seen opened.journal.store) rs → Stands (opened_over config.me (reverse rs)) core) }
+    ensures same { IfOk result (λ core. (core.machine.powers ≡ config.powers) × (core.machine.me ≡ config.me) × (core.ring ≡ ring)) }
 {
     match NodeCore::open(alloc, config, ring, opened) {
         Ok(core) => Ok(core),

@@ -2,12 +2,12 @@
 
 ghost use Rattle.std.specs.Prelude.{◌≡◌, ◌≤◌, ◌+◌};
 
-use crate::item_line::ItemLine;
 use crate::progress::Progress;
 use locked_node::{LockedNode, Subscription};
 use log::Log;
 use peer_links::Clock;
 use peer_threads::Bell;
+use printed_lines::ItemLine;
 use status_words::{Node, Seat};
 use std::alloc::{AllocError, Global};
 use std::io::{BufWriter, Write};
@@ -60,7 +60,8 @@ impl<W: Write + Drop> Printout<W> {
             self.write_block();
         }
         if self.has_room() {
-            let _ = writeln!(self.out, "{}", ItemLine(delivered));
+            let line = ItemLine::of_item(delivered.position, &delivered.item);
+            let _ = writeln!(self.out, "{line}");
         }
         self.printed = self.printed.saturating_add(1);
     }

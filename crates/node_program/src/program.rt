@@ -4,6 +4,7 @@ ghost use Rattle.std.specs.Prelude.{◌≡◌, ◌≤◌, IfOk};
 
 use crate::validator::run;
 use client_program::send;
+use journal_program::show_journal;
 use key_files::write_keys;
 use node_settings::{Failure, Invocation, Page, settings};
 use std::convert::AsStr;
@@ -60,6 +61,7 @@ fn outcome<
         Invocation::Run(settings) => run(rt, settings, out),
         Invocation::Send(settings) => send(rt, settings, out),
         Invocation::Keys(settings) => write_keys(rt, settings),
+        Invocation::Journal(settings) => show_journal(rt, &settings, out),
         Invocation::Page(page) => Ok(print_page(&mut out, &page)),
     }
 }

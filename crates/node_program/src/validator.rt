@@ -8,6 +8,7 @@ ghost use Rattle.node_core.specs.Core.{Stands};
 ghost use Rattle.locked_node.specs.Locked.{count_of};
 ghost use Rattle.node_settings.specs.Lawful.{IsLawfulRun};
 ghost use Rattle.node_program.specs.Manners.{keeping_of};
+ghost use Rattle.node_program.specs.Opening.{IsOpenedInFile};
 
 use crate::opening::{open_core, unopened};
 use crate::printing::{Printout, print_until_end};
@@ -83,13 +84,13 @@ pub(crate) fn run<
     serve_core::<FileStore, Brand, W, Leveled<'_, R>>(&logged, core, opened, service, out)
 }
 
-/// The validator of these settings, as its journal tells of it.
+/// The validator of these settings, which comes back over the journal in its file.
 fn validator_of<R: Files<File = File> + AllocGlobal>(
     rt: &R,
     settings: &RunSettings<'_>,
 ) -> Result<NodeCore<FileStore>, Failure>
     requires { IsLawfulRun settings.now }
-    ensures { IfOk result (λ core. (n : ProtocolNode) × Stands n core) }
+    ensures { IfOk result (λ core. IsOpenedInFile settings.now.powers settings.now.me core) }
 {
     let alloc = rt.alloc();
     let Ok(powers) = settings.powers.copy(alloc) else {

@@ -1,6 +1,6 @@
 -- The subcommands as the parser of words takes them.
 use Rattle.std.proofs.Common.{◌≡◌, true, refl}
-use Rattle.node_settings.specs.Commands.{run_app, send_app, keys_app}
+use Rattle.node_settings.specs.Commands.{run_app, send_app, keys_app, journal_app}
 
 pub run_is_plain : run_app.top.is_plain ≡ true
 unfolding run_app
@@ -13,3 +13,7 @@ send_is_plain = refl
 pub keys_is_plain : keys_app.top.is_plain ≡ true
 unfolding keys_app
 keys_is_plain = refl
+
+pub journal_is_plain : journal_app.top.is_plain ≡ true
+unfolding journal_app
+journal_is_plain = refl

@@ -4,6 +4,7 @@ use Rattle.clap.specs.Walk.{Rule, Text}
 use Rattle.clap.specs.Simple.{App, new_rule, new_app, with_rule, with_subcommand}
 use Rattle.clap.specs.declared.builder.action.ArgAction.TheVariants.{SetTrue}
 use Rattle.node_settings.specs.declared.command.WordOption.{WordOption}
+use Rattle.node_settings.specs.declared.command.Flag.{Flag}
 
 -- an option by its name, which takes one word
 abbrev pub option : Text → Bool → Rule
@@ -15,6 +16,13 @@ rule_for o = option o.name.now o.is_required
 -- a flag by its name
 abbrev pub flag : Text → Rule
 flag name = record (new_rule name) { long = Some name; action = Some SetTrue }
+
+abbrev pub rule_for_flag : Flag → Rule
+rule_for_flag f = flag f.name.now
+
+-- a word by its place
+abbrev pub positional : Text → Rule
+positional name = record (new_rule name) { required = true; value_names = 1 }
 
 abbrev pub with_rules : App → List Rule → App
 with_rules app rules = fold with_rule app rules
@@ -34,12 +42,16 @@ unfoldable pub keys_app : App
 keys_app = with_rules (new_app (codes "keys"))
     (option (codes "validators") true ∷ option (codes "clients") true ∷ option (codes "out") true ∷ [])
 
+unfoldable pub journal_app : App
+journal_app = with_rules (new_app (codes "journal"))
+    (positional (codes "file") ∷ option (codes "height") false ∷ flag (codes "follow") ∷ flag (codes "json") ∷ flag (codes "list") ∷ [])
+
 -- the program with `--help` and `--version`, and no word `help`
 abbrev pub top_app : App
 top_app =
     let top : App = new_app (codes "tmnode") in
     record top { top = record top.top { has_version = true; disable_help_subcommand = true } }
 
--- `tmnode run ..`, `tmnode send ..` and `tmnode keys ..`
+-- `tmnode run ..`, `tmnode send ..`, `tmnode keys ..` and `tmnode journal ..`
 abbrev pub node_app : App
-node_app = with_subcommand (with_subcommand (with_subcommand top_app run_app.top) send_app.top) keys_app.top
+node_app = with_subcommand (with_subcommand (with_subcommand (with_subcommand top_app run_app.top) send_app.top) keys_app.top) journal_app.top

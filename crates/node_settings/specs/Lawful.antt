@@ -11,7 +11,7 @@ use Rattle.node_settings.specs.declared.sending.Sender.{Sender}
 use Rattle.node_settings.specs.declared.sending.Batch.{Batch}
 use Rattle.node_settings.specs.declared.invocation.KeysSettings.{KeysSettings}
 use Rattle.node_settings.specs.declared.invocation.Invocation.{Invocation}
-use Rattle.node_settings.specs.declared.invocation.Invocation.TheVariants.{Run, Send, Keys, Page}
+use Rattle.node_settings.specs.declared.invocation.Invocation.TheVariants.{Run, Send, Keys, Journal, Page}
 
 -- of a validator: it is one of those that have powers, each of which has an address
 pub record IsLawfulPlace (p : Place) : Type 0 where
@@ -74,4 +74,5 @@ abbrev pub IsLawful : Invocation → Type 0
 IsLawful (Run s) = IsLawfulRun s
 IsLawful (Send s) = IsLawfulSend s
 IsLawful (Keys s) = IsLawfulKeys s
+IsLawful (Journal s) = Unit {0}
 IsLawful (Page p) = Unit {0}

@@ -5,3 +5,4 @@ pub mod Sending
 pub mod Settings
 pub mod Lawful
 pub mod Failures
+pub mod Looking

@@ -11,6 +11,7 @@ use Rattle.node_settings.specs.Commands.{node_app}
 use Rattle.node_settings.specs.Words.{◌>>=◌, given, number_given, validators_of}
 use Rattle.node_settings.specs.Running.{Run, run_words, run_of}
 use Rattle.node_settings.specs.Sending.{Send, send_words, send_of}
+use Rattle.node_settings.specs.Looking.{Look, journal_words, journal_of}
 use Rattle.node_settings.specs.declared.invocation.SettingsFault.{SettingsFault}
 use Rattle.node_settings.specs.declared.invocation.SettingsFault.TheVariants.{Usage, OutOfMemory}
 use Rattle.node_settings.specs.declared.invocation.KeysSettings.{KeysSettings}
@@ -28,6 +29,7 @@ pub data Asked : Type 0 where
   run : Run → Asked
   send : Send → Asked
   keys : Keys → Asked
+  journal : Look → Asked
   page : Asked
 
 abbrev pub keys_words : KeysSettings → Keys
@@ -37,6 +39,7 @@ abbrev pub invocation_words : Invocation → Asked
 invocation_words (asks.Run s) = run (run_words s)
 invocation_words (asks.Send s) = send (send_words s)
 invocation_words (asks.Keys s) = keys (keys_words s)
+invocation_words (asks.Journal s) = journal (journal_words s)
 invocation_words (asks.Page p) = page
 
 -- ---- what the words of each option make of them
@@ -50,13 +53,14 @@ keys_of rows = do
 
 -- ---- the whole command line
 
--- the settings of the subcommand that the words enter: `run`, `send`, or the only one left, `keys`
+-- the settings of the subcommand that the words enter: `run`, `send`, `keys`, or the only one left, `journal`
 abbrev pub entered_of : Option (Text × List Row) → Result Asked SettingsFault
 entered_of None = Err Usage
 entered_of (Some (name, rows)) =
     if bytes_eq name (codes "run") then (run_of rows >>= λ s. Ok (run s))
     else if bytes_eq name (codes "send") then (send_of rows >>= λ s. Ok (send s))
-    else (keys_of rows >>= λ s. Ok (keys s))
+    else if bytes_eq name (codes "keys") then (keys_of rows >>= λ s. Ok (keys s))
+    else (journal_of rows >>= λ s. Ok (journal s))
 
 -- what words ask for whose parse ends with a fault of this kind
 abbrev pub asked_by : ErrorKind → Result Asked SettingsFault

@@ -2,7 +2,7 @@
 
 ghost use Rattle.std.specs.Prelude.{◌≡◌, IfOk, map};
 ghost use Rattle.clap.specs.Words.{app_of};
-ghost use Rattle.node_settings.specs.Commands.{rule_for, with_rules, run_app, send_app, keys_app, top_app, node_app};
+ghost use Rattle.node_settings.specs.Commands.{rule_for, rule_for_flag, with_rules, run_app, send_app, keys_app, journal_app, top_app, node_app};
 
 use clap::{Arg, ArgAction, Command};
 use std::alloc::{AllocError, Global};
@@ -17,6 +17,13 @@ struct WordOption {
     is_required: bool,
     /// What stands for the word in the help.
     value: &'static str,
+    help: &'static str,
+}
+
+/// An option that takes no word.
+#[derive(Clone, Copy)]
+struct Flag {
+    name: &'static str,
     help: &'static str,
 }
 
@@ -179,6 +186,28 @@ static KEYS: [WordOption; 3] = [
     },
 ];
 
+static JOURNAL: [WordOption; 1] = [WordOption {
+    name: "height",
+    is_required: false,
+    value: "H",
+    help: "Of this height alone",
+}];
+
+static JOURNAL_FLAGS: [Flag; 3] = [
+    Flag {
+        name: "follow",
+        help: "Go on as the journal grows",
+    },
+    Flag {
+        name: "json",
+        help: "Print each record as a JSON object",
+    },
+    Flag {
+        name: "list",
+        help: "Print the delivered items, as run does",
+    },
+];
+
 /// The command with these options added in turn.
 fn with_options<'a>(
     alloc: Global,
@@ -193,6 +222,24 @@ fn with_options<'a>(
             .value_name(option.value)
             .help(option.help)
             .required(option.is_required);
+        command = command.arg(arg)?;
+    }
+    Ok(command)
+}
+
+/// The command with these flags added in turn.
+fn with_flags<'a>(
+    alloc: Global,
+    mut command: Command<'a>,
+    flags: &[Flag],
+) -> Result<Command<'a>, AllocError>
+    ensures { IfOk result (λ made. app_of made ≡ with_rules (app_of command.entry) (map rule_for_flag flags.now)) }
+{
+    for flag in flags {
+        let arg = Arg::new(alloc, flag.name)
+            .long(flag.name)
+            .help(flag.help)
+            .action(ArgAction::SetTrue);
         command = command.arg(arg)?;
     }
     Ok(command)
@@ -226,13 +273,26 @@ fn keys_command<'a>(alloc: Global) -> Result<Command<'a>, AllocError>
     with_options(alloc, command, KEYS.as_slice())
 }
 
+#[tactic(auto, unfolding(crate::specs::Commands::journal_app))]
+fn journal_command<'a>(alloc: Global) -> Result<Command<'a>, AllocError>
+    ensures { IfOk result (λ made. app_of made ≡ journal_app) }
+{
+    let command = Command::new(alloc, "journal").about("Prints what a validator's journal holds");
+    let file = Arg::new(alloc, "file")
+        .value_name("FILE")
+        .help("The journal, which may be in use")
+        .required(true);
+    let command = with_options(alloc, command.arg(file)?, JOURNAL.as_slice())?;
+    with_flags(alloc, command, JOURNAL_FLAGS.as_slice())
+}
+
 /// The command of the program itself.
 fn top_command<'a>(alloc: Global) -> Command<'a>
     ensures { app_of result ≡ top_app }
 {
     Command::new(alloc, "tmnode")
         .about(
-            "Runs a validator of an atomic broadcast, sends it transactions, or makes the key files",
+            "Runs a validator of an atomic broadcast, sends it transactions, makes the key files, or reads a journal",
         )
         .version(VERSION)
         .disable_help_subcommand(true)
@@ -245,8 +305,10 @@ pub fn node_command<'a>(alloc: Global) -> Result<Command<'a>, AllocError>
     let run = run_command(alloc)?;
     let send = send_command(alloc)?;
     let keys = keys_command(alloc)?;
+    let journal = journal_command(alloc)?;
     top_command(alloc)
         .subcommand(run)?
         .subcommand(send)?
-        .subcommand(keys)
+        .subcommand(keys)?
+        .subcommand(journal)
 }

@@ -8,6 +8,7 @@ ghost use Rattle.node_settings.specs.Lawful.{IsLawful, IsLawfulKeys};
 ghost use Rattle.node_settings.specs.Settings.{keys_words, invocation_words, keys_of, entered_of, settings_of, asked_by};
 
 use crate::command::node_command;
+use crate::looking::JournalSettings;
 use crate::options::{number, validators_of, word};
 use clap::error::ErrorKind;
 use clap::{ArgMatches, Error};
@@ -160,6 +161,8 @@ pub enum Invocation<'a> {
     Send(SendSettings<'a>),
     /// To make the key file of every party.
     Keys(KeysSettings<'a>),
+    /// To print what a journal holds.
+    Journal(JournalSettings<'a>),
     /// To print a page on standard output; the exit status is then 0.
     Page(Page),
 }
@@ -204,8 +207,10 @@ fn entered<'a>(alloc: Global, found: &ArgMatches<'a>) -> Result<Invocation<'a>, 
         Ok(Invocation::Run(RunSettings::read(alloc, inner)?))
     } else if name == "send" {
         Ok(Invocation::Send(SendSettings::read(alloc, inner)?))
-    } else {
+    } else if name == "keys" {
         Ok(Invocation::Keys(KeysSettings::read(inner)?))
+    } else {
+        Ok(Invocation::Journal(JournalSettings::read(inner)?))
     }
 }
 

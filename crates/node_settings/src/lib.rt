@@ -7,7 +7,8 @@
 //! - `tmnode send --id C --validators N --keys FILE --to ADDR,ADDR,.. --number M [--session S]` with one of `--data HEX`,
 //!   `--close` and `--file FILE` sends transactions of one session of client C.
 //! - `tmnode keys --validators N --clients C --out DIR` makes the key file of each of so many validators and clients.
-//! - `--help`, also behind `run`, `send` or `keys`, and `--version` ask for a page.
+//! - `tmnode journal FILE [--height H] [--json|--list] [--follow]` prints what a journal holds.
+//! - `--help`, also behind `run`, `send`, `keys` or `journal`, and `--version` ask for a page.
 //!
 //! Numbers are decimal digits alone. Nothing here opens a file or a socket.
 #![tactic(auto)]
@@ -17,6 +18,7 @@ mod command;
 mod failure;
 mod invocation;
 mod lists;
+mod looking;
 mod options;
 mod running;
 mod sending;
@@ -28,5 +30,6 @@ pub use invocation::{
     Invocation, Keeping, KeysSettings, Page, RunSettings, SendSettings, Sending, SettingsFault,
     settings,
 };
+pub use looking::{JournalForm, JournalSettings};
 pub use sending::line_op;
 pub use status_line::StatusLine;

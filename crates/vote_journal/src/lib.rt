@@ -38,6 +38,7 @@ pub use laws::{
 pub use memory::MemoryStore;
 pub use opening::{NotOpened, Opened};
 pub use reading::read_record;
+pub use scanning::{Front, front_of};
 pub use spelling::{body_of, spell_record};
 pub use store::{DeviceFailed, Store, StoreFault};
 pub use striking::{Strikes, StrikingStore};

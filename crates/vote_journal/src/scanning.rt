@@ -14,9 +14,9 @@ use std::alloc::Global;
 /// The most bytes that a record has behind its length.
 const LONGEST_CONTENT: usize = 1_100_000;
 
-/// What stands at the front of bytes behind a header.
-#[derive(Clone, Copy)]
-pub(crate) enum Front<'a> {
+/// What stands at the front of a journal's bytes, behind its header or behind records.
+#[derive(Clone, Copy, Debug)]
+pub enum Front<'a> {
     /// Less than a whole record.
     Torn,
     /// A length of 0 or above the limit.
@@ -42,7 +42,8 @@ fn is_lawful(len: usize) -> bool
     1 <= len && len <= LONGEST_CONTENT
 }
 
-fn front_of(bytes: &[u8]) -> Front<'_>
+/// What stands at the front of a journal's bytes, behind its header or behind records.
+pub fn front_of(bytes: &[u8]) -> Front<'_>
     ensures { IsFront bytes.now result }
 {
     if bytes.len() < 4 {

@@ -49,7 +49,7 @@ fn one_byte(alloc: Global, session: u32, number: u64) -> Result<Tx, AllocError> 
 }
 
 /// The value of client 7's transaction of this number alone.
-fn value(alloc: Global, number: u64) -> Result<Value, AllocError> {
+pub(super) fn value(alloc: Global, number: u64) -> Result<Value, AllocError> {
     let mut txs = Vec::new(alloc);
     txs.push(one_byte(alloc, 0, number)?)?;
     Ok(Value {
@@ -125,7 +125,7 @@ pub(super) fn decision_of(alloc: Global, value: Value) -> Result<Vec<u8>, Fail> 
 }
 
 /// The journal of validator 3 that prevoted and precommitted the value and decided at height 0.
-fn decided(alloc: Global) -> Result<Vec<u8>, Fail> {
+pub(super) fn decided(alloc: Global) -> Result<Vec<u8>, Fail> {
     let mut bytes = MARKED.to_vec(alloc)?;
     bytes.extend_from_slice(&prevote(alloc)?)?;
     bytes.extend_from_slice(&precommit(alloc)?)?;

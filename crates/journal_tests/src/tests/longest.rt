@@ -105,3 +105,10 @@ fn one_more_precommit_is_no_record(rt: HostRuntime) -> Result<(), Fail> {
     assert!(rt; fault_of_one_more(rt.alloc())? == Some(JournalFault::BadRecord));
     Ok(())
 }
+
+#[test]
+fn numbers_of_faults(rt: HostRuntime) {
+    assert!(rt; JournalFault::Failed as u8 == 1);
+    assert!(rt; JournalFault::OutOfMemory as u8 == 2);
+    assert!(rt; JournalFault::BadRecord as u8 == 3);
+}

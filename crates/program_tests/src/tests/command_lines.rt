@@ -1,7 +1,8 @@
 //! Command lines, and what they ask for.
 
 use node_settings::{
-    Invocation, KeysSettings, RunSettings, SendSettings, Sending, SettingsFault, line_op, settings,
+    Invocation, JournalSettings, KeysSettings, RunSettings, SendSettings, Sending, SettingsFault,
+    line_op, settings,
 };
 use std::alloc::{AllocError, Global};
 use std::process::Abort;
@@ -15,6 +16,7 @@ fn asked(alloc: Global, line: &str) -> Result<String, AllocError> {
         Ok(Invocation::Run(run)) => shown_run(alloc, &run),
         Ok(Invocation::Send(send)) => shown_send(alloc, &send),
         Ok(Invocation::Keys(keys)) => shown_keys(alloc, &keys),
+        Ok(Invocation::Journal(journal)) => shown_journal(alloc, &journal),
         Ok(Invocation::Page(page)) => format!(in alloc; "{page}"),
         Err(fault) => format!(in alloc; "{fault}"),
     }
@@ -73,6 +75,13 @@ fn shown_send(alloc: Global, send: &SendSettings<'_>) -> Result<String, AllocErr
 
 fn shown_keys(alloc: Global, keys: &KeysSettings<'_>) -> Result<String, AllocError> {
     format!(in alloc; "{} and {} in {}", keys.validators, keys.clients, keys.out)
+}
+
+fn shown_journal(alloc: Global, journal: &JournalSettings<'_>) -> Result<String, AllocError> {
+    format!(in alloc;
+        "{} {:?} {} {:?}",
+        journal.file, journal.height, journal.follows, journal.form
+    )
 }
 
 /// The line asks for this.
@@ -376,5 +385,27 @@ fn pages(rt: HostRuntime) -> Result<(), Fail> {
         page.contains("--clients <C>") && page.contains("--out <DIR>"),
         "{page}"
     );
+    Ok(())
+}
+
+#[test]
+fn journals(rt: HostRuntime) -> Result<(), Fail> {
+    let alloc = rt.alloc();
+    assert_asked(&rt, alloc, "tmnode journal j", "j None false Lines")?;
+    assert_asked(
+        &rt,
+        alloc,
+        "tmnode journal --follow --height 0 --json j",
+        "j Some(0) true Json",
+    )?;
+    assert_asked(&rt, alloc, "tmnode journal j --list", "j None false List")?;
+    for line in [
+        "tmnode journal",
+        "tmnode journal j k",
+        "tmnode journal j --height x",
+        "tmnode journal j --list --json",
+    ] {
+        assert_asked(&rt, alloc, line, "usage")?;
+    }
     Ok(())
 }

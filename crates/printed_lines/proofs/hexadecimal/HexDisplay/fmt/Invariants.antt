@@ -1,7 +1,7 @@
 use Rattle.std.proofs.Common.{flat_map, take}
 use Rattle.std.specs.Fmt.{HasWritten, IsPlainFormatter}
-use Rattle.node_program.specs.Items.{hex_of}
-use Rattle.node_program.proofs.item_line.HexDisplay.fmt.Given as goal
+use Rattle.printed_lines.specs.Items.{hex_of}
+use Rattle.printed_lines.proofs.hexadecimal.HexDisplay.fmt.Given as goal
 
 abbrev pub invariant-loop-byte : goal.invariant-loop-byte
 invariant-loop-byte g l =

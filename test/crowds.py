@@ -1,0 +1,168 @@
+#!/usr/bin/env python3
+"""Runs many validators as processes on this machine: at work, at rest, all stopped for a while, most of them killed.
+
+usage: test/crowds.py --validators N [--with PROGRAM] [--seconds S] [--transactions T]
+
+With guarded links and nothing to do, N validators decide heights for S seconds, 20 if no number is given; then they are started again to
+rest, S seconds long; T transactions, 1,000 if no number is given, are sent to three of them; all are stopped for S seconds (SIGSTOP) and
+let go; and two thirds of them and one are killed and started again. Each time heights have to go on, all that was sent has to be
+delivered by all, and no link may be lost for good. It prints a line for each part with what it took. It is no part of the gate, as it
+takes minutes and every processor. The status is 0 where all held.
+"""
+import argparse
+import os
+import resource
+import shutil
+import signal
+import subprocess
+import sys
+import tempfile
+import time
+
+from link_trials import GUARDED, heights_of, processor_seconds, sizes_of
+from validators import Cluster, Failed, dial, free_addresses, peak_of, want
+
+TOP = os.path.dirname(os.path.dirname(os.path.realpath(__file__)))
+# How long a part may take until all go on, in seconds.
+PATIENCE = 300
+
+
+class Crowd(Cluster):
+    """Validators that tell how far they are."""
+
+    def __init__(self, program, folder, count, how):
+        super().__init__(program, folder, ",".join(["1"] * count))
+        self.how, self.told_at = how, free_addresses(count)
+
+    def start_all(self, who, **changed):
+        for me in who:
+            self.start(me, {**GUARDED, **self.how, **changed, "log": "warn", "status": self.told_at[me]})
+
+    def status_of(self, me):
+        """Returns a validator's height, how many items it delivered, and how many links it has, or nothing."""
+        try:
+            with dial(self.told_at[me], 5) as link:
+                words = link.makefile().read().split()
+            return int(words[1]), int(words[3]), int(words[5])
+        except (OSError, IndexError, ValueError):
+            return None
+
+    def statuses(self):
+        return [self.status_of(me) or (0, 0, 0) for me in range(self.count)]
+
+    def wait_for(self, is_so, what):
+        """Waits until this holds of all validators' statuses, and returns them, and how long it took."""
+        began = time.monotonic()
+        while True:
+            seen = self.statuses()
+            if all(map(is_so, seen)):
+                return seen, time.monotonic() - began
+            want(time.monotonic() < began + PATIENCE, f"{what}: after {PATIENCE} s the heights are {[it[0] for it in seen]}, items {[it[1] for it in seen]}, links {[it[2] for it in seen]}")
+            time.sleep(0.2)
+
+    def wait_until_all_go_on(self, what):
+        highest = max(it[0] for it in self.statuses())
+        return self.wait_for(lambda it: it[0] > highest + 1, what)
+
+    def spent(self):
+        return sum(processor_seconds(self.running[me]) for me in self.running)
+
+
+def tell(what):
+    print(what, flush=True)
+
+
+def works(crowd, seconds):
+    """All decide heights with nothing to do."""
+    crowd.start_all(range(crowd.count))
+    _, took = crowd.wait_until_all_go_on("at first")
+    tell(f"{crowd.count} validators have decided two heights after {took:.1f} s")
+    before, spent = crowd.statuses(), crowd.spent()
+    time.sleep(seconds)
+    after = crowd.statuses()
+    heights = min(it[0] for it in after) - max(it[0] for it in before)
+    want(heights > 0, f"in {seconds} s heights go from {before} to {after}")
+    tell(f"nothing to do: {heights / seconds:.2f} heights a second, {(crowd.spent() - spent) / seconds:.2f} processors, links {min(it[2] for it in after)} to {max(it[2] for it in after)}")
+    crowd.end()
+
+
+def rests(crowd, seconds):
+    """All rest, and their journals don't grow."""
+    crowd.start_all(range(crowd.count), rest=60_000)
+    crowd.wait_for(lambda it: it[2] >= crowd.count - 1, "links")
+    crowd.send_until_taken(9, 0, 1, "--data", "")
+    _, took = crowd.wait_for(lambda it: it[1] >= 1, "a first transaction")
+    tell(f"started again: a first transaction is delivered by all after {took:.1f} s")
+    time.sleep(5)
+    ends = time.monotonic() + PATIENCE
+    while (sizes := sizes_of(crowd, range(crowd.count))) != (time.sleep(2) or sizes_of(crowd, range(crowd.count))):
+        want(time.monotonic() < ends, "they never rest")
+    spent = crowd.spent()
+    time.sleep(seconds)
+    want(sizes_of(crowd, range(crowd.count)) == sizes, "journals grow at rest")
+    tell(f"at rest: no journal grows, {(crowd.spent() - spent) / seconds:.3f} processors for all of them")
+
+
+def delivers(crowd, first, count, what):
+    """Transactions that are sent to three validators are delivered by all."""
+    began, wanted = time.monotonic(), max(it[1] for it in crowd.statuses()) + count
+    file = crowd.file_of([f"{it:08x}" for it in range(count)])
+    words = crowd.words_of_send(7, 0, first, "--file", file)
+    words[words.index("--to") + 1] = ",".join(crowd.addresses[it] for it in (0, crowd.count // 2, crowd.count - 1))
+    with subprocess.Popen(words, stdout=subprocess.DEVNULL) as sender:
+        crowd.wait_for(lambda it: it[1] >= wanted, what)
+        sender.kill()
+    tell(f"{what}: {count} transactions are delivered by all after {time.monotonic() - began:.1f} s")
+
+
+def all_are_stopped(crowd, seconds, sent):
+    """All are stopped for a while, and let go."""
+    for process in crowd.running.values():
+        process.send_signal(signal.SIGSTOP)
+    time.sleep(seconds)
+    for process in crowd.running.values():
+        process.send_signal(signal.SIGCONT)
+    delivers(crowd, sent + 1, 10, f"all stopped for {seconds} s")
+
+
+def most_are_killed(crowd, sent):
+    """Two thirds and one are killed, and started again."""
+    killed = range(2 * crowd.count // 3 + 1)
+    for me in killed:
+        crowd.kill(me)
+    crowd.start_all(killed, rest=60_000)
+    crowd.wait_for(lambda it: it[2] >= crowd.count - 1, "links after most were killed")
+    delivers(crowd, sent + 1, 10, f"{len(killed)} killed and started again")
+
+
+def main():
+    parser = argparse.ArgumentParser(usage="test/crowds.py --validators N [--with PROGRAM] [--seconds S] [--transactions T]")
+    parser.add_argument("--validators", type=int, required=True)
+    parser.add_argument("--with", dest="program", default=f"{TOP}/bin/tmnode")
+    parser.add_argument("--seconds", type=int, default=20)
+    parser.add_argument("--transactions", type=int, default=1000)
+    parser.add_argument("--start", type=int, default=1000)
+    asked = parser.parse_args()
+    soft, hard = resource.getrlimit(resource.RLIMIT_NOFILE)
+    resource.setrlimit(resource.RLIMIT_NOFILE, (min(max(soft, 4096), hard), hard))
+    folder = tempfile.mkdtemp(prefix="crowd.")
+    crowd = Crowd(os.path.realpath(asked.program), folder, asked.validators, {"start": asked.start, "delta": asked.start // 2, "redial": 1000})
+    try:
+        crowd.begin()
+        works(crowd, asked.seconds)
+        rests(crowd, asked.seconds)
+        delivers(crowd, 1, asked.transactions, "at work")
+        all_are_stopped(crowd, asked.seconds, asked.transactions)
+        most_are_killed(crowd, asked.transactions + 10)
+        tell(f"at the end: {max(map(peak_of, crowd.running.values())) / 1e6:.0f} MB at most in a process, journals of {max(sizes_of(crowd, range(crowd.count))) / 1e6:.1f} MB, links {min(it[2] for it in crowd.statuses())} at least, heights {max(heights_of(crowd, range(crowd.count)))}")
+    except Failed as fault:
+        print(f"FAILED: {fault}; see {folder}", file=sys.stderr)
+        return 1
+    finally:
+        crowd.end()
+    shutil.rmtree(folder)
+    return 0
+
+
+if __name__ == "__main__":
+    sys.exit(main())
