@@ -5,8 +5,8 @@ usage: gate/whole.py [--anew]
 
 Its stages run in turn, each of which says 'N passed, M failed' on its last line: what the scripts take of the kit; the files'
 layout; what must not compile; `rt ci`, which proves and tests each crate and runs each program; the schedules, by the program as
-both compilers made it; one of them with each write of the validator's journal failing; random ones; what `tmnode` says of failures
-and what a cluster of it outlives, as processes; and the wrong bodies. Then come the processor seconds of each crate, and a last
+both compilers made it; one of them with each write of the validator's journal failing; random ones; whole clusters in a simulator, from a
+hundred seeds; what `tmnode` says of failures and what a cluster of it outlives, as processes; and the wrong bodies. Then come the processor seconds of each crate, and a last
 line that counts everything. Where the layout or `rt ci` fails, nothing behind it is tried.
 
 What this machine proved before of the same files, and what it told of the same edits, isn't done again; with --anew all is. Every
@@ -24,7 +24,7 @@ import threading
 import time
 
 sys.dont_write_bytecode = True
-from build import keep_programs
+from build import PROGRAMS, keep_programs
 
 TOP = os.path.dirname(os.path.dirname(os.path.realpath(__file__)))
 STAGES = {
@@ -36,6 +36,7 @@ STAGES = {
     "schedules, as Rattle's compiler builds it": ["schedules/check.sh", "--with", "crates/tmsim/out/tmsim.by-rattle"],
     "a stop at each write": ["schedules/each_stop.py", "--with", "crates/tmsim/out/tmsim"],
     "random schedules": ["schedules/random_runs.py", "--count", "200", "--with", "crates/tmsim/out/tmsim"],
+    "clusters in a simulator": ["test/clusters.py", "--seeds", "1..100", "--minutes", "10", "--with", "crates/tmcluster/out/tmcluster"],
     "the program as processes": ["test/processes.py", "--with", "crates/tmnode/out/tmnode"],
     "wrong bodies": ["gate/wrong_bodies.py", "--built"],
 }
@@ -165,7 +166,7 @@ def main():
                 print(ENDS[name])
                 break
             if words[0] == "rt":
-                keep_programs(copy)
+                keep_programs(copy, (*PROGRAMS, "tmcluster"))
         os.chdir(TOP)
     meter.ended.set()
     used = resource.getrusage(resource.RUSAGE_CHILDREN)

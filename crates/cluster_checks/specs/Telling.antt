@@ -1,0 +1,20 @@
+-- What a witness knows that a validator said and saved.
+use Rattle.std.specs.Prelude.{ℕ, List, Option, Vec}
+use Rattle.std.specs.Option.{option_map}
+use Rattle.std.specs.BTreeMap as tree
+use Rattle.std.specs.BTreeMap.{BTreeMap}
+use Rattle.std.specs.declared.cmp.Ordering.{Ordering}
+use Rattle.cluster_checks.specs.declared.kinds.Heading.{Heading}
+use Rattle.cluster_checks.specs.declared.witness.Saying.{Saying}
+use Rattle.cluster_checks.specs.contracts.witness.SayingOrd.TheImpl as saying_ord
+
+-- the step in which a message is said
+abbrev pub saying_of : Heading → Saying
+saying_of heading = record { height = heading.height; round = heading.round; kind = heading.kind }
+
+abbrev pub saying_cmp : Saying → Saying → Ordering
+saying_cmp = (saying_ord.ghosts).cmp
+
+-- the body that is kept of a step
+abbrev pub body_at : {Z : Type 0} → BTreeMap Saying (Vec ℕ Z) → Saying → Option (List ℕ)
+body_at bodies saying = option_map (λ body. body.items) (tree.get saying_cmp bodies saying)

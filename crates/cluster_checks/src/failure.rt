@@ -1,0 +1,143 @@
+//! What a run finds wrong.
+
+use std::alloc::{AllocError, AllocFailed};
+use thiserror::Error;
+use transactions::Fault;
+use world_parties::FaultNumber;
+
+/// What is wrong, and where.
+#[derive(Clone, Copy, Debug, Error, PartialEq, Eq)]
+pub enum Failure {
+    /// Two correct validators delivered different items at one place of their lists.
+    #[error("validator {validator} delivers another item at place {place} than one before it (height {height})")]
+    Disagreement {
+        validator: u16,
+        height: u64,
+        place: u64,
+    },
+    /// A client's items aren't in order: a number or a session was left out, came again, or stands behind a close.
+    #[error("validator {validator} delivers client {client}'s session {session}, number {number} out of order (height {height})")]
+    OutOfOrder {
+        validator: u16,
+        height: u64,
+        client: u16,
+        session: u32,
+        number: u64,
+    },
+    /// A correct client never sent this, or something else before it.
+    #[error("validator {validator} delivers client {client}'s session {session}, number {number}, which it didn't send next (height {height})")]
+    NotSent {
+        validator: u16,
+        height: u64,
+        client: u16,
+        session: u32,
+        number: u64,
+    },
+    /// A correct validator said two things in one step.
+    #[error("validator {validator} says two things at height {height}, round {round}, as a {kind}")]
+    SaidTwice {
+        validator: u16,
+        height: u64,
+        round: u32,
+        kind: &'static str,
+    },
+    /// A frame left a correct validator whose message isn't in its journal.
+    #[error("validator {validator} says what it hasn't saved at height {height}, round {round}, as a {kind}")]
+    NotSaved {
+        validator: u16,
+        height: u64,
+        round: u32,
+        kind: &'static str,
+    },
+    /// A validator that came back has fewer items than before.
+    #[error("validator {validator} comes back at height {height}, and was at height {before}")]
+    CameBackBehind {
+        validator: u16,
+        height: u64,
+        before: u64,
+    },
+    /// The journal of a validator isn't one.
+    #[error("validator {validator}'s journal is no journal")]
+    BadJournal {
+        validator: u16,
+    },
+    /// A journal lost records that were synced.
+    #[error("validator {validator}'s journal lost what was synced")]
+    JournalShrank {
+        validator: u16,
+    },
+    /// An accepted transaction isn't delivered in time.
+    #[error("validator {validator} lacks client {client}'s session {session}, number {number}, accepted {waited} ms ago by validator {by}")]
+    NotDelivered {
+        validator: u16,
+        client: u16,
+        session: u32,
+        number: u64,
+        by: u16,
+        waited: u64,
+    },
+    /// Heights stay apart.
+    #[error("validator {validator} is at height {height}, and another one at height {highest}")]
+    HeightsApart {
+        validator: u16,
+        height: u64,
+        highest: u64,
+    },
+    /// A correct validator doesn't run, long after faults ceased.
+    #[error("validator {validator} doesn't run")]
+    NotRunning {
+        validator: u16,
+    },
+    /// A validator's edge always has something to do.
+    #[error("validator {validator} has no end of duties")]
+    EndlessDuties {
+        validator: u16,
+    },
+    /// The settings are those of no run.
+    #[error("there is no such run")]
+    Usage,
+    /// The simulator itself has no memory left.
+    #[error("out of memory")]
+    OutOfMemory,
+}
+
+impl From<AllocError> for Failure {
+    fn from(_e: AllocError) -> Failure {
+        Failure::OutOfMemory
+    }
+}
+
+impl<T: Drop> From<AllocFailed<T>> for Failure {
+    fn from(_e: AllocFailed<T>) -> Failure {
+        Failure::OutOfMemory
+    }
+}
+
+impl From<Fault> for Failure {
+    fn from(fault: Fault) -> Failure {
+        match fault {
+            Fault::OutOfMemory => Failure::OutOfMemory,
+            _ => Failure::Usage,
+        }
+    }
+}
+
+impl From<FaultNumber> for Failure {
+    fn from(fault: FaultNumber) -> Failure {
+        match fault {
+            FaultNumber::OutOfMemory => Failure::OutOfMemory,
+            _ => Failure::Usage,
+        }
+    }
+}
+
+/// What is wrong, and at which event.
+#[derive(Clone, Copy, Debug, Error, PartialEq, Eq)]
+#[error("at event {event}, {at} ms: {failure}")]
+pub struct Failed {
+    pub failure: Failure,
+    /// The number of the event, from 1.
+    pub event: u64,
+    /// The virtual time, in milliseconds.
+    pub at: u64,
+}

@@ -1,0 +1,120 @@
+//! That a run is repeated by its seed, that a cluster without faults delivers all, and that a disk which breaks its promise is found.
+
+use cluster_checks::{Asked, Costs, Failed, Kind, Settings, Trouble, Troubles};
+use cluster_parts::{Chance, Drift};
+use cluster_world::World;
+use peer_core::Keeping;
+use std::alloc::Global;
+use std::test::Fail;
+
+/// How many events a run has at most.
+const MOST_EVENTS: u64 = 8_000;
+
+/// What came of a run.
+#[derive(Clone, Copy, Debug, PartialEq, Eq)]
+struct Outcome {
+    failed: Option<Failed>,
+    costs: Costs,
+}
+
+/// A run of four validators with these faults.
+fn asked(seed: u64, troubles: Troubles) -> Asked {
+    Asked {
+        validators: Some(4),
+        liars: Some(0),
+        clients: Some(2),
+        keeping: Some(Keeping::Guarded),
+        rest: Some(0),
+        troubles,
+        ..Asked::of_seed(seed)
+    }
+}
+
+/// Runs a world for some events, or until it fails.
+fn run(world: &mut World) -> Outcome {
+    let mut failed = None;
+    for _ in 0..MOST_EVENTS {
+        match world.step() {
+            Ok(Some(_)) => {}
+            Ok(None) => break,
+            Err(found) => {
+                failed = Some(found);
+                break;
+            }
+        }
+    }
+    Outcome {
+        failed,
+        costs: world.costs(),
+    }
+}
+
+/// What comes of a run.
+fn outcome_of(alloc: Global, asked: Asked) -> Result<Outcome, Fail> {
+    let mut world = World::new(alloc, Settings::drawn(alloc, asked)?)?;
+    Ok(run(&mut world))
+}
+
+#[test]
+fn same_seed_same_figures(rt: HostRuntime) -> Result<(), Fail> {
+    let alloc = rt.alloc();
+    let first = outcome_of(alloc, asked(3, Troubles::ALL))?;
+    let second = outcome_of(alloc, asked(3, Troubles::ALL))?;
+    let other = outcome_of(alloc, asked(4, Troubles::ALL))?;
+    assert_eq!(rt; first, second);
+    assert!(rt; first != other);
+    Ok(())
+}
+
+#[test]
+fn all_is_delivered_without_faults(rt: HostRuntime) -> Result<(), Fail> {
+    let found = outcome_of(rt.alloc(), asked(5, Troubles::NONE))?;
+    assert_eq!(rt; found.failed, None);
+    assert!(rt; found.costs.delivered > 0);
+    assert!(rt; found.costs.accepted >= found.costs.delivered);
+    assert_eq!(rt; found.costs.round, 0);
+    assert_eq!(rt; found.costs.sent(Kind::Other).frames, 0);
+    Ok(())
+}
+
+#[test]
+fn lost_bytes_are_found(rt: HostRuntime) -> Result<(), Fail> {
+    let alloc = rt.alloc();
+    let mut stops = Troubles::NONE;
+    stops.set(Trouble::Stops, true);
+    let mut world = World::new(alloc, Settings::drawn(alloc, asked(7, stops))?)?;
+    for validator in 0..4 {
+        world.plant_forgetful_disk(validator);
+    }
+    assert!(rt; run(&mut world).failed.is_some());
+    Ok(())
+}
+
+#[test]
+fn words_of_troubles(rt: HostRuntime) {
+    assert_eq!(rt; Troubles::of_words("all"), Some(Troubles::ALL));
+    assert_eq!(rt; Troubles::of_words("none"), Some(Troubles::NONE));
+    assert_eq!(rt; Troubles::of_words("cuts,flood"), None);
+    let some = Troubles::of_words("cuts,drift");
+    assert!(rt; some.is_some_and(|some| some.has(Trouble::Cuts) && !some.has(Trouble::Stops)));
+}
+
+#[test]
+fn clocks_drift(rt: HostRuntime) {
+    let slow = Drift {
+        offset: 7,
+        rate: 900,
+    };
+    assert_eq!(rt; slow.shown(10_000), 9_007);
+    assert!(rt; slow.shown(slow.shows_from(9_007)) >= 9_007);
+}
+
+#[test]
+fn chance_keeps_its_bounds(rt: HostRuntime) {
+    let mut chance = Chance::new(1);
+    for _ in 0..100 {
+        let number = chance.between(3, 5);
+        assert!(rt; (3..=5).contains(&number));
+    }
+    assert_eq!(rt; chance.place(0), None);
+}

@@ -1,0 +1,255 @@
+//! What comes of what a validator did.
+
+use crate::world::{Accepted, World};
+use bytes::Bytes;
+use cluster_actors::{Out, Outbox, Seat};
+use cluster_checks::{Costs, Event, Failure, Heading, Note, Progress, TxName};
+use cluster_parts::DiskStore;
+use edge_frames::LinkId;
+use node_core::NodeCore;
+use peer_core::{Rank, Sending};
+use protocol::Refusal;
+
+/// How many addresses a validator dials at one moment at most.
+const MOST_DIALS: u16 = 256;
+
+/// Notes what a correct validator's node has come to.
+fn note_reached(costs: &mut Costs, node: &NodeCore<DiskStore>) {
+    let kept = node.state().kept().len() as u64;
+    costs.height = costs.height.max(node.height());
+    costs.round = costs.round.max(node.round());
+    costs.kept = costs.kept.max(kept);
+}
+
+impl World {
+    /// After an event of a validator: what comes out of it leaves, and all is looked at.
+    pub(crate) fn conclude(&mut self, validator: u16, out: Outbox) -> Result<(), Failure> {
+        let Some(post) = self.post(validator) else {
+            return Ok(());
+        };
+        if post.drive.takes_cut() {
+            return self.stop(validator, true);
+        }
+        post.witness.read_synced(&post.drive)?;
+        let Outbox { outs, has_halted } = out;
+        for one in outs {
+            self.dispatch(validator, one)?;
+        }
+        if has_halted {
+            return self.stop(validator, false);
+        }
+        self.compare(validator)?;
+        self.dial(validator)?;
+        self.await_wake(validator)
+    }
+
+    fn dispatch(&mut self, validator: u16, out: Out) -> Result<(), Failure> {
+        match out {
+            Out::Send(sending) => self.let_out(validator, sending),
+            Out::Reply(link, frame) => self.send_as(validator, link, frame, Rank::Fresh),
+            Out::Close(link, closing) => {
+                self.notes.add(Note::Closes {
+                    validator,
+                    link: link.0,
+                    closing,
+                })?;
+                self.close_as(validator, link)
+            }
+            Out::Accepted(frame) => self.note_accepted(validator, &frame),
+            Out::Answered(link, heading, answer) => {
+                self.note_answer(validator, link, heading, answer)
+            }
+        }
+    }
+
+    /// A frame leaves a validator for some links.
+    fn let_out(&mut self, validator: u16, sending: Sending) -> Result<(), Failure> {
+        let Some(post) = self.post(validator) else {
+            return Ok(());
+        };
+        if post.is_liar {
+            return self.let_lie_out(validator, sending);
+        }
+        post.witness.see(&sending.frame)?;
+        self.send_to_all(validator, sending)
+    }
+
+    /// Queues a frame for each of its links.
+    pub(crate) fn send_to_all(&mut self, validator: u16, sending: Sending) -> Result<(), Failure> {
+        self.notes.add(Note::Sends {
+            validator,
+            heading: Heading::of_frame(&sending.frame),
+            links: sending.links.len() as u64,
+        })?;
+        for link in sending.links.iter() {
+            let frame = sending.frame.clone()?;
+            self.send_as(validator, *link, frame, sending.rank)?;
+        }
+        Ok(())
+    }
+
+    /// Queues a frame for a link of a validator.
+    pub(crate) fn send_as(
+        &mut self,
+        validator: u16,
+        link: LinkId,
+        frame: Bytes,
+        rank: Rank,
+    ) -> Result<(), Failure> {
+        let Some(post) = self.posts.get(usize::from(validator)) else {
+            return Ok(());
+        };
+        let end = post.end();
+        let heading = Heading::of_frame(&frame);
+        let has_room = self.send(link.0, end, frame, rank == Rank::Repair)?;
+        if !has_room {
+            self.costs.dropped = self.costs.dropped.saturating_add(1);
+            self.notes.add(Note::Dropped {
+                link: link.0,
+                kind: heading.kind,
+            })?;
+        }
+        Ok(())
+    }
+
+    /// A validator closes a link.
+    fn close_as(&mut self, validator: u16, link: LinkId) -> Result<(), Failure> {
+        let Some(post) = self.posts.get(usize::from(validator)) else {
+            return Ok(());
+        };
+        let end = post.end();
+        self.close(link.0, end)
+    }
+
+    fn note_accepted(&mut self, validator: u16, frame: &[u8]) -> Result<(), Failure> {
+        let Some(name) = TxName::of_frame(frame) else {
+            return Ok(());
+        };
+        self.notes.add(Note::Accepted {
+            validator,
+            client: name.client,
+            session: name.session,
+            number: name.number,
+        })?;
+        let is_liar = self
+            .posts
+            .get(usize::from(validator))
+            .is_some_and(|post| post.is_liar);
+        if is_liar || name.client >= self.settings.clients {
+            return Ok(());
+        }
+        self.costs.accepted = self.costs.accepted.saturating_add(1);
+        self.accepted.push_back(Accepted {
+            at: self.now,
+            by: validator,
+            name,
+        })?;
+        Ok(())
+    }
+
+    fn note_answer(
+        &mut self,
+        validator: u16,
+        link: LinkId,
+        heading: Heading,
+        answer: Result<(), Refusal>,
+    ) -> Result<(), Failure> {
+        self.notes.add(Note::TookIn {
+            validator,
+            link: link.0,
+            heading,
+            answer,
+        })?;
+        Ok(())
+    }
+
+    /// Compares what a correct validator delivered since the last time with the one list.
+    fn compare(&mut self, validator: u16) -> Result<(), Failure> {
+        let Some(post) = self.posts.get(usize::from(validator)) else {
+            return Ok(());
+        };
+        let Seat::Up(engine) = &post.seat else {
+            return Ok(());
+        };
+        if post.is_liar {
+            return Ok(());
+        }
+        note_reached(&mut self.costs, &engine.node);
+        let height = engine.node.height();
+        let mut progress = post.progress;
+        if height <= progress.heights {
+            return Ok(());
+        }
+        let known = usize::try_from(progress.heights).unwrap_or(usize::MAX);
+        let fresh = engine.node.delivered().get(known..).unwrap_or(&[]);
+        for value in fresh {
+            self.judge.compare(validator, &mut progress, value)?;
+        }
+        self.note_delivered(validator, height, progress)
+    }
+
+    /// Notes how far a validator's list was compared, which has come to this height.
+    fn note_delivered(
+        &mut self,
+        validator: u16,
+        height: u64,
+        progress: Progress,
+    ) -> Result<(), Failure> {
+        let Some(post) = self.posts.get_mut(usize::from(validator)) else {
+            return Ok(());
+        };
+        post.progress = progress;
+        post.witness.forget_below(height);
+        self.notes.add(Note::Delivers {
+            validator,
+            height: height.saturating_sub(1),
+        })?;
+        Ok(())
+    }
+
+    /// Begins to dial whom a validator wants to reach.
+    fn dial(&mut self, validator: u16) -> Result<(), Failure> {
+        let now = self.now;
+        for _ in 0..MOST_DIALS {
+            let Some(post) = self.posts.get_mut(usize::from(validator)) else {
+                break;
+            };
+            let life = post.life;
+            let shown = post.drift.shown(now);
+            let Some(engine) = post.engine() else {
+                break;
+            };
+            let Some(to) = engine.core.next_dial(shown) else {
+                break;
+            };
+            let most = self.settings.delay.saturating_mul(2);
+            let at = now.saturating_add(self.chance.between(1, most));
+            let from = validator;
+            self.agenda.add(at, Event::Dial { from, life, to })?;
+        }
+        Ok(())
+    }
+
+    /// Lets a validator be woken when its edge wants to be, unless it is woken before.
+    fn await_wake(&mut self, validator: u16) -> Result<(), Failure> {
+        let now = self.now;
+        let Some(post) = self.posts.get_mut(usize::from(validator)) else {
+            return Ok(());
+        };
+        let life = post.life;
+        let drift = post.drift;
+        let shown = drift.shown(now);
+        let Some(engine) = post.engine() else {
+            return Ok(());
+        };
+        let at = drift
+            .shows_from(engine.core.wake_at(shown))
+            .max(now.saturating_add(1));
+        if post.wake.is_some_and(|wake| wake <= at) {
+            return Ok(());
+        }
+        post.wake = Some(at);
+        self.agenda.add(at, Event::Wake { validator, life })?;
+        Ok(())
+    }
+}
