@@ -238,8 +238,8 @@ fn with_flags<'a>(
     for flag in flags {
         let arg = Arg::new(alloc, flag.name)
             .long(flag.name)
-            .help(flag.help)
-            .action(ArgAction::SetTrue);
+            .action(ArgAction::SetTrue)
+            .help(flag.help);
         command = command.arg(arg)?;
     }
     Ok(command)
