@@ -25,6 +25,20 @@ def sum_of(*parts):
     return hashlib.sha256(repr(parts).encode()).hexdigest()
 
 
+# What files were when they were summed, and their sums.
+SUMMED = {}
+
+
+def sum_of_file(path):
+    """Returns a file's sum. A file is read again only where its number, size or times have changed: the libraries below a crate have
+    gigabytes."""
+    it = os.stat(path)
+    state = (it.st_dev, it.st_ino, it.st_size, it.st_mtime_ns, it.st_ctime_ns)
+    if path not in SUMMED or SUMMED[path][0] != state:
+        SUMMED[path] = (state, rt.rtlib.sum_of(path))
+    return SUMMED[path][1]
+
+
 def sum_of_library(library):
     """Returns a sum of what a check above reads of a built library: each file but the texts of its proofs and `format`, which has a
     sum over those. A check over statements takes a library's modules as they were checked, and reads neither."""
@@ -32,7 +46,7 @@ def sum_of_library(library):
     for at, folders, names in os.walk(library.rlib):
         folders.sort()
         paths = sorted(os.path.relpath(f"{at}/{name}", library.rlib) for name in names)
-        found += [(it, rt.rtlib.sum_of(f"{library.rlib}/{it}")) for it in paths if it != "format" and not it.startswith("lang/antt/proofs/")]
+        found += [(it, sum_of_file(f"{library.rlib}/{it}")) for it in paths if it != "format" and not it.startswith("lang/antt/proofs/")]
     return sum_of(*found)
 
 

@@ -44,6 +44,7 @@ FUNCTIONS = {
     "in_lanes": "tasks",
     "must_fail": "crate edit flags kept",
     "need": "crate",
+    "offer": "crate proved",
     "own_sum": "crate",
     "processors": "",
     "unread": "line changed",
@@ -59,6 +60,7 @@ FUNCTIONS = {
     "rtlib.Crate.has_tests": "self",
     "rtlib.Crate.is_built": "self",
     "rtlib.Crate.makes_rlib": "self",
+    "rtlib.Crate.stamp": "crate made",
     "rtlib.Crate.sources_below": "self",
     "rtlib.Crate.words": "self flags tests keeps as_source",
 }

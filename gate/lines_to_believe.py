@@ -1,21 +1,29 @@
 #!/usr/bin/env python3
-"""Counts the lines of definitions that have to be read to believe what a law says, following names from the law.
+"""Counts the lines that have to be read to believe what a law says, following names from the law.
 
-usage: gate/lines_to_believe.py [--list] [LAW..]
+usage: gate/lines_to_believe.py [--files | --list] [LAW..]
 
-With no LAW: what `BeginsLaw` reaches, what all laws of crates/protocol/specs/Laws.antt and Order.antt reach, and what
-the headline over stores does, `StoppedHeadlineLaw` of crates/vote_journal/specs/Stopping.antt. A line
-is one of a definition of this repository, without comments and blank lines; the kit's library, its SHA-256 and the
-types that are declared in code aren't counted. Nor is the computed run of `PremisesMetLaw`, which shows that the
-headline's premises can hold: name that law to count it.
+A LAW is a definition in a crate's specs, as `BeginsLaw`, or with its crate, as `world_schedule:CountLaw`, which it needs
+where several crates have one of that name and `protocol` doesn't. With no LAW: what the headline reaches (`BeginsLaw`),
+what all laws of crates/protocol/specs/Laws.antt and Order.antt do, what the headline over stores does
+(`StoppedHeadlineLaw` of `vote_journal`), and the headlines over what code does (`HeadlineLaw` and `OutcomeLaw` of
+`world_schedule`).
+
+A line is one of a definition of this repository, or of a type that its code declares and a definition names, with how
+contracts see that type (`ghost Value`, `ghost view`), without comments, attributes and blank lines. What a type's
+private field is of counts only where something that is counted takes that field. One of more than 100 characters counts
+as the lines that it has when it is wrapped there. The kit's library and its SHA-256 aren't counted, nor contracts, nor
+the computed run of `PremisesMetLaw`, which shows that the headline's premises can hold: name that law to count it.
 
 Where laws determine a definition completely, its body needs no belief: PINNED names it, and the laws' lines and what
-they reach are counted in its place. --list shows each definition with its source and its lines, and what was pinned.
+they reach are counted in its place. --files shows what has to be read of each file, and --list each definition with its
+source and its lines; both show what was pinned.
 """
 import os
 import re
 import signal
 import sys
+import textwrap
 from typing import NamedTuple
 
 TOP = os.path.dirname(os.path.dirname(os.path.realpath(__file__)))
@@ -25,6 +33,12 @@ LAWS, ORDER = f"{PROTOCOL}.Laws", f"{PROTOCOL}.Order"
 HEAD = re.compile(r"(?:(?:pub|abbrev|unfoldable|opaque)\s+)*(?:(data|record)\s+)?([^\s:({]+)\s*(?:[({].*)?:(?=\s)")
 BLOCK = re.compile(r"module _ .* where$")
 WORD = re.compile(r"[^\s(){}\[\],;.\"]+")
+# a type in code, up to the line that ends it
+TYPE = re.compile(r"(?m)^(?:pub(?:\(\w+\))? )?(?:struct|enum|type) (\w+)(?:[^\n]*;$|[^\n]*\{\}?$(?:\n[ ][^\n]*|\n(?=\n| ))*(?:\n\})?)")
+# a field that a definition takes of a value
+FIELD = re.compile(r"(?<=[\w)])\.([a-z]\w*)")
+# the longest line
+WIDTH = 100
 
 
 class Pin(NamedTuple):
@@ -70,6 +84,17 @@ class Definition(NamedTuple):
     name: str
     first: int
     lines: tuple
+
+    def count(self):
+        """Returns how many lines it has, each wrapped."""
+        return sum(map(wrapped, self.lines))
+
+
+def wrapped(line):
+    """Returns how many lines this one is where none has more than WIDTH characters, without a comment at its end."""
+    text = re.sub(r"\s+(--|//) .*$", "", line)
+    indent = " " * (len(text) - len(text.lstrip()))
+    return len(textwrap.wrap(text.strip(), WIDTH, initial_indent=indent, subsequent_indent=f"{indent}    ", break_on_hyphens=False))
 
 
 class Module:
@@ -142,6 +167,53 @@ class Module:
                 yield module, it
 
 
+class Declared:
+    """A file of code: the types that it declares, and what each of their names means."""
+
+    def __init__(self, path, crate, inner):
+        self.path, self.crate = path, crate
+        with open(path, encoding="utf-8") as it:
+            text = it.read()
+        self.definitions = {}
+        for found in TYPE.finditer(text):
+            name, first = found[1], text[: found.start()].count("\n") + 1
+            seen = re.search(rf"(?m)^impl.* Model for {name}\b.*\{{\n((?:    .*\n|\n)*)\}}", text)
+            lines = [*found[0].split("\n"), *re.findall(r"(?m)^    ghost (?:Value|view) =.*", seen[1] if seen else "")]
+            lines = [it for it in lines if it.strip() and not re.match(r"\s*(//|#\[)", it)]
+            module = ".".join(filter(None, [f"Rattle.{crate}.specs.declared", inner, name]))
+            self.definitions[name] = Definition(module, name, first, tuple(lines))
+        # the crate that each imported name is of
+        self.imports = {}
+        for root, rest in re.findall(r"(?m)^(?:pub )?use (\w+)(::[^;]*);", text):
+            self.imports.update(dict.fromkeys(re.findall(r"\b[A-Z]\w*", rest), crate if root in ("crate", "super", "self") else root))
+
+
+class Types:
+    """The types that the repository's code declares, by the modules that definitions import them from."""
+
+    def __init__(self, files):
+        self.files = {it.module: file for file in files for it in file.definitions.values()}
+        self.modules = {(file.crate, it.name): it.module for file in files for it in file.definitions.values()}
+
+    def place(self, module):
+        """Returns the place of the type that this module declares, or None where it is no type of the repository."""
+        module = re.sub(r"\.(TheVariants|TheInside)$", "", module)
+        return (module, module.rpartition(".")[2]) if module in self.files else None
+
+    def definition(self, place):
+        return self.files[place[0]].definitions[place[1]]
+
+    def uses(self, place, fields):
+        """The places of the types that this one's text names, but for those of private fields other than these."""
+        file = self.files[place[0]]
+        private = [re.match(r" +(?:pub\(\w+\) )?([a-z]\w*):", line) for line in self.definition(place).lines]
+        lines = [line for line, own in zip(self.definition(place).lines, private) if own is None or own[1] in fields]
+        for name in {*re.findall(r"\b[A-Z]\w*", "\n".join(lines))} - {place[1]}:
+            named = self.modules.get((file.crate if name in file.definitions else file.imports.get(name), name))
+            if named:
+                yield named, name
+
+
 def clauses(definition):
     """Returns the texts of a definition's head and of its clauses."""
     found = []
@@ -170,42 +242,86 @@ def fieldless(text):
     return re.sub(r"(?m)((?:[{;]|^)\s*)[a-z]\w*(?= = )", r"\1", text)
 
 
+def files_below(kind, suffix):
+    """Returns each file of that suffix in the crates' folders of that kind: its path, its crate, and its module within."""
+    for crate in sorted(os.listdir(CRATES)):
+        folder = f"{CRATES}/{crate}/{kind}"
+        for at, _, files in sorted(os.walk(folder)):
+            for file in sorted(it for it in files if it.endswith(suffix)):
+                yield f"{at}/{file}", crate, os.path.relpath(f"{at}/{file}", folder).removesuffix(suffix).replace("/", ".")
+
+
 def modules():
-    found = {}
-    for crate in os.listdir(CRATES):
-        folder = f"{CRATES}/{crate}/specs"
-        for at, _, files in os.walk(folder):
-            for file in files:
-                inner = os.path.relpath(f"{at}/{file}", folder).removesuffix(".antt").replace("/", ".")
-                name = f"Rattle.{crate}.specs.{inner}"
-                found[name] = Module(f"{at}/{file}", name)
-    return found
+    named = [(path, f"Rattle.{crate}.specs.{inner}") for path, crate, inner in files_below("specs", ".antt")]
+    return {name: Module(path, name) for path, name in named}
 
 
-def resolved(known, place):
-    """Returns the place of the definition that this name means, or None where it isn't one of this repository."""
-    module, name = place
-    while module in known:
-        if name in known[module].owners:
-            return module, known[module].owners[name]
-        if name not in known[module].imports:
-            return None
-        module, name = known[module].imports[name]
-    return None
+def types():
+    files = files_below("src", ".rt")
+    return Types([Declared(path, crate, re.sub(r"(^|\.)(lib|main|mod)$", "", inner)) for path, crate, inner in files])
+
+
+class Known(NamedTuple):
+    """All definitions of the repository, and the types of its code."""
+
+    modules: dict
+    types: Types
+
+    def resolved(self, place):
+        """Returns the place of what this name means, or None where it is nothing of this repository."""
+        module, name = place
+        while module in self.modules:
+            if name in self.modules[module].owners:
+                return module, self.modules[module].owners[name]
+            if name not in self.modules[module].imports:
+                return None
+            module, name = self.modules[module].imports[name]
+        return self.types.place(module)
+
+    def definition(self, place):
+        return self.modules[place[0]].definitions[place[1]] if place[0] in self.modules else self.types.definition(place)
+
+    def uses(self, place, fields):
+        return self.modules[place[0]].uses(self.definition(place)) if place[0] in self.modules else self.types.uses(place, fields)
+
+    def path(self, definition):
+        source = self.modules.get(definition.module) or self.types.files[definition.module]
+        return os.path.relpath(source.path, TOP)
+
+    def law(self, name):
+        """Returns the place of the law of that name, which may have its crate before it."""
+        crate, _, own = name.rpartition(":")
+        found = [(module, own) for module, it in self.modules.items() if own in it.definitions]
+        found = [it for it in found if it[0].startswith(f"Rattle.{crate}.")] if crate else found
+        ours = [it for it in found if it[0].startswith(f"{PROTOCOL}.")] or found
+        if len(ours) != 1:
+            raise Unknown(f"no law {name}" if not found else f"{name} is in {', '.join(sorted(it[0] for it in found))}: say CRATE:{own}")
+        return ours[0]
+
+
+class Unknown(Exception):
+    """A law that isn't there, or that several crates have."""
 
 
 def follow(known, start, pins):
     """Returns the places of what is reached from there, where the bodies of these pinned definitions aren't read."""
+    fields, seen = None, set()
+    while True:
+        found = {field for place in seen for line in known.definition(place).lines for field in FIELD.findall(line)}
+        if found == fields:
+            return seen
+        fields, seen = found, follow_once(known, start, pins, found)
+
+
+def follow_once(known, start, pins, fields):
+    """Returns what is reached from there, where of types of code only these private fields are read."""
     left, seen = [start], set()
     while left:
-        place = resolved(known, left.pop())
+        place = known.resolved(left.pop())
         if place is None or place in seen:
             continue
         seen.add(place)
-        if place in pins:
-            left += PINNED[place].laws
-        else:
-            left += known[place[0]].uses(known[place[0]].definitions[place[1]])
+        left += PINNED[place].laws if place in pins else known.uses(place, fields)
     return seen
 
 
@@ -220,35 +336,45 @@ def reached(known, laws):
             seen = follow(known, law, pins)
         needed |= seen - pins
         pinned |= seen & pins
-    found = [known[module].definitions[name] for module, name in sorted(needed)]
-    return found, sorted(pinned - needed)
+    return [known.definition(it) for it in sorted(needed)], sorted(pinned - needed)
+
+
+def show_files(known, found):
+    """Prints the lines that have to be read of each file, the files with the most first."""
+    each = {}
+    for it in found:
+        count, definitions = each.get(known.path(it), (0, 0))
+        each[known.path(it)] = count + it.count(), definitions + 1
+    for path, (count, definitions) in sorted(each.items(), key=lambda it: (-it[1][0], it[0])):
+        print(f"{count:4} {path}: {definitions} definitions")
 
 
 def main(words):
     names = [it for it in words if not it.startswith("-")]
-    if {*words} - {*names, "--list"}:
+    shown = {*words} - {*names}
+    if shown - {"--list", "--files"} or len(shown) > 1:
         print(__doc__, file=sys.stderr)
         return 2
-    known = modules()
-    # (of two laws of one name that of the protocol is meant)
-    ranked = sorted(known, key=lambda it: it.startswith(f"{PROTOCOL}."))
-    laws = {name: (module, name) for module in ranked for name in known[module].definitions if name.endswith("Law")}
-    for name in names:
-        if name not in laws:
-            print(f"no law {name}", file=sys.stderr)
-            return 2
-    all_laws = [it for it in laws if laws[it][0] in (LAWS, ORDER)]
-    each = {"BeginsLaw": ["BeginsLaw"], "all laws": all_laws, "StoppedHeadlineLaw": ["StoppedHeadlineLaw"]}
-    asked = {" ".join(names): names} if names else each
-    for label, chosen in asked.items():
-        found, pinned = reached(known, [laws[it] for it in chosen])
-        if "--list" in words:
+    known = Known(modules(), types())
+    all_laws = [name for module in (LAWS, ORDER) for name in known.modules[module].definitions if name.endswith("Law")]
+    each = {it: [it] for it in ("BeginsLaw", "all laws", "StoppedHeadlineLaw", "HeadlineLaw", "OutcomeLaw")} | {"all laws": all_laws}
+    try:
+        asked = {label: [known.law(it) for it in chosen] for label, chosen in ({" ".join(names): names} if names else each).items()}
+    except Unknown as fault:
+        print(fault, file=sys.stderr)
+        return 2
+    for label, laws in asked.items():
+        found, pinned = reached(known, laws)
+        if "--list" in shown:
             for it in found:
-                path = os.path.relpath(known[it.module].path, TOP)
-                print(f"{len(it.lines):4} {path}:{it.first} {it.name}")
-            for place in pinned:
-                print(f"pinned: {place[1]} by {' and '.join(name for _, name in PINNED[place].laws)}: {PINNED[place].why}")
-        print(f"{label}: {sum(len(it.lines) for it in found)} lines of {len(found)} definitions")
+                print(f"{it.count():4} {known.path(it)}:{it.first} {it.name}")
+        elif shown:
+            show_files(known, found)
+        for place in pinned if shown else []:
+            print(f"pinned: {place[1]} by {' and '.join(name for _, name in PINNED[place].laws)}: {PINNED[place].why}")
+        in_code = [it for it in found if it.module not in known.modules]
+        lines, lines_in_code = (sum(it.count() for it in each) for each in (found, in_code))
+        print(f"{label}: {lines} lines of {len(found)} definitions, {lines_in_code} of them in {len(in_code)} types of code")
     return 0
 
 
