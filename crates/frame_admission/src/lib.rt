@@ -12,7 +12,7 @@ mod own_frames;
 mod tags;
 
 pub use admission::admit;
-pub use own_frames::{frame_for, own_tags};
+pub use own_frames::{bytes_of, frame_for, frame_of_body, own_tags};
 pub use tags::is_genuine;
 
 /// What the gate refuses, a node in any state refuses for the same cause; and against a message that is let in there

@@ -4,7 +4,7 @@ ghost use Rattle.std.specs.Prelude.{◌≡◌, ◌≤◌, ℕ, Some, length, IfO
 ghost use Rattle.messages.specs.Grammar.{body_spelling, IsBody};
 ghost use Rattle.messages.specs.Framing.{frame_spelling};
 ghost use Rattle.protocol.specs.Tags.{Setting};
-ghost use Rattle.protocol.specs.Messages.{OfVote, precommit, sender_of, tagged};
+ghost use Rattle.protocol.specs.Messages.{Body as Spelled, OfVote, precommit, sender_of, tagged};
 ghost use Rattle.protocol.specs.Rings.{IsRingOf};
 
 use authenticators::{KeyRing, Party, tag_all};
@@ -22,8 +22,19 @@ pub fn frame_for(alloc: Global, ring: &KeyRing, body: &Body) -> Result<Vec<u8>, 
     ensures { (c : Setting) (p : ℕ) → IsRingOf c p ring.now → IfOk result (λ frame. frame.items ≡ frame_spelling (tagged c body.now)) }
 {
     let bytes = bytes_of(alloc, body)?;
-    let tags = tag_all(alloc, ring, &bytes)?;
-    frame_of(alloc, &bytes, &tags)
+    frame_of_body(alloc, ring, &bytes)
+}
+
+/// The frame of an own body that is spelled already, with a right tag for each of up to 128 validators.
+///
+/// The body is hashed once for each tag, and copied once into the frame. It is refused for want of memory alone.
+pub fn frame_of_body(alloc: Global, ring: &KeyRing, body: &[u8]) -> Result<Vec<u8>, AllocError>
+    requires few { ring.now.count ≤ 128 }
+    requires short { length body.now ≤ 1044479 }
+    ensures { (c : Setting) (p : ℕ) (b : Spelled) → IsRingOf c p ring.now → sender_of b ≡ ring.now.me → body.now ≡ body_spelling b → IfOk result (λ frame. frame.items ≡ frame_spelling (tagged c b)) }
+{
+    let tags = tag_all(alloc, ring, body)?;
+    frame_of(alloc, body, &tags)
 }
 
 /// The tags of the own precommit for an id, by which a bundle proves it to others.
@@ -53,7 +64,7 @@ pub fn own_tags(
 }
 
 /// The bytes of a body, which can be refused for want of memory alone.
-fn bytes_of(alloc: Global, body: &Body) -> Result<Vec<u8>, AllocError>
+pub fn bytes_of(alloc: Global, body: &Body) -> Result<Vec<u8>, AllocError>
     requires { IsBody body.now }
     ensures spelled { IfOk result (λ bytes. bytes.items ≡ body_spelling body.now) }
     ensures short { IfOk result (λ bytes. length bytes.items ≤ 1024720) }

@@ -1,5 +1,7 @@
 //! Saves, one after the other.
 
+ghost use Rattle.std.specs.Prelude.{◌≡◌, false};
+
 use crate::fault::BenchFault;
 use journal_file::FileStore;
 use powers::Powers;
@@ -40,7 +42,7 @@ pub(crate) fn saved(rt: &HostRuntime, path: &str, count: u32) -> Result<String, 
         ) => journal,
         Err(refused) => return Err(refused.fault.into()),
     };
-    let saving = time_of_saves(rt, &mut journal, count)?;
+    let saving = time_of_saves(rt, alloc, &mut journal, count)?;
     let mut store = journal.close();
     let syncing = time_of_syncs(rt, alloc, &mut store, count)?;
     let each = microseconds_each(saving, count);
@@ -51,17 +53,32 @@ pub(crate) fn saved(rt: &HostRuntime, path: &str, count: u32) -> Result<String, 
 /// How long so many saves take.
 fn time_of_saves(
     rt: &impl Clock,
+    alloc: Global,
     journal: &mut Journal<FileStore>,
     count: u32,
-) -> Result<Duration, BenchFault> {
+) -> Result<Duration, BenchFault>
+    requires { journal.old.me ≡ 3 }
+{
     let start = Instant::now(rt)?;
     for round in 0..count {
         if journal.has_failed() {
             return Err(BenchFault::Usage);
         }
-        journal.save(&prevote(round))?;
+        save_one(alloc, journal, round)?;
     }
     Ok(start.elapsed(rt)?)
+}
+
+/// Saves the prevote of a round.
+fn save_one(alloc: Global, journal: &mut Journal<FileStore>, round: u32) -> Result<(), BenchFault>
+    requires running { journal.old.failed ≡ false }
+    requires me { journal.old.me ≡ 3 }
+    ensures { journal.new.me ≡ 3 }
+{
+    let entry = prevote(round);
+    let spelled = spell_record(alloc, ME, &entry)?;
+    journal.save(entry, &spelled)?;
+    Ok(())
 }
 
 /// How long the syncs take of so many appends of a record's bytes.

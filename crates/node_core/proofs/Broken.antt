@@ -20,11 +20,6 @@ use Rattle.vote_journal.specs.Saving.{IsBeforeOrAfter, IsSaveFault, WhereSaved}
 use Rattle.vote_journal.specs.declared.fault.JournalFault.{JournalFault}
 use Rattle.vote_journal.specs.declared.fault.JournalFault.TheVariants as journal
 use Rattle.vote_journal.proofs.Stopping.{newest}
-use Rattle.round_states.specs.Pending.{pending_of}
-use Rattle.round_states.specs.Saving.{Unwritten, of_unfired}
-use Rattle.round_states.specs.declared.saving.SaveFault.TheVariants as saves
-use Rattle.round_states.specs.declared.saving.Unfired.{Unfired}
-use Rattle.round_states.specs.declared.saving.Unfired.TheVariants as unfired
 use Rattle.round_machine.specs.Naming.{rule_of}
 use Rattle.round_machine.specs.declared.rule.Rule.{Rule as Name}
 use Rattle.round_machine.specs.declared.rule.Rule.TheVariants as names
@@ -32,7 +27,9 @@ use Rattle.protocol.specs.declared.refusal.Refusal.{Refusal as Answer}
 use Rattle.protocol.specs.declared.refusal.Refusal.TheVariants as answers
 use Rattle.node_core.specs.Core.{Core, JournalSeen, IsSound, Stands, IsSame, context_of, setting, setting_of}
 use Rattle.node_core.specs.Firing.{IsFit, IsNarrow, decision_in}
-use Rattle.node_core.specs.Saving.{HasBroken, Saves}
+use Rattle.node_core.specs.Saving.{HasBroken, IsUnwritten, of_unfired}
+use Rattle.node_core.specs.declared.journal.Unfired.{Unfired}
+use Rattle.node_core.specs.declared.journal.Unfired.TheVariants as unfired
 use Rattle.node_core.specs.Calls.{HasFired, IsTaken, IsUnchanged, IsBroken, IsLeft, IsLeftBy, TellsJournal, input_cut, next_cut}
 use Rattle.node_core.specs.Running.{HasRun, IsCutOff}
 use Rattle.node_core.proofs.Arrivals.{comes_in, answers_by}
@@ -44,19 +41,17 @@ use Rattle.node_core.proofs.Stepwise.{called, taken_from, fired_failed, same_set
 -- ---- one save
 
 -- why a record was not saved
-pub save_broke : (failed nothing : Type 0) (fault : JournalFault) → fault ≡ journal.Failed → IsSaveFault {T = Unit {0}} (Err fault) failed nothing → failed
-save_broke failed nothing fault e k = subst (λ f. IsSaveFault {T = Unit {0}} (Err f) failed nothing) e k
+pub save_broke : (T : Type 0) (failed nothing : Type 0) (fault : JournalFault) → fault ≡ journal.Failed → IsSaveFault {T = T} (Err fault) failed nothing → failed
+save_broke T failed nothing fault e k = subst (λ f. IsSaveFault {T = T} (Err f) failed nothing) e k
 
-pub never_bad : (failed nothing : Type 0) (fault : JournalFault) → fault ≡ journal.BadRecord → IsSaveFault {T = Unit {0}} (Err fault) failed nothing → ⊥
-never_bad failed nothing fault e k = subst (λ f. IsSaveFault {T = Unit {0}} (Err f) failed nothing) e k
+pub never_bad : (T : Type 0) (failed nothing : Type 0) (fault : JournalFault) → fault ≡ journal.BadRecord → IsSaveFault {T = T} (Err fault) failed nothing → ⊥
+never_bad T failed nothing fault e k = subst (λ f. IsSaveFault {T = T} (Err f) failed nothing) e k
 
 -- a record that was not saved for the device
-pub unfired_broken : (me : ℕ) (wrote : Option Record) (e : Unfired) (old new : JournalSeen) → Unwritten Saves (pending_of me wrote) e old new → of_unfired e ≡ answers.JournalFailed → (r : Record) × (wrote ≡ Some r) × HasBroken r old new
-unfired_broken me wrote unfired.OutOfMemory old new u is = absurd cc
-unfired_broken me None (unfired.NotSaved saves.OutOfMemory) old new u is = absurd cc
-unfired_broken me None (unfired.NotSaved saves.Failed) old new u is = absurd u
-unfired_broken me (Some r) (unfired.NotSaved saves.OutOfMemory) old new u is = absurd cc
-unfired_broken me (Some r) (unfired.NotSaved saves.Failed) old new u is = (r, refl, u)
+pub unfired_broken : (wrote : Option Record) (e : Unfired) (old new : JournalSeen) → IsUnwritten e wrote old new → of_unfired e ≡ answers.JournalFailed → (r : Record) × (wrote ≡ Some r) × HasBroken r old new
+unfired_broken wrote unfired.OutOfMemory old new u is = absurd cc
+unfired_broken None unfired.JournalFailed old new u is = absurd u
+unfired_broken (Some r) unfired.JournalFailed old new u is = (r, refl, u)
 
 -- what stands then, where the record could be saved
 broken_left : (k : Rule) (core : Core) (journal : JournalSeen) (r : Record) → MayFire k core → saved (context_of core) (pick core.queues) core.machine.state k ≡ Some r → HasBroken r core.journal journal

@@ -23,9 +23,10 @@ use Rattle.protocol.specs.Queues.{pick, drop_delivered, all_waiting}
 use Rattle.protocol.specs.Arrivals.{is_decision, queues_after, firing}
 use Rattle.protocol.proofs.Waiting.{dropped_in}
 use Rattle.messages.specs.Grammar.{IsBody, IsBundle}
-use Rattle.round_states.specs.Machine.{Agrees}
+use Rattle.round_states.specs.Machine.{Machine, Agrees}
 use Rattle.round_states.specs.Pending.{Pending, pending_of}
-use Rattle.round_states.specs.Saving.{Wrote}
+use Rattle.round_states.specs.Plans.{says, moved, applied}
+use Rattle.round_states.specs.declared.plans.Plan.{Plan}
 use Rattle.vote_journal.specs.Grammar.{IsRecord}
 use Rattle.vote_journal.specs.Order.{may_follow}
 use Rattle.vote_journal.specs.Layout.{IsWhole}
@@ -33,7 +34,7 @@ use Rattle.vote_journal.specs.Laws.{EachFollows, IsLawful}
 use Rattle.vote_journal.specs.Saving.{WhereSaved}
 use Rattle.vote_journal.proofs.Following.{fired_lawful}
 use Rattle.vote_journal.proofs.Stops.{one_journal, whole_is_journal}
-use Rattle.node_core.specs.Saving.{HasSaved, Saves}
+use Rattle.node_core.specs.Saving.{IsWritten}
 use Rattle.node_core.specs.Core.{Core, JournalSeen, Stands, IsSame, IsSaid, IsKept, IsSound, IsOf, IsStamp, delivered_in, setting, setting_of, context_of, frame_by}
 use Rattle.node_core.specs.Calls.{HasFiredOnce, Serves}
 use Rattle.node_core.specs.Firing.{decided_by, said_after, said_by, is_empty}
@@ -162,15 +163,6 @@ abbrev pub OptionRecord : ℕ → Option Record → Type 0
 OptionRecord me None = Unit {0}
 OptionRecord me (Some r) = IsRecord me r
 
--- the journal has it, if there is one
-abbrev pub IsWritten : Option Record → JournalSeen → JournalSeen → Type 0
-IsWritten None old new = new ≡ old
-IsWritten (Some r) old new = HasSaved r old new
-
-pub wrote_written : (me : ℕ) (wrote : Option Record) (old new : JournalSeen) → Wrote Saves (pending_of me wrote) old new → IsWritten wrote old new
-wrote_written me None old new w = w
-wrote_written me (Some r) old new w = w
-
 pub written_me : (wrote : Option Record) (old new : JournalSeen) → IsWritten wrote old new → new.me ≡ old.me
 written_me None old new w = ap (λ (j : JournalSeen). j.me) w
 written_me (Some r) old new w = w.me
@@ -221,6 +213,7 @@ pub record IsFiredTo (k : Rule) (old new : Core) : Type 0 where
   pub same : IsSame old new
   pub state : new.machine.state ≡ fired (context_of old) (pick old.queues) old.machine.state k
   pub agrees : Agrees (context_of old) new.machine
+  pub room : new.machine.room ≡ None
   pub queues : new.queues ≡ cond (is_empty (decided_in (saved (context_of old) (pick old.queues) old.machine.state k))) old.queues (drop_delivered new.machine.state.delivered old.queues)
   pub decisions : new.decisions ≡ old.decisions ++ decided_in (saved (context_of old) (pick old.queues) old.machine.state k)
   pub outgoing : new.outgoing ≡ old.outgoing ++ map (frame_by old) (option_to_list (released_by old.machine.me (saved (context_of old) (pick old.queues) old.machine.state k)))
@@ -318,6 +311,7 @@ fired_sound k old new f m spelled own said =
       whole = rw f.same.ring s.whole;
       few = rw f.same.powers s.few;
       agrees = subst (λ g. Agrees g new.machine) (sym (same_context old new f.same)) f.agrees;
+      room = f.room;
       waiting = λ t i. rw (same, f.same.me) (s.waiting t (cond_both (is_empty (decided_in wrote)) old.queues (drop_delivered new.machine.state.delivered old.queues) (λ qs. t ∈ all_waiting qs → t ∈ all_waiting old.queues)
           (λ _ j. j) (λ _ j. dropped_in new.machine.state.delivered t old.queues j) (subst (λ qs. t ∈ all_waiting qs) f.queues i)));
       stamps = rw f.state (fired_stamps IsStamp (context_of old) (pick old.queues) old.machine.state k s.stamps);
@@ -332,29 +326,32 @@ fired_sound k old new f m spelled own said =
 
 -- ---- from what the parts of a firing ensure
 
-pub fired_to : (k : Rule) (old new : Core) (v : Value) (pending : Option Pending) (timeout : Option Timeout)
+pub fired_to : (k : Rule) (old new : Core) (v : Value) (plan : Plan) (said : Option Pending) (timeout : Option Timeout)
     → saved (context_of old) v old.machine.state k ≡ saved (context_of old) (pick old.queues) old.machine.state k
-    → new.machine.state ≡ fired (context_of old) v old.machine.state k → Agrees (context_of old) new.machine → new.ring ≡ old.ring
-    → pending ≡ pending_of old.machine.me (saved (context_of old) v old.machine.state k) → timeout ≡ scheduled (context_of old) old.machine.state k
-    → new.queues ≡ cond (is_empty (decided_by pending)) old.queues (drop_delivered new.machine.state.delivered old.queues) → new.decisions ≡ old.decisions ++ decided_by pending
-    → new.outgoing ≡ old.outgoing ++ map (frame_by old) (option_to_list (released_by old.machine.me (saved (context_of old) v old.machine.state k))) → new.scheduled ≡ old.scheduled ++ option_to_list timeout
-    → new.said ≡ said_by pending old.said → Wrote Saves (pending_of old.machine.me (saved (context_of old) v old.machine.state k)) old.journal new.journal
+    → says plan ≡ saved (context_of old) v old.machine.state k → moved old.machine.state plan.change ≡ changed old.machine.state k → plan.timeout ≡ scheduled (context_of old) old.machine.state k
+    → Agrees (context_of old) (applied old.machine plan) → new.machine ≡ applied old.machine plan → new.ring ≡ old.ring
+    → said ≡ pending_of old.machine.me (says plan) → timeout ≡ plan.timeout
+    → new.queues ≡ cond (is_empty (decided_by said)) old.queues (drop_delivered new.machine.state.delivered old.queues) → new.decisions ≡ old.decisions ++ decided_by said
+    → new.outgoing ≡ old.outgoing ++ map (frame_by old) (option_to_list (released_by old.machine.me (says plan))) → new.scheduled ≡ old.scheduled ++ option_to_list timeout
+    → new.said ≡ said_by said old.said → IsWritten (says plan) old.journal new.journal
     → IsFiredTo k old new
 unfolding setting
-fired_to k old new v pending timeout same state agrees ring unsaved timed queues decisions outgoing scheduling saying wrote_it =
-    let g : Context = context_of old in
-    let wrote : Option Record = saved g (pick old.queues) old.machine.state k in
-    let d : decided_by pending ≡ decided_in wrote = ap decided_by unsaved ∙ pending_decided old.machine.me (saved g v old.machine.state k) ∙ ap decided_in same in
+fired_to k old new v plan said timeout same says_it moves timed agrees is ring saying started queues decisions outgoing scheduling own wrote =
+    let me = old.machine.me in
+    let what : says plan ≡ saved (context_of old) (pick old.queues) old.machine.state k = says_it ∙ same in
+    let agreed : Agrees (context_of old) new.machine = subst (Agrees (context_of old)) (sym is) agrees in
+    let d : decided_by said ≡ decided_in (saved (context_of old) (pick old.queues) old.machine.state k) = ap decided_by saying ∙ pending_decided me (says plan) ∙ ap decided_in what in
     record {
-      same = record { powers = agrees.powers; me = agrees.me; ring = ring };
-      state = state ∙ ap (λ w. keeping_own (changed old.machine.state k) (released_by old.machine.me w)) same;
-      agrees = agrees;
+      same = record { powers = agreed.powers; me = agreed.me; ring = ring };
+      state = ap (λ (m : Machine). m.state) is ∙ ap (λ (s : State). keeping_own s (released_by me (says plan))) moves ∙ ap (λ w. keeping_own (changed old.machine.state k) (released_by me w)) what;
+      agrees = agreed;
+      room = ap (λ (m : Machine). m.room) is;
       queues = queues ∙ ap (λ (bs : List Bundle). cond (is_empty bs) old.queues (drop_delivered new.machine.state.delivered old.queues)) d;
       decisions = decisions ∙ ap (λ l. old.decisions ++ l) d;
-      outgoing = outgoing ∙ ap (λ w. old.outgoing ++ map (frame_by old) (option_to_list (released_by old.machine.me w))) same;
-      scheduled = scheduling ∙ ap (λ o. old.scheduled ++ option_to_list o) timed;
-      said = saying ∙ ap (λ o. said_by o old.said) unsaved ∙ pending_said old.machine.me (saved g v old.machine.state k) old.said ∙ ap (λ o. said_of old.machine.me o old.said) same;
-      journal = wrote_written old.machine.me wrote old.journal new.journal (subst (λ o. Wrote Saves (pending_of old.machine.me o) old.journal new.journal) same wrote_it);
+      outgoing = outgoing ∙ ap (λ w. old.outgoing ++ map (frame_by old) (option_to_list (released_by me w))) what;
+      scheduled = scheduling ∙ ap (λ o. old.scheduled ++ option_to_list o) (started ∙ timed);
+      said = own ∙ ap (λ o. said_by o old.said) saying ∙ pending_said me (says plan) old.said ∙ ap (λ o. said_of me o old.said) what;
+      journal = subst (λ o. IsWritten o old.journal new.journal) what wrote;
     }
 
 pub empty_nil : (bs : List Bundle) → is_empty bs ≡ true → bs ≡ []

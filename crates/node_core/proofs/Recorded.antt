@@ -16,6 +16,7 @@ use Rattle.protocol.specs.State.{Context, State, Rule, Start, PrevoteFresh, Prev
 use Rattle.protocol.specs.Rules.{holds, times_out, released_by, saved, starts, proposal_of}
 use Rattle.protocol.specs.Queues.{pick}
 use Rattle.round_machine.specs.Naming.{rule_of}
+use Rattle.round_states.specs.Pending.{pending_of}
 use Rattle.round_machine.specs.declared.rule.Rule.{Rule as Name}
 use Rattle.round_machine.specs.declared.rule.Rule.TheVariants as names
 use Rattle.vote_journal.specs.Grammar.{HasLock}
@@ -80,6 +81,11 @@ pub released_own : (me : ℕ) (o : Option Record) (b : Body) → Some b ≡ rele
 released_own me None b e = absurd cc
 released_own me (Some (Decided x)) b e = absurd cc
 released_own me (Some (Own h r act)) b e = let f : b ≡ body_of me h r act = cc in ap sender_of f ∙ act_own me h r act
+
+-- what says nothing releases nothing
+pub unsaid : (me : ℕ) (o : Option Record) → pending_of me o ≡ None → released_by me o ≡ None
+unsaid me None e = refl
+unsaid me (Some r) e = absurd cc
 
 pub released_spelled : (me : ℕ) (o : Option Record) (b : Body) → Some b ≡ released_by me o → IsBody b → IfSome (released_by me o) IsBody
 released_spelled me o b e h = subst (λ x. IfSome x IsBody) e h

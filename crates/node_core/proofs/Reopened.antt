@@ -1,5 +1,5 @@
 -- A node that comes back over its own journal is sound, and stands for the restart of its records.
-use Rattle.std.proofs.Common.{◌≡◌, ℕ, zero, suc, ◌<◌, ◌≤◌, List, [], ◌∷◌, All, Bool, map, reverse, length, get_or, inl, inr, refl, sym, ap, subst, ◌∙◌, arith}
+use Rattle.std.proofs.Common.{◌≡◌, ℕ, zero, suc, ◌<◌, ◌≤◌, List, [], ◌∷◌, All, Bool, None, map, reverse, length, get_or, inl, inr, refl, sym, ap, subst, ◌∙◌, arith}
 use Rattle.std.proofs.lemmas.List.{reverse-reverse}
 use Rattle.std.proofs.lemmas.List.Elements.{All-map}
 use Rattle.transactions.specs.Grammar.{IsValue}
@@ -55,7 +55,7 @@ said_spelled me h r act is = record { spelled = is.0; own = act_own me h r act }
 -- ---- the node
 
 -- a validator of which nothing is known yet
-pub begun_agrees : (powers : List ℕ) (me : ℕ) (ring : Ring) (m : Machine) → m ≡ record { state = restart me []; powers = powers; me = me; genuine = [] } → Agrees (context (setting powers me ring) me) m
+pub begun_agrees : (powers : List ℕ) (me : ℕ) (ring : Ring) (m : Machine) → m ≡ record { state = restart me []; powers = powers; me = me; genuine = []; room = None } → Agrees (context (setting powers me ring) me) m
 unfolding restart setting
 begun_agrees powers me ring m is = rw is (record { powers = refl; me = refl; genuine = refl })
 
@@ -75,11 +75,11 @@ module _ (powers : List ℕ) (me : ℕ) (bytes : List ℕ) (decisions : List Bun
   tells = told me read.records decisions own read.keeps
 
   abbrev machine_with : List Bool → Machine
-  machine_with genuine = record { state = restart me journal; powers = powers; me = me; genuine = genuine }
+  machine_with genuine = record { state = restart me journal; powers = powers; me = me; genuine = genuine; room = None }
 
-  same_machine : (ring : Ring) (m : Machine) → Agrees (context (setting powers me ring) me) m → m.state ≡ restart me (journal_of decisions own) → machine_with m.genuine ≡ m
+  same_machine : (ring : Ring) (m : Machine) → Agrees (context (setting powers me ring) me) m → m.state ≡ restart me (journal_of decisions own) → m.room ≡ None → machine_with m.genuine ≡ m
   unfolding setting
-  same_machine ring m a is = λ i. record { state = (tells.state ∙ sym is) i; powers = sym a.powers i; me = sym a.me i; genuine = m.genuine }
+  same_machine ring m a is none = λ i. record { state = (tells.state ∙ sym is) i; powers = sym a.powers i; me = sym a.me i; genuine = m.genuine; room = sym none i }
 
   stands_with : (ring : Ring) (genuine : List Bool) (failures : ℕ) (rs : List Record) → IsWholeJournal powers me bytes rs → Stands (opened me (reverse rs)) (unfired (machine_with genuine) ring decisions (bodies_by me own) (running me bytes failures))
   stands_with ring genuine failures rs whole =
@@ -107,6 +107,7 @@ module _ (powers : List ℕ) (me : ℕ) (bytes : List ℕ) (decisions : List Bun
     whole = whole;
     few = few;
     agrees = agrees;
+    room = refl;
     waiting = λ t i. absurd i;
     stamps = λ k d lt. absurd (omega (arith, lt));
     decided = sym tells.height;
@@ -126,17 +127,17 @@ module _ (powers : List ℕ) (me : ℕ) (bytes : List ℕ) (decisions : List Bun
 
   -- ---- where the machine is what was made of the journal
 
-  pub back_stands : (ring : Ring) (m : Machine) (bodies : List Body) (failures : ℕ) (rs : List Record) → Agrees (context (setting powers me ring) me) m → m.state ≡ restart me (journal_of decisions own) → bodies ≡ bodies_by me own
+  pub back_stands : (ring : Ring) (m : Machine) (bodies : List Body) (failures : ℕ) (rs : List Record) → Agrees (context (setting powers me ring) me) m → m.state ≡ restart me (journal_of decisions own) → m.room ≡ None → bodies ≡ bodies_by me own
       → IsWholeJournal powers me bytes rs → Stands (opened me (reverse rs)) (unfired m ring decisions bodies (running me bytes failures))
-  back_stands ring m bodies failures rs a is said_is whole =
-      subst (λ (x : Machine). Stands (opened me (reverse rs)) (unfired x ring decisions bodies (running me bytes failures))) (same_machine ring m a is)
+  back_stands ring m bodies failures rs a is none said_is whole =
+      subst (λ (x : Machine). Stands (opened me (reverse rs)) (unfired x ring decisions bodies (running me bytes failures))) (same_machine ring m a is none)
       (subst (λ (x : List Body). Stands (opened me (reverse rs)) (unfired (machine_with m.genuine) ring decisions x (running me bytes failures))) (sym said_is) (stands_with ring m.genuine failures rs whole))
 
   pub back_sound : (ring : Ring) (m : Machine) (bodies : List Body) (failures : ℕ) → ring.me ≡ Validator me → ring.count ≡ length powers → me < length powers → IsWhole ring → length powers ≤ 128
-      → AreReplayable me decisions own → Agrees (context (setting powers me ring) me) m → m.state ≡ restart me (journal_of decisions own) → bodies ≡ bodies_by me own
+      → AreReplayable me decisions own → Agrees (context (setting powers me ring) me) m → m.state ≡ restart me (journal_of decisions own) → m.room ≡ None → bodies ≡ bodies_by me own
       → IsSound (unfired m ring decisions bodies (running me bytes failures))
-  back_sound ring m bodies failures owner count number whole few r a is said_is =
-      let same = same_machine ring m a is in
+  back_sound ring m bodies failures owner count number whole few r a is none said_is =
+      let same = same_machine ring m a is none in
       subst (λ (x : Machine). IsSound (unfired x ring decisions bodies (running me bytes failures))) same
       (subst (λ (x : List Body). IsSound (unfired (machine_with m.genuine) ring decisions x (running me bytes failures))) (sym said_is)
       (sound_with ring m.genuine failures owner count number whole few r (subst (Agrees (context (setting powers me ring) me)) (sym same) a)))

@@ -34,6 +34,7 @@ sound_queued core t d s lawful none = record {
   whole = s.whole;
   few = s.few;
   agrees = s.agrees;
+  room = s.room;
   waiting = λ u i. elim (queued_in t u core.queues i) [
     | inl e ↦ subst (IsGood (setting_of core) core.machine.me) (sym e) (lawful, right_where_none (setting_of core) core.machine.me d core.queues t none)
     | inr k ↦ s.waiting u k
@@ -55,23 +56,28 @@ stamps_kept Precommit round sender None tags h i d lt = absurd (omega (arith, lt
 stamps_kept Prevote round sender content tags h i d lt = absurd (omega (arith, lt))
 stamps_kept Propose round sender content tags h i d lt = absurd (omega (arith, lt))
 
+-- a machine without room is itself
+pub roomless : (m : Machine) → m.room ≡ None → record m { room = None } ≡ m
+roomless m e = λ i. record m { room = sym e i }
+
 pub same_agreed : (core : Core) (m : Machine) → Agrees (context_of core) m → IsSame core (record core { machine = m })
 unfolding setting
 same_agreed core m a = record { powers = a.powers; me = a.me; ring = refl }
 
 -- a message was kept, and the journal tells of the variables as before
-pub sound_kept : (core : Core) (m : Machine) (message : Message) → IsSound core → Agrees (context_of core) m → All IsStamp m.state.stamps → m.state ≡ kept_message core.machine.state message message.body
+pub sound_kept : (core : Core) (m : Machine) (message : Message) → IsSound core → Agrees (context_of core) m → m.room ≡ None → All IsStamp m.state.stamps → m.state ≡ kept_message core.machine.state message message.body
     → m.state.height ≡ core.machine.state.height → m.state.delivered ≡ core.machine.state.delivered
     → (core.journal.failed ≡ false → KeepsStamps (setting_of core) core.machine.me m.state.height m.state.votes m.state.stamps)
     → IsSound (record core { machine = m })
 unfolding setting
-sound_kept core m message s a stamps state height delivered keeps = record {
+sound_kept core m message s a room stamps state height delivered keeps = record {
   owner = rw a.me s.owner;
   count = rw a.powers s.count;
   me = rw (a.me, a.powers) s.me;
   whole = s.whole;
   few = rw a.powers s.few;
   agrees = subst (λ g. Agrees g m) (sym (same_context core (record core { machine = m }) (same_agreed core m a))) a;
+  room = room;
   waiting = rw (a.powers, a.me) s.waiting;
   stamps = stamps;
   decided = rw height s.decided;

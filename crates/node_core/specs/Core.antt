@@ -117,6 +117,7 @@ pub record IsSound (core : Core) : Type 0 where
   pub whole : IsWhole core.ring
   pub few : length core.machine.powers ≤ 128
   pub agrees : Agrees (context_of core) core.machine
+  pub room : core.machine.room ≡ None
   pub waiting : (t : Tx) → t ∈ all_waiting core.queues → IsGood (setting_of core) core.machine.me t
   pub stamps : All IsStamp core.machine.state.stamps
   pub decided : length core.decisions ≡ core.machine.state.height

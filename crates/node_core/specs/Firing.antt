@@ -1,9 +1,9 @@
 -- What a firing is made of.
-use Rattle.std.specs.Prelude.{◌≡◌, ℕ, ◌<◌, ◌^◌, Bool, true, false, List, [], ◌∷◌, ◌++◌, length, map, Option, Some, None, option_to_list}
+use Rattle.std.specs.Prelude.{◌≡◌, ℕ, ◌<◌, ◌^◌, Bool, true, false, List, [], ◌∷◌, ◌++◌, length, Option, Some, None}
 use Rattle.transactions.specs.Grammar.{IsValue}
 use Rattle.protocol.specs.Messages.{Body, Bundle, Record, Own, Decided, body_of}
 use Rattle.protocol.specs.State.{State}
-use Rattle.protocol.specs.Rules.{saved, starts, released_by}
+use Rattle.protocol.specs.Rules.{saved, starts}
 use Rattle.protocol.specs.Queues.{pick}
 use Rattle.round_states.specs.Pending.{Pending}
 use Rattle.round_states.specs.Steps.{proposal_at, picked_value}
@@ -11,7 +11,8 @@ use Rattle.round_machine.specs.Naming.{rule_of, pick_in, Serves, ServesRound}
 use Rattle.round_machine.specs.declared.rule.Rule.{Rule as Name}
 use Rattle.round_machine.specs.declared.rule.Rule.TheVariants as names
 use Rattle.round_machine.specs.declared.rule.Input.{Input}
-use Rattle.node_core.specs.Core.{Core, context_of, frame_by}
+use Rattle.node_core.specs.Core.{Core, context_of}
+use Rattle.node_core.specs.declared.carrying.OwnFrame.{OwnFrame}
 
 -- what is handed serves the rule as the queues' own pick would
 pub record IsHanded (core : Core) (rule : Name) (input : Input) : Type 0 where
@@ -29,11 +30,12 @@ IsFit s (names.Decide i) = IsValue (proposal_at s i).value
 IsFit s (names.Lock i) = IsValue (proposal_at s i).value
 IsFit s _ = Unit {0}
 
--- the frames of what the firing releases
-abbrev pub frames_of : Core → Name → Input → List (List ℕ)
-frames_of core rule input = map (frame_by core) (option_to_list (released_by core.machine.me (saved (context_of core) (picked_value (pick_in input)) core.machine.state (rule_of core.machine.state rule))))
+-- the bytes of a frame, if there is one
+abbrev pub bytes_in : Option OwnFrame → List (List ℕ)
+bytes_in None = []
+bytes_in (Some frame) = frame.bytes.items ∷ []
 
--- ---- what waits for its save
+-- ---- what is said
 
 abbrev pub decision_in : Record → List Bundle
 decision_in (Own height round act) = []

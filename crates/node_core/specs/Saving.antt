@@ -1,14 +1,15 @@
 -- What a save makes of a node's journal.
-use Rattle.std.specs.Prelude.{◌≡◌, true, false, [], ◌∷◌, ◌++◌, All, Result, Ok, Err}
+use Rattle.std.specs.Prelude.{◌≡◌, true, false, [], ◌∷◌, ◌++◌, All, Option, Some, None}
 use Rattle.protocol.specs.Messages.{Record}
-use Rattle.round_states.specs.Pending.{Pending}
-use Rattle.round_states.specs.declared.saving.SaveFault.{SaveFault}
-use Rattle.round_states.specs.declared.saving.SaveFault.TheVariants.{Failed, OutOfMemory}
+use Rattle.protocol.specs.declared.refusal.Refusal.{Refusal as Answer}
+use Rattle.protocol.specs.declared.refusal.Refusal.TheVariants as answers
 use Rattle.vote_journal.specs.Layout.{IsWhole}
 use Rattle.vote_journal.specs.Saving.{IsBeforeOrAfter, WhereSaved}
 use Rattle.vote_journal.specs.Store.{Grew}
 use Rattle.node_core.specs.Core.{JournalSeen}
 use Rattle.node_core.specs.Firing.{decision_in, IsNarrow}
+use Rattle.node_core.specs.declared.journal.Unfired.{Unfired}
+use Rattle.node_core.specs.declared.journal.Unfired.TheVariants.{OutOfMemory, JournalFailed}
 
 -- it has one record more
 pub record HasSaved (r : Record) (old new : JournalSeen) : Type 0 where
@@ -25,7 +26,18 @@ pub record HasBroken (r : Record) (old new : JournalSeen) : Type 0 where
   pub left : old.failed ≡ false → WhereSaved old.me old.bytes r (λ powers rs. IsBeforeOrAfter powers old.me new.bytes rs r)
   pub narrow : All IsNarrow (decision_in r)
 
-abbrev pub Saves : JournalSeen → Pending → Result (Unit {0}) SaveFault → JournalSeen → Type 0
-Saves old p (Ok done) new = HasSaved p.entry old new
-Saves old p (Err OutOfMemory) new = new ≡ old
-Saves old p (Err Failed) new = HasBroken p.entry old new
+-- the journal has the record, if there is one
+abbrev pub IsWritten : Option Record → JournalSeen → JournalSeen → Type 0
+IsWritten None old new = new ≡ old
+IsWritten (Some r) old new = HasSaved r old new
+
+-- Where a plan was not carried out: nothing happened, if memory was short; else what the save that failed did.
+abbrev pub IsUnwritten : Unfired → Option Record → JournalSeen → JournalSeen → Type 0
+IsUnwritten OutOfMemory wrote old new = new ≡ old
+IsUnwritten JournalFailed None old new = ⊥
+IsUnwritten JournalFailed (Some r) old new = HasBroken r old new
+
+-- what a node answers for it
+abbrev pub of_unfired : Unfired → Answer
+of_unfired OutOfMemory = answers.OutOfMemory
+of_unfired JournalFailed = answers.JournalFailed

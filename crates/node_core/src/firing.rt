@@ -3,27 +3,26 @@
 ghost use Rattle.std.specs.Prelude.{◌≡◌, ◌<◌, ◌≤◌, ◌+◌, ◌-◌, ◌^◌, ◌⊎◌, ◌++◌, ℕ, List, true, false, cond, All, Err, OnOk, OnErr, IfOk, IfErr, IfSome, Some, None, option_map, length, map, min, option_to_list, vec_len, vec_capacity};
 ghost use Rattle.powers.specs.Power.{proposer};
 ghost use Rattle.protocol.specs.State.{Context, Node, TimedOut};
-ghost use Rattle.messages.specs.Grammar.{IsBody};
-ghost use Rattle.protocol.specs.Rules.{holds, fired, saved, released_by};
+ghost use Rattle.protocol.specs.Rules.{holds, fired};
 ghost use Rattle.protocol.specs.Order.{enabled, row};
 ghost use Rattle.protocol.specs.Queues.{pick, drop_delivered};
 ghost use Rattle.protocol.specs.Values.{Item};
-ghost use Rattle.round_states.specs.Steps.{picked_value};
-ghost use Rattle.round_machine.specs.Naming.{rule_of, IsPlaced, Serves, ServesRound, pick_in};
+ghost use Rattle.round_machine.specs.Naming.{rule_of, IsPlaced};
 ghost use Rattle.protocol.specs.Arrivals.{firing};
 ghost use Rattle.node_core.specs.Core.{Stands, context_of, setting_of};
 ghost use Rattle.node_core.specs.Calls.{HasFiredOnce, IsLeft, IsUnfired, TellsJournal};
 ghost use Rattle.node_core.specs.Running.{HasRun, IsCutOff};
-ghost use Rattle.node_core.specs.Firing.{IsHanded, IsFit, IsRoundHanded, frames_of, decided_by, said_by, is_empty, IsNarrow};
+ghost use Rattle.node_core.specs.Firing.{IsHanded, IsFit, IsRoundHanded, decided_by, said_by, is_empty, IsNarrow};
 
+use crate::carrying::{Fired, Spelled, carry_out, released};
 use crate::node::NodeCore;
-use frame_admission::{frame_for, own_tags};
+use frame_admission::own_tags;
 use height_catchup::Decisions;
 use mempool::Mempool;
 use messages::Body;
 use protocol::{Refusal, Step, Timeout};
-use round_machine::{Input, Rule, enabled, fire, next_message};
-use round_states::{Fired, Picked, Saved, State, release};
+use round_machine::{Input, Rule, enabled, plan};
+use round_states::{Picked, Said, State, release};
 use std::alloc::AllocError;
 use vote_journal::Store;
 
@@ -74,34 +73,19 @@ impl<S: Store + Drop> NodeCore<S> {
         self.scheduled.reserve(1)?;
         self.decisions.reserve(1)?;
         self.said.reserve(1)?;
-        let frame = self.frame_of_firing(rule, &input)?;
-        let Fired { saved, timeout } = fire(&mut self.state, rule, input, &mut self.journal)?;
-        push_one(&mut self.outgoing, frame);
+        let plan = plan(&self.state, rule, input)?;
+        let Spelled { record, frame } = self.spelled(&plan)?;
+        let Fired { said, timeout } = carry_out(&mut self.state, plan, record, &mut self.journal)?;
+        push_one(&mut self.outgoing, released(frame, &said));
         push_one(&mut self.scheduled, timeout);
         note(
-            saved,
+            said,
             &self.state,
             &mut self.decisions,
             &mut self.mempool,
             &mut self.said,
         );
         Ok(())
-    }
-
-    /// The frame that the firing will release.
-    fn frame_of_firing(&self, rule: Rule, input: &Input) -> Result<Option<Vec<u8>>, AllocError>
-        ghost g: { Context }
-        requires context { g ≡ context_of self.now }
-        requires placed { IsPlaced self.now.machine.state rule }
-        requires holds { holds (context_of self.now) self.now.machine.state (rule_of self.now.machine.state rule) ≡ true }
-        requires serves { Serves (context_of self.now) self.now.machine rule input.now }
-        ensures frame { IfOk result (λ frame. map (λ f. f.items) (option_to_list frame) ≡ frames_of self.now rule input.now) }
-        ensures spelled { OnOk result (IfSome (released_by self.now.machine.me (saved (context_of self.now) (picked_value (pick_in input.now)) self.now.machine.state (rule_of self.now.machine.state rule))) IsBody) }
-    {
-        match next_message(&self.state, rule, input)? {
-            Some(body) => Ok(Some(frame_for(self.alloc, &self.ring, &body)?)),
-            None => Ok(None),
-        }
     }
 
     /// What the rule is handed.
@@ -184,32 +168,32 @@ pub(crate) fn push_one<T>(list: &mut Vec<T>, item: Option<T>)
     }
 }
 
-/// Notes what a firing saved, in room that was made before: an own message is kept to be sent again; a decision is kept
+/// Notes what a firing said, in room that was made before: an own message is kept to be sent again; a decision is kept
 /// with the others, what it delivered leaves the queues, and the own messages of its height are let go.
 pub(crate) fn note(
-    saved: Option<Saved>,
+    said: Option<Said>,
     state: &State,
     decisions: &mut Decisions,
     mempool: &mut Mempool,
-    said: &mut Vec<Body>,
+    own: &mut Vec<Body>,
 )
-    requires height { All (λ b. b.height ≡ length decisions.old.bundles) (decided_by saved) }
+    requires height { All (λ b. b.height ≡ length decisions.old.bundles) (decided_by said) }
     requires room { 0 < decisions.old.room }
-    requires said { vec_len said.old < vec_capacity said.old }
-    ensures decisions { decisions.new.bundles ≡ decisions.old.bundles ++ decided_by saved }
-    ensures narrow { All IsNarrow (decided_by saved) }
-    ensures queues { mempool.new ≡ cond (is_empty (decided_by saved)) mempool.old (drop_delivered state.now.state.delivered mempool.old) }
-    ensures said { said.new.items ≡ said_by saved said.old.items }
+    requires own { vec_len own.old < vec_capacity own.old }
+    ensures decisions { decisions.new.bundles ≡ decisions.old.bundles ++ decided_by said }
+    ensures narrow { All IsNarrow (decided_by said) }
+    ensures queues { mempool.new ≡ cond (is_empty (decided_by said)) mempool.old (drop_delivered state.now.state.delivered mempool.old) }
+    ensures own { own.new.items ≡ said_by said own.old.items }
 {
-    match saved {
+    match said {
         None => {}
-        Some(saved) => match release(saved) {
+        Some(said) => match release(said) {
             Body::Bundle(bundle) => {
                 decisions.keep_reserved(bundle);
                 mempool.drop_delivered(state.frontier());
-                said.clear();
+                own.clear();
             }
-            body => said.push_reserved(body),
+            body => own.push_reserved(body),
         },
     }
 }

@@ -1,25 +1,48 @@
 //! The journal of a node: what its firings say is saved there first.
 
-ghost use Rattle.std.specs.Prelude.{◌≡◌, ◌<◌, ◌^◌, length, true, false, All, Ok, None, IfOk, IfErr, OnOk, OnErr};
-ghost use Rattle.transactions.specs.Grammar.{IsValue};
-ghost use Rattle.protocol.specs.Values.{Value};
-ghost use Rattle.protocol.specs.State.{DecideByBundle};
-ghost use Rattle.protocol.specs.Rules.{holds, saved, fired};
-ghost use Rattle.round_states.specs.Machine.{Agrees};
-ghost use Rattle.round_states.specs.Pending.{pending_of};
-ghost use Rattle.round_states.specs.Saving.{Wrote, Unwritten};
-ghost use Rattle.round_machine.specs.Bundling.{Came};
-ghost use Rattle.vote_journal.specs.Store.{Only};
+ghost use Rattle.std.specs.Prelude.{◌≡◌, ◌<◌, ◌^◌, length, true, false, All, Some, IfOk, IfErr, IfSome, OnOk, OnErr, option_map};
 ghost use Rattle.protocol.specs.Records.{record_of};
-ghost use Rattle.node_core.specs.Saving.{Saves};
+ghost use Rattle.vote_journal.specs.Grammar.{record_spelling, IsRecord};
+ghost use Rattle.vote_journal.specs.Store.{Only};
+ghost use Rattle.node_core.specs.Saving.{HasSaved, IsWritten, IsUnwritten};
 ghost use Rattle.node_core.specs.Firing.{decision_in, IsNarrow};
 
-use messages::Bundle;
-use protocol::Record;
-use round_machine::decide_by_bundle;
-use round_states::{Fired, SaveFault, Saver, State, Unfired, Unsaved};
+use protocol::{Record, Refusal};
+use std::alloc::AllocError;
 use std::marker::Model;
-use vote_journal::{Journal, JournalFault, Store};
+use vote_journal::{Journal, JournalFault, Saved, Store};
+
+/// Why a plan was not carried out. The state has not changed.
+#[derive(Clone, Copy, Debug)]
+pub(crate) enum Unfired {
+    /// A growth was refused memory, and nothing was saved.
+    OutOfMemory,
+    /// The device of the journal failed: the record may be there in part.
+    JournalFailed,
+}
+
+impl From<AllocError> for Unfired {
+    ghost use Rattle.node_core.specs.declared.journal.Unfired.TheVariants.{OutOfMemory};
+
+    ghost from_gives = { λ _ e. e ≡ OutOfMemory };
+
+    fn from(_e: AllocError) -> Unfired {
+        Unfired::OutOfMemory
+    }
+}
+
+impl From<Unfired> for Refusal {
+    ghost use Rattle.node_core.specs.Saving.{of_unfired};
+
+    ghost from_gives = { λ cause e. e ≡ of_unfired cause };
+
+    fn from(cause: Unfired) -> Refusal {
+        match cause {
+            Unfired::OutOfMemory => Refusal::OutOfMemory,
+            Unfired::JournalFailed => Refusal::JournalFailed,
+        }
+    }
+}
 
 /// A journal on a store, in which a node's firings save what they say. Once the store's device failed it saves nothing
 /// more.
@@ -59,26 +82,45 @@ impl<S: Store + Drop> NodeJournal<S> {
         let NodeJournal { journal } = self;
         journal.close()
     }
-}
 
-impl<S: Store + Drop> Saver for NodeJournal<S> {
-    ghost use Rattle.node_core.specs.Saving.{Saves};
-
-    ghost saves = { Saves };
-
-    fn save(&mut self, unsaved: &Unsaved) -> Result<(), SaveFault> {
-        let entry = unsaved.record();
-        // So what was being saved has a spelling, also where it is not saved.
-        fits(entry);
-        if self.journal.has_failed() {
-            return Err(SaveFault::Failed);
+    /// Saves what a plan says, if it says anything, as the bytes that spell it. At `Ok` it is lasting.
+    pub(crate) fn save(
+        &mut self,
+        entry: Option<Record>,
+        spelled: &[u8],
+    ) -> Result<Option<Saved>, Unfired>
+        requires { IfSome (option_map record_of entry) (λ r. IsRecord self.old.me r → spelled.now ≡ record_spelling self.old.me r) }
+        ensures same { IfOk result (λ saved. saved ≡ option_map record_of entry) }
+        ensures wrote { OnOk result (IsWritten (option_map record_of entry) self.old self.new) }
+        ensures unwritten { IfErr result (λ e. IsUnwritten e (option_map record_of entry) self.old self.new) }
+    {
+        match entry {
+            None => Ok(None),
+            Some(entry) => match self.save_record(entry, spelled) {
+                Ok(saved) => Ok(Some(saved)),
+                Err(unfired) => Err(unfired),
+            },
         }
-        match self.journal.save(entry) {
-            Ok(()) => Ok(()),
-            Err(JournalFault::OutOfMemory) => Err(SaveFault::OutOfMemory),
-            Err(JournalFault::Failed) => Err(SaveFault::Failed),
+    }
+
+    /// Saves a record.
+    fn save_record(&mut self, entry: Record, spelled: &[u8]) -> Result<Saved, Unfired>
+        requires { IsRecord self.old.me (record_of entry) → spelled.now ≡ record_spelling self.old.me (record_of entry) }
+        ensures same { IfOk result (λ saved. saved ≡ record_of entry) }
+        ensures wrote { OnOk result (HasSaved (record_of entry) self.old self.new) }
+        ensures unwritten { IfErr result (λ e. IsUnwritten e (Some (record_of entry)) self.old self.new) }
+    {
+        // So what was being saved has a spelling, also where it is not saved.
+        fits(&entry);
+        if self.journal.has_failed() {
+            return Err(Unfired::JournalFailed);
+        }
+        match self.journal.save(entry, spelled) {
+            Ok(saved) => Ok(saved),
+            Err(JournalFault::OutOfMemory) => Err(Unfired::OutOfMemory),
+            Err(JournalFault::Failed) => Err(Unfired::JournalFailed),
             // No save answers this.
-            Err(JournalFault::BadRecord) => Err(SaveFault::Failed),
+            Err(JournalFault::BadRecord) => Err(Unfired::JournalFailed),
         }
     }
 }
@@ -96,26 +138,3 @@ fn fits(entry: &Record)
 fn are_narrow(height: u64, round: u32, sender: u16, id: &[u8; 32])
     ensures { (height < 2 ^ 64) × (round < 2 ^ 32) × (sender < 2 ^ 16) × (length id.now ≡ 32) }
 {}
-
-/// Fires line 49 by a bundle that another validator collected, as `decide_by_bundle` does. (A proof file can't answer
-/// what that generic function requires, so its caller calls this one.)
-pub(crate) fn decide_saving<S: Store + Drop>(
-    state: &mut State,
-    bundle: Bundle,
-    journal: &mut NodeJournal<S>,
-) -> Result<Fired, Unfired>
-    ghost came: { Came }
-    requires agrees { Agrees came.context state.old }
-    requires holds { holds came.context state.old.state (DecideByBundle came.bundle) ≡ true }
-    requires certified { bundle ≡ record came.bundle { precommits = came.context.certified came.bundle } }
-    requires fits { IsValue bundle.value }
-    ensures state { OnOk result ((picked : Value) → state.new.state ≡ fired came.context picked state.old.state (DecideByBundle came.bundle)) }
-    ensures saved { IfOk result (λ f. (picked : Value) → f.saved ≡ pending_of state.old.me (saved came.context picked state.old.state (DecideByBundle came.bundle))) }
-    ensures wrote { OnOk result ((picked : Value) → Wrote Saves (pending_of state.old.me (saved came.context picked state.old.state (DecideByBundle came.bundle))) journal.old journal.new) }
-    ensures unwritten { IfErr result (λ e. (picked : Value) → Unwritten Saves (pending_of state.old.me (saved came.context picked state.old.state (DecideByBundle came.bundle))) e journal.old journal.new) }
-    ensures timeout { IfOk result (λ f. f.timeout ≡ None) }
-    ensures agrees { OnOk result (Agrees came.context state.new) }
-    ensures err { OnErr result (state.new ≡ state.old) }
-{
-    decide_by_bundle(state, bundle, journal)
-}

@@ -12,6 +12,7 @@
 #![tactic(auto)]
 
 mod calls;
+mod carrying;
 mod firing;
 mod journal;
 mod node;

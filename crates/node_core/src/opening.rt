@@ -48,9 +48,11 @@ impl Restart {
         own: &[OwnMessage],
     ) -> Result<Restart, AllocError>
         requires new { state.state ≡ restart state.me [] }
+        requires room { state.room ≡ None }
         requires replayable { AreReplayable state.me decisions.now own.now }
         ensures state { IfOk result (λ r. r.state.state ≡ restart state.me (journal_of decisions.now own.now)) }
         ensures agrees { (c : Setting) (p : ℕ) → IsRingOf c p ring.now → Agrees (context c p) state → IfOk result (λ r. Agrees (context c p) r.state) }
+        ensures room { IfOk result (λ r. r.state.room ≡ None) }
         ensures said { IfOk result (λ r. r.said.items ≡ map (λ m. body_of state.me m.height m.round (act_of m.act)) own.now) }
     {
         let said = bodies_of(alloc, state.me(), own)?;
@@ -74,12 +76,14 @@ fn bodies_of(alloc: Global, me: u16, own: &[OwnMessage]) -> Result<Vec<Body>, Al
 /// One height after the other begins behind its decision.
 fn replay_decisions(state: &mut State, decisions: &[Bundle]) -> Result<(), AllocError>
     requires new { state.old.state ≡ restart state.old.me [] }
+    requires room { state.old.room ≡ None }
     requires few { length decisions.now ≤ 2 ^ 48 }
     requires fits { All (λ b. IsValue b.value) decisions.now }
     requires follow { (i : ℕ) (d : AnyBundle) → i < length decisions.now → valid (flat_map (λ (b : AnyBundle). items b.value) (take i decisions.now)) (slice_index_or decisions.now i d).value ≡ true }
     ensures restarts { OnOk result (state.new.state ≡ restart state.old.me (reverse (map Decided decisions.now))) }
     ensures height { OnOk result (state.new.state.height ≡ length decisions.now) }
     ensures me { OnOk result (state.new.me ≡ state.old.me) }
+    ensures room { OnOk result (state.new.room ≡ None) }
     ensures agrees { OnOk result ((g : Context) → Agrees g state.old → Agrees g state.new) }
 {
     for bundle in decisions {
@@ -96,8 +100,10 @@ fn replay_own(
     own: &[OwnMessage],
 ) -> Result<(), AllocError>
     requires alone { state.old.state.valid_value ≡ None }
+    requires room { state.old.room ≡ None }
     requires heights { All (λ m. m.height ≡ state.old.state.height) own.now }
     requires fits { All (λ m. HasProposedValue (act_of m.act)) own.now }
+    ensures room { OnOk result (state.new.room ≡ None) }
     ensures restarts { OnOk result ((before : List Record) → state.old.state ≡ restart state.old.me before → state.new.state ≡ restart state.old.me (reverse (map said own.now) ++ before)) }
     ensures agrees { OnOk result ((c : Setting) (p : ℕ) → IsRingOf c p ring.now → Agrees (context c p) state.old → Agrees (context c p) state.new) }
 {

@@ -17,14 +17,14 @@ ghost use Rattle.node_core.specs.Core.{Stands, setting_of, context_of, frame_by}
 ghost use Rattle.protocol.specs.Answers.{IsAnswer};
 ghost use Rattle.node_core.specs.Calls.{IsReceived, IsLeft, IsRefused, IsUnfired, IsBeside, HasFiredOnce, TellsJournal};
 
+use crate::carrying::{Fired, Spelled, carry_out};
 use crate::firing::{note, push_one};
-use crate::journal::decide_saving;
 use crate::node::NodeCore;
 use frame_admission::frame_for;
 use height_catchup::{certified, judge};
 use messages::{Ask, Body, Bundle, Message, Proposal, Vote};
 use protocol::{MOST_HEIGHT, Refusal};
-use round_states::Fired;
+use round_machine::plan_by_bundle;
 use std::alloc::AllocError;
 use transactions::{Duplicate, Seq, Tx};
 use vote_journal::Store;
@@ -180,14 +180,12 @@ impl<S: Store + Drop> NodeCore<S> {
         self.scheduled.reserve(1)?;
         self.decisions.reserve(1)?;
         self.said.reserve(1)?;
-        let Fired { saved, timeout } = decide_saving(
-            &mut self.state,
-            certificate,
-            &mut self.journal,
-        )?;
+        let plan = plan_by_bundle(&self.state, certificate)?;
+        let Spelled { record, frame: _ } = self.spelled(&plan)?;
+        let Fired { said, timeout } = carry_out(&mut self.state, plan, record, &mut self.journal)?;
         push_one(&mut self.scheduled, timeout);
         note(
-            saved,
+            said,
             &self.state,
             &mut self.decisions,
             &mut self.mempool,

@@ -9,7 +9,7 @@ use Rattle.protocol.specs.Messages.{Proposal}
 use Rattle.protocol.specs.Tally.{senders, is_vote_for}
 use Rattle.round_states.specs.Machine.{Machine}
 use Rattle.round_states.specs.Steps.{proposal_at, IsPick, IsPickTold}
-use Rattle.round_states.specs.declared.steps.Picked.{Picked}
+use Rattle.round_states.specs.declared.plans.Picked.{Picked}
 use Rattle.round_machine.specs.declared.rule.Rule.{Rule as Name}
 use Rattle.round_machine.specs.declared.rule.Rule.TheVariants as names
 use Rattle.round_machine.specs.declared.rule.Input.{Input}

@@ -1,4 +1,4 @@
-//! Which rule fires next, its firing, and the message that it will let go.
+//! Which rule fires next, and the plan of it: what its firing saves, changes and schedules.
 //!
 //! A caller takes messages in, and then fires the first enabled rule until there is none. A timeout that
 //! is due and a bundle that decides are rules that a caller names itself. Line numbers are those of
@@ -7,16 +7,14 @@
 
 mod content;
 mod deciding;
-mod firing;
 mod naming;
-mod releasing;
+mod planning;
 mod rule;
 mod seeking;
 mod skipping;
 mod timing;
 
-pub use firing::{decide_by_bundle, fire};
 pub use naming::enabled;
-pub use releasing::next_message;
+pub use planning::{plan, plan_by_bundle};
 pub use rule::{Input, Rule};
 pub use timing::{holds_timeout, timeout_refusal};

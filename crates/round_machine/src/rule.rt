@@ -1,7 +1,6 @@
 //! Rules by name.
 
 ghost use Rattle.std.specs.Prelude.{◌≡◌};
-ghost use Rattle.std.specs.Option.{option_copied};
 ghost use Rattle.round_machine.specs.Naming.{pick_in, tags_in};
 
 use protocol::Timeout;
@@ -47,16 +46,6 @@ pub enum Input {
 }
 
 impl Input {
-    /// The picked value, if one was handed.
-    pub(crate) fn picked(&self) -> Option<&Picked>
-        ensures { option_copied result ≡ pick_in self.now }
-    {
-        match self {
-            Input::Picked(picked) => Some(picked),
-            Input::Nothing | Input::OwnTags(_) => None,
-        }
-    }
-
     /// The picked value, if one was handed.
     pub(crate) fn into_picked(self) -> Option<Picked>
         ensures { result ≡ pick_in self }

@@ -1,5 +1,5 @@
 -- A sound state, with one kept proposal more.
-use Rattle.std.proofs.Common.{◌≡◌, ℕ, Option, cond, List, [], ◌∷◌, ◌++◌, length, sym, ap, ◌∙◌, arith}
+use Rattle.std.proofs.Common.{◌≡◌, ℕ, Option, None, cond, List, [], ◌∷◌, ◌++◌, length, sym, ap, ◌∙◌, arith}
 use Rattle.std.specs.Prelude.{◌==◌}
 use Rattle.std.specs.BTreeMap.{BTreeMap}
 use Rattle.std.specs.Global.{Vec}
@@ -19,7 +19,7 @@ pub kept_more : (a : Inside) (ks mid : Vec KeptProposal) (ps room : BTreeMap ℕ
     → mid.items ≡ a.kept.items → ks.items ≡ mid.items ++ k ∷ []
     → ((r : ℕ) → places_at room r ≡ places_at a.places r) → ((r : ℕ) → places_at ps r ≡ cond (said.round == r) (places_at room r ++ length mid.items ∷ []) (places_at room r))
     → ready ≡ record a.tally { ready = what } → t ≡ with_proposal ready said
-    → IsSound (record a { kept = ks; places = ps; tally = t })
+    → IsSound (record a { kept = ks; places = ps; tally = t; room = None })
 kept_more a ks mid ps room t ready k said what h f same em ek er ep ev et = record {
   proposals = rw (et, ev, same, ek, em) (ap (λ (qs : List Proposal). qs ++ k.proposal ∷ []) h.proposals ∙ sym (map-append proposal_in a.kept.items (k ∷ [])));
   places = λ r. rw (ek, em) (places_kept r (length mid.items) (places_at a.places r) (places_at room r) (places_at ps r) a.kept.items k (rw same at (ep r)) (er r) (h.places r) (ap (λ (xs : List KeptProposal). length xs) em));
@@ -29,4 +29,5 @@ kept_more a ks mid ps room t ready k said what h f same em ek er ep ev et = reco
   height = h.height;
   valid_value = h.valid_value;
   ready = ap (λ (x : Kept). x.ready) et;
+  room = tt;
 }

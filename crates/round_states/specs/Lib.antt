@@ -1,6 +1,6 @@
 pub mod Machine
 pub mod Pending
-pub mod Saving
+pub mod Plans
 pub mod Found
 pub mod Taking
 pub mod Seen

@@ -1,13 +1,15 @@
--- What a machine is: a validator's state, and what its rules know beside it.
-use Rattle.std.specs.Prelude.{◌≡◌, ℕ, Bool, true, cond, List, map, is_none}
+-- What a machine is: a validator's state, what its rules know beside it, and what it has room for.
+use Rattle.std.specs.Prelude.{◌≡◌, ℕ, Bool, true, cond, List, Option, map, is_none}
 use Rattle.protocol.specs.Messages.{Proposal}
 use Rattle.protocol.specs.State.{Context, State}
+use Rattle.round_states.specs.declared.room.Room.{Room}
 
 pub record Machine : Type 0 where
   pub state : State
   pub powers : List ℕ
   pub me : ℕ
   pub genuine : List Bool  -- of each kept proposal, the answer to whether the own tags of its transactions are right
+  pub room : Option Room  -- what it has room for; whatever changes the state forgets it
 
 -- It is asked of a proposal without a valid round alone.
 abbrev pub genuine_of : Context → Proposal → Bool

@@ -1,4 +1,4 @@
--- What waits for its save: a record of this validator.
+-- What a validator says: a record of its own.
 use Rattle.std.specs.Prelude.{ℕ, Option, option_map}
 use Rattle.protocol.specs.Messages.{Body, OfBundle, Record, Own, Decided, body_of}
 

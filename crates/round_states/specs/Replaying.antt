@@ -1,5 +1,5 @@
 -- What a validator that comes back makes of the records of its journal, one after the other.
-use Rattle.std.specs.Prelude.{◌≡◌, ℕ, Bool, true, ◌||◌, ◌++◌, ◌∷◌, [], List, is_some}
+use Rattle.std.specs.Prelude.{◌≡◌, ℕ, Bool, true, ◌||◌, ◌++◌, ◌∷◌, [], List, None, is_some}
 use Rattle.transactions.specs.Grammar.{IsValue}
 use Rattle.protocol.specs.Messages.{Act, Proposing, Prevoting, Precommitting, step_of, body_of}
 use Rattle.protocol.specs.Restart.{lock_by, proposals_in, votes_in}
@@ -25,7 +25,7 @@ genuine_by genuine (Prevoting content) = []
 genuine_by genuine (Precommitting choice) = []
 
 abbrev pub with_own : Machine → ℕ → Act → Bool → Machine
-with_own m round act genuine = record m { state = replayed m.me m.state round act; genuine = m.genuine ++ genuine_by genuine act }
+with_own m round act genuine = record m { state = replayed m.me m.state round act; genuine = m.genuine ++ genuine_by genuine act; room = None }
 
 -- The handed answer is this context's, where it is asked for: of a proposal without a valid round.
 abbrev pub IsActTold : Context → Act → Bool → Type 0

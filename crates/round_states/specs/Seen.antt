@@ -1,30 +1,23 @@
 -- How the code's state and its parts are seen, and what holds of them.
-use Rattle.std.specs.Prelude.{◌≡◌, ℕ, ◌≤◌, ◌^◌, Bool, true, false, None, List, map, flat_map, All, IfSome}
+use Rattle.std.specs.Prelude.{◌≡◌, ℕ, ◌≤◌, ◌<◌, ◌^◌, Bool, true, false, Option, Some, None, List, map, flat_map, All, IfSome, Vec, vec_len, vec_capacity}
+use Rattle.std.specs.BTreeMap.{BTreeMap}
 use Rattle.transactions.specs.Grammar.{IsValue}
 use Rattle.protocol.specs.Values.{Value, Item, items}
-use Rattle.protocol.specs.Records.{record_of}
 use Rattle.protocol.specs.declared.types.Step.{Step}
 use Rattle.protocol.specs.declared.types.Step.TheVariants.{Propose, Prevote, Precommit}
 use Rattle.protocol.specs.declared.types.ValueAt.{ValueAt}
 use Rattle.proposal_validity.specs.Standing.{IsFrontierOf}
+use Rattle.vote_tally.specs.declared.room.Ready.{Ready}
+use Rattle.vote_tally.specs.declared.room.Ready.TheVariants as ready
 use Rattle.round_states.specs.Machine.{Machine}
-use Rattle.round_states.specs.Pending.{Pending}
 use Rattle.round_states.specs.Found.{proposal_in, IsFound}
-use Rattle.round_states.specs.Places.{places_of, places_at}
+use Rattle.round_states.specs.Places.{places_of, places_at, HasRoom}
 use Rattle.round_states.specs.declared.state.KeptProposal.{KeptProposal}
 use Rattle.round_states.specs.declared.rounds.Stage.{Stage}
 use Rattle.round_states.specs.declared.rounds.Stage.TheVariants as stages
-use Rattle.round_states.specs.declared.unsaved.Unsaved.TheInside.{Inside as UnsavedInside}
-use Rattle.round_states.specs.declared.unsaved.Saved.TheInside.{Inside as SavedInside}
+use Rattle.round_states.specs.declared.room.Room.{Room}
+use Rattle.round_states.specs.declared.room.Room.TheVariants as rooms
 use Rattle.round_states.specs.declared.state.State.TheInside.{Inside}
-
--- ---- records, before their save and after it
-
-abbrev pub pending : UnsavedInside → Pending
-pending a = record { sender = a.sender; entry = record_of a.entry }
-
-abbrev pub pending_saved : SavedInside → Pending
-pending_saved a = record { sender = a.sender; entry = record_of a.entry }
 
 -- ---- where a height stands
 
@@ -85,7 +78,24 @@ seen a = record {
   powers = a.tally.powers;
   me = a.tally.me;
   genuine = map (λ (k : KeptProposal). k.is_genuine) a.kept.items;
+  room = a.room;
 }
+
+-- ---- what it has room for
+
+-- what the tally has room for
+abbrev pub ready_of : Option Room → Option Ready
+ready_of None = None
+ready_of (Some (rooms.Vote vote)) = Some (ready.Vote vote)
+ready_of (Some (rooms.Proposal round)) = Some (ready.Proposal round)
+ready_of (Some rooms.Decision) = None
+
+-- and the other lists
+abbrev pub HasRoomFor : {Z : Type 0} → Option Room → BTreeMap ℕ (Vec ℕ Z) → Vec KeptProposal Z → Vec Value Z → Type 0
+HasRoomFor None places kept decided = Unit {0}
+HasRoomFor (Some (rooms.Vote vote)) places kept decided = Unit {0}
+HasRoomFor (Some (rooms.Proposal round)) places kept decided = HasRoom places round × (vec_len kept < vec_capacity kept)
+HasRoomFor (Some rooms.Decision) places kept decided = vec_len decided < vec_capacity decided
 
 pub record IsSound (a : Inside) : Type 0 where
   pub proposals : a.tally.proposals ≡ map proposal_in a.kept.items
@@ -95,4 +105,5 @@ pub record IsSound (a : Inside) : Type 0 where
   pub stage : IsOf a.tally.me a.height a.stage
   pub height : a.height ≤ 2 ^ 48
   pub valid_value : IfSome a.valid_value (IsFoundBy a.stage)
-  pub ready : a.tally.ready ≡ None
+  pub ready : a.tally.ready ≡ ready_of a.room
+  pub room : HasRoomFor a.room a.places a.kept a.decided

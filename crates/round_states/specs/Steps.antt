@@ -1,4 +1,4 @@
--- The steps that rules are made of.
+-- What rules are made of.
 use Rattle.std.specs.Prelude.{◌≡◌, ℕ, cond, List, [], ◌∷◌, Option, Some, None, IfSome, ◌==◌, length, map, flat_map, find, option_to_list, slice_index_or, slice_get}
 use Rattle.powers.specs.Power.{proposer}
 use Rattle.transactions.specs.Grammar.{IsValue}
@@ -11,11 +11,11 @@ use Rattle.protocol.specs.State.{Context, State}
 use Rattle.protocol.specs.Tally.{senders, is_vote_for}
 use Rattle.protocol.specs.Rules.{proposal_of, is_stamp}
 use Rattle.round_states.specs.Machine.{Machine}
-use Rattle.round_states.specs.declared.steps.Picked.{Picked}
+use Rattle.round_states.specs.declared.plans.Picked.{Picked}
 
--- the machine in this state
+-- the machine in this state, with no room
 abbrev pub at : Machine → State → Machine
-at m s = record m { state = s }
+at m s = record m { state = s; room = None }
 
 -- the proposal at a place of the kept ones
 abbrev pub nowhere : Proposal

@@ -32,4 +32,4 @@ place_answer powers s q =
 
 -- a proposal is kept, with the handed answer where it is asked for
 abbrev pub with_proposal : Machine → Proposal → Bool → Machine
-with_proposal m q genuine = record m { state = keeping m.state (OfProposal q); genuine = m.genuine ++ (genuine || is_some q.valid_round) ∷ [] }
+with_proposal m q genuine = record m { state = keeping m.state (OfProposal q); genuine = m.genuine ++ (genuine || is_some q.valid_round) ∷ []; room = None }

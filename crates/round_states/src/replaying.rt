@@ -15,8 +15,8 @@ ghost use Rattle.round_states.specs.Steps.{at};
 ghost use Rattle.round_states.specs.Taking.{with_proposal};
 
 use crate::rounds::Stage;
+use crate::said::content_of;
 use crate::state::State;
-use crate::unsaved::content_of;
 use messages::{Proposal, Step as VoteStep, Vote};
 use protocol::{Act, OwnMessage, Step, ValueAt};
 use std::alloc::AllocError;
@@ -33,8 +33,10 @@ impl State {
         ensures ok { OnOk result (self.new ≡ at self.old (decided self.old.state value.now)) }
         ensures restarts { OnOk result ((before : List Entry) (b : Bundle) → b.value ≡ value.now → self.old.state ≡ restart self.old.me before → self.new.state ≡ restart self.old.me (Decided b ∷ before)) }
         ensures agrees { OnOk result ((g : Context) → Agrees g self.old → Agrees g self.new) }
-        ensures err { OnErr result (self.new ≡ self.old) }
+        ensures err { OnErr result (self.new ≡ record self.old { room = None }) }
     {
+        self.tally.forget_reserved();
+        self.room = None;
         let value = value.copy(self.alloc)?;
         self.decided.reserve(1)?;
         self.frontier.extend(&value)?;
@@ -55,8 +57,9 @@ impl State {
         ensures ok { OnOk result (self.new ≡ with_own self.old message.now.round (act_of message.now.act) genuine) }
         ensures restarts { OnOk result ((before : List Entry) → self.old.state ≡ restart self.old.me before → self.new.state ≡ restart self.old.me (Own message.now.height message.now.round (act_of message.now.act) ∷ before)) }
         ensures agrees { OnOk result ((g : Context) → Agrees g self.old → IsActTold g (act_of message.now.act) genuine → Agrees g self.new) }
-        ensures err { OnErr result (self.new ≡ self.old) }
+        ensures err { OnErr result (self.new ≡ record self.old { room = None }) }
     {
+        self.forget_room();
         let round = message.round;
         let step = match &message.act {
             Act::Proposing(valid_round, value) => {
@@ -87,8 +90,9 @@ impl State {
     ) -> Result<(), AllocError>
         requires fits { IsValue value.now }
         ensures ok { OnOk result (self.new ≡ with_proposal self.old (record { height = self.old.state.height; round = round; sender = self.old.me; valid_round = valid_round; value = value.now }) genuine) }
-        ensures err { OnErr result (self.new ≡ self.old) }
+        ensures err { OnErr result (self.new ≡ record self.old { room = None }) }
     {
+        self.forget_room();
         let id = value_id(self.alloc, value).map_err(|_| AllocError)?;
         let proposal = Proposal {
             height: self.height,
@@ -117,7 +121,9 @@ impl State {
             sender: self.me(),
             content,
         };
-        self.tally.keep(vote)
+        self.tally.keep(vote)?;
+        self.room = None;
+        Ok(())
     }
 
     /// Keeps the own precommit of a round, and locks its value.
@@ -144,6 +150,8 @@ impl State {
         requires { self.old.state.valid_value ≡ None }
         ensures { self.new ≡ at self.old (record self.old.state { begun = true; round = round; step = step }) }
     {
+        self.tally.forget_reserved();
+        self.room = None;
         self.stage = Stage::read_back(self.tally.me(), self.height, round, step);
     }
 }

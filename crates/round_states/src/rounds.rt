@@ -1,12 +1,10 @@
 //! A round in each of its steps (`step_p` of algorithm 1 of arXiv 1807.04938). A vote spends the step that allows it, so there is one in each.
 
 ghost use Rattle.std.specs.Prelude.{◌≡◌, ◌<◌, true};
-ghost use Rattle.protocol.specs.Messages.{Own, Prevoting, Precommitting};
-ghost use Rattle.round_states.specs.Saving.{IsOwnIn};
 ghost use Rattle.round_states.specs.Seen.{IsOf, stage_begun, stage_round, stage_step};
 
-use crate::unsaved::Unsaved;
-use transactions::{Id, Named};
+use crate::said::Said;
+use vote_journal::Saved;
 
 /// The step that waits for a proposal.
 #[derive(Drop)]
@@ -42,44 +40,31 @@ impl Round<Propose> {
         }
     }
 
-    /// The one prevote of this round: for an id, or for nil.
-    pub(crate) fn prevote(self, content: Option<Id>) -> (Round<Prevote>, Unsaved)
-        ensures round { (result.0.validator ≡ self.validator) × (result.0.height ≡ self.height) × (result.0.number ≡ self.number) }
-        ensures unsaved { result.1 ≡ record { sender = self.validator; entry = Own self.height self.number (Prevoting content) } }
+    /// The proposal that begins this round.
+    pub(crate) fn propose(&self, saved: Saved) -> Said
+        ensures { result ≡ record { sender = self.now.validator; entry = saved } }
     {
-        let unsaved = Unsaved::prevote(self.validator, self.height, self.number, content);
-        (self.into_step(Prevote), unsaved)
+        Said::of(self.validator, saved)
+    }
+
+    /// The one prevote of this round.
+    pub(crate) fn prevote(self, saved: Saved) -> (Round<Prevote>, Said)
+        ensures round { (result.0.validator ≡ self.validator) × (result.0.height ≡ self.height) × (result.0.number ≡ self.number) }
+        ensures said { result.1 ≡ record { sender = self.validator; entry = saved } }
+    {
+        let said = Said::of(self.validator, saved);
+        (self.into_step(Prevote), said)
     }
 }
 
 impl Round<Prevote> {
-    /// The one precommit of this round: for a value, or for nil.
-    pub(crate) fn precommit(self, choice: Option<Named>) -> (Round<Precommit>, Unsaved)
+    /// The one precommit of this round.
+    pub(crate) fn precommit(self, saved: Saved) -> (Round<Precommit>, Said)
         ensures round { (result.0.validator ≡ self.validator) × (result.0.height ≡ self.height) × (result.0.number ≡ self.number) }
-        ensures unsaved { result.1 ≡ record { sender = self.validator; entry = Own self.height self.number (Precommitting choice) } }
+        ensures said { result.1 ≡ record { sender = self.validator; entry = saved } }
     {
-        let unsaved = Unsaved::precommit(self.validator, self.height, self.number, choice);
-        (self.into_step(Precommit), unsaved)
-    }
-
-    /// The round before its prevote, which was not saved.
-    pub(crate) fn take_back(self, unsaved: Unsaved) -> Round<Propose>
-        requires { IsOwnIn self.height self.number unsaved.entry }
-        ensures { (result.validator ≡ self.validator) × (result.height ≡ self.height) × (result.number ≡ self.number) }
-    {
-        unsaved.unsay();
-        self.into_step(Propose)
-    }
-}
-
-impl Round<Precommit> {
-    /// The round before its precommit, which was not saved.
-    pub(crate) fn take_back(self, unsaved: Unsaved) -> Round<Prevote>
-        requires { IsOwnIn self.height self.number unsaved.entry }
-        ensures { (result.validator ≡ self.validator) × (result.height ≡ self.height) × (result.number ≡ self.number) }
-    {
-        unsaved.unsay();
-        self.into_step(Prevote)
+        let said = Said::of(self.validator, saved);
+        (self.into_step(Precommit), said)
     }
 }
 
@@ -138,6 +123,27 @@ pub(crate) enum Stage {
 }
 
 impl Stage {
+    /// The next round of this validator and height, in its first step: a later one than the present.
+    pub(crate) fn next(self, validator: u16, height: u64, number: u32) -> Round<Propose>
+        requires of { IsOf validator height self }
+        requires later { stage_begun self ≡ true → stage_round self < number }
+        ensures { (result.validator ≡ validator) × (result.height ≡ height) × (result.number ≡ number) }
+    {
+        match self {
+            Stage::Before => Round::new(validator, height, number),
+            Stage::Propose(round) => round.next(number),
+            Stage::Prevote(round) => round.next(number),
+            Stage::Precommit(round) => round.next(number),
+        }
+    }
+
+    /// The decision of the height, which ends it.
+    pub(crate) fn decide(self, validator: u16, saved: Saved) -> Said
+        ensures { result ≡ record { sender = validator; entry = saved } }
+    {
+        Said::of(validator, saved)
+    }
+
     /// Where a validator stands that comes back: the step of what it said last, as its journal tells. It is the one way to
     /// a step that no vote was spent for.
     pub(crate) fn read_back(validator: u16, height: u64, number: u32, step: protocol::Step) -> Stage

@@ -8,9 +8,10 @@ ghost use Rattle.protocol.specs.declared.types.Step.TheVariants as at_steps;
 ghost use Rattle.protocol.specs.Restart.{restart};
 ghost use Rattle.round_states.specs.Found.{proposal_in, IsFound};
 ghost use Rattle.round_states.specs.Places.{places_of};
-ghost use Rattle.round_states.specs.Seen.{delivered_by};
+ghost use Rattle.round_states.specs.Seen.{delivered_by, ready_of};
 
 use crate::places::{Places, places_at, places_in};
+use crate::room::Room;
 use crate::rounds::Stage;
 use messages::Proposal;
 use powers::Powers;
@@ -48,7 +49,7 @@ impl Duplicate for KeptProposal {
 }
 
 /// The variables of one validator. Contracts see them as the state of the definitions, beside the
-/// validators' powers, the own number, and the answers that were handed in.
+/// validators' powers, the own number, the answers that were handed in, and what there is room for.
 #[derive(Drop)]
 pub struct State {
     pub(crate) alloc: Global,
@@ -65,6 +66,7 @@ pub struct State {
     pub(crate) precommits_awaited: bool,
     pub(crate) decided: Vec<Value>,
     pub(crate) frontier: Frontier,
+    pub(crate) room: Option<Room>,
 }
 
 impl Model for State {
@@ -83,7 +85,7 @@ impl State {
     /// Validator `me` at height 0, where nothing has come and no round has begun.
     #[tactic(auto, unfolding(protocol::specs::Restart::restart))]
     pub fn new(alloc: Global, powers: Powers, me: u16) -> State
-        ensures { result ≡ record { state = restart me []; powers = powers; me = me; genuine = [] } }
+        ensures { result ≡ record { state = restart me []; powers = powers; me = me; genuine = []; room = None } }
     {
         State {
             alloc,
@@ -100,6 +102,7 @@ impl State {
             precommits_awaited: false,
             decided: Vec::new(alloc),
             frontier: Frontier::new(alloc),
+            room: None,
         }
     }
 
@@ -195,7 +198,7 @@ impl State {
 
     /// The kept messages of the height, and the power of their senders.
     pub fn tally(&self) -> &Tally
-        ensures { result.now ≡ record { powers = self.now.powers; me = self.now.me; proposals = self.now.state.proposals; votes = self.now.state.votes; ready = None } }
+        ensures { result.now ≡ record { powers = self.now.powers; me = self.now.me; proposals = self.now.state.proposals; votes = self.now.state.votes; ready = ready_of self.now.room } }
     {
         &self.tally
     }
@@ -236,10 +239,10 @@ impl State {
         &self.decided
     }
 
-    /// An equal state. Values are shared and not copied. The copy stands at the same step of the same round, so
+    /// An equal state, which has no room yet. Values are shared and not copied. The copy stands at the same step of the same round, so
     /// each of the two may vote there: whoever makes a copy lets go the votes of one of them alone.
     pub fn copy(&self) -> Result<State, AllocError>
-        ensures { IfOk result (λ copy. copy ≡ self.now) }
+        ensures { IfOk result (λ copy. copy ≡ record self.now { room = None }) }
     {
         Ok(State {
             alloc: self.alloc,
@@ -256,6 +259,7 @@ impl State {
             precommits_awaited: self.precommits_awaited,
             decided: copy_all(self.alloc, &self.decided)?,
             frontier: self.frontier.copy(self.alloc)?,
+            room: None,
         })
     }
 }

@@ -48,6 +48,7 @@ impl State {
         self.check_vote(&vote)?;
         self.stamps.reserve(1)?;
         self.tally.keep(vote)?;
+        self.room = None;
         if let Some(stamp) = stamp(&vote, tags) {
             self.stamps.push_reserved(stamp);
         }
@@ -56,15 +57,16 @@ impl State {
 
     /// Keeps a proposal of a known sender. `genuine` says whether the own tags of its transactions are right:
     /// nobody asks of one with a valid round. The id of its value and whether it may be delivered next are
-    /// found here, once.
+    /// found here, once. What there was room for is forgotten, also where it is refused.
     #[tactic(auto, unfolding(protocol::specs::Values::id))]
     pub fn take_proposal(&mut self, proposal: Proposal, genuine: bool) -> Result<(), Refusal>
         requires { IsValue proposal.value }
         ensures answer { IsAnswer (first_cause (proposal_causes self.old.powers self.old.me self.old.state proposal)) result }
         ensures ok { OnOk result (self.new ≡ with_proposal self.old proposal genuine) }
         ensures agrees { (g : Context) → Agrees g self.old → IsTold g proposal genuine → Agrees g self.new }
-        ensures err { OnErr result (self.new ≡ self.old) }
+        ensures err { OnErr result (self.new ≡ record self.old { room = None }) }
     {
+        self.forget_room();
         self.check_proposal(&proposal)?;
         let id = value_id(self.alloc, &proposal.value).map_err(|_| Refusal::OutOfMemory)?;
         self.keep_proposal(proposal, id, genuine)?;
@@ -117,8 +119,10 @@ impl State {
         requires fits { IsValue proposal.value }
         requires id { id ≡ name_of proposal.value }
         ensures ok { OnOk result (self.new ≡ with_proposal self.old proposal genuine) }
-        ensures err { OnErr result (self.new ≡ self.old) }
+        ensures err { OnErr result (self.new ≡ record self.old { room = None }) }
     {
+        self.tally.forget_reserved();
+        self.room = None;
         let round = proposal.round;
         let copy = proposal.copy(self.alloc)?;
         let found = self.found(proposal, id, genuine);

@@ -1,46 +1,86 @@
-ghost use Rattle.std.specs.Prelude.{◌≡◌, false, true, [], cond, map, is_none, IsSome, IfSome, IfOk, OnOk, OnErr};
+ghost use Rattle.std.specs.Prelude.{◌≡◌, false, true, [], None, cond, map, is_none, option_map, IsSome, IfSome, IfOk, OnOk, OnErr};
 ghost use Rattle.transactions.specs.Grammar.{IsValue};
 ghost use Rattle.protocol.specs.State.{Context};
+ghost use Rattle.protocol.specs.Records.{record_of};
 ghost use Rattle.protocol.specs.Rules.{holds};
 ghost use Rattle.round_states.specs.Machine.{Agrees};
+ghost use Rattle.round_states.specs.Plans.{says, applied, IsOfPlace};
 ghost use Rattle.round_machine.specs.Naming.{rule_of, pick_in, IsPlaced, Serves};
 
 use messages::{Body, Proposal, Step as VoteStep, Vote};
 use powers::Powers;
-use protocol::{Refusal, Step, Timeout};
+use protocol::{Record, Refusal, Step, Timeout};
 use round_machine::*;
-use round_states::{Fired, Picked, SaveFault, Saver, State, Unfired, Unsaved, release};
+use round_states::{Picked, Plan, Said, State, release};
 use std::alloc::Global;
 use std::process::Abort;
 use std::test::Fail;
 use transactions::{Duplicate, Id, Seq, Value, read_value, value_id};
+use vote_journal::{Journal, Saved, spell_record};
 
 mod scenes;
 mod single;
 
-/// Saves nothing, and never fails.
-#[derive(Drop)]
-struct Unkept;
-
-impl Saver for Unkept {
-    ghost saves = { λ _ _ _ _. Unit {0} };
-
-    fn save(&mut self, _unsaved: &Unsaved) -> Result<(), SaveFault> {
-        Ok(())
-    }
-}
-
-/// `fire`, which saves nothing. (A proof file can't answer what the generic function requires.)
-fn fire_unkept(state: &mut State, rule: Rule, input: Input) -> Result<Fired, Unfired>
+/// What a firing says. A journal in memory has it.
+fn fire(alloc: Global, state: &mut State, rule: Rule, input: Input) -> Result<Option<Body>, Fail>
     ghost g: { Context }
     requires agrees { Agrees g state.old }
     requires placed { IsPlaced state.old.state rule }
     requires holds { holds g state.old.state (rule_of state.old.state rule) ≡ true }
     requires serves { Serves g state.old rule input }
     ensures agrees { OnOk result (Agrees g state.new) }
-    ensures err { OnErr result (state.new ≡ state.old) }
+    ensures err { OnErr result (state.new ≡ record state.old { room = None }) }
 {
-    fire(state, rule, input, &mut Unkept)
+    match plan(state, rule, input) {
+        Ok(plan) => carry_out(alloc, state, plan),
+        Err(refused) => {
+            state.forget_room();
+            Err(refused.into())
+        }
+    }
+}
+
+/// Carries a plan out, and gives what it says.
+fn carry_out(alloc: Global, state: &mut State, plan: Plan) -> Result<Option<Body>, Fail>
+    requires { IsOfPlace state.old plan.change (says plan) }
+    ensures ok { OnOk result (state.new ≡ applied state.old plan) }
+    ensures err { OnErr result (state.new ≡ record state.old { room = None }) }
+{
+    let Plan {
+        entry,
+        change,
+        timeout: _,
+    } = plan;
+    state.make_room(&change)?;
+    match save(alloc, state.me(), entry) {
+        Ok(saved) => Ok(body_in(state.apply(change, saved))),
+        Err(fail) => {
+            state.forget_room();
+            Err(fail)
+        }
+    }
+}
+
+/// What may be let go, as a body.
+fn body_in(said: Option<Said>) -> Option<Body> {
+    match said {
+        None => None,
+        Some(said) => Some(release(said)),
+    }
+}
+
+/// Saves what there is to save, in a journal of this validator.
+fn save(alloc: Global, me: u16, entry: Option<Record>) -> Result<Option<Saved>, Fail>
+    ensures { IfOk result (λ saved. saved ≡ option_map record_of entry) }
+{
+    let mut journal = Journal::in_memory(alloc, me)?;
+    match entry {
+        None => Ok(None),
+        Some(entry) => {
+            let spelled = spell_record(alloc, me, &entry)?;
+            Ok(Some(journal.save(entry, &spelled)?))
+        }
+    }
 }
 
 /// A validator among four of power 1, to which every value's own tags are right, or none's are.
@@ -74,9 +114,10 @@ impl Validator {
         self.state.take_proposal(proposal, self.genuine)
     }
 
-    /// Takes a vote in, without tags.
+    /// Takes a vote in, with one tag.
     fn hear_vote(&mut self, vote: Vote) -> Result<(), Refusal> {
-        self.state.take_vote(vote, Seq::new(self.alloc))
+        let tags = Seq::from_vec(vec![in self.alloc; [8u8; 32]]?);
+        self.state.take_vote(vote, tags)
     }
 
     /// What it picks of its clients' queues.
@@ -89,13 +130,13 @@ impl Validator {
         }))
     }
 
-    /// Fires the first enabled rule.
-    fn step(&mut self) -> Result<Option<Fired>, Fail>
+    /// Fires the first enabled rule, if there is one. What is let go joins these bodies.
+    fn step(&mut self, bodies: &mut Vec<Body>) -> Result<bool, Fail>
         ghost g: { Context }
         requires { g ≡ record { powers = self.old.state.powers; me = self.old.state.me; genuine = λ _. self.old.genuine; vouches = λ _ _. false; certified = λ _. []; own_tags = λ _ _ _. self.old.own_tags } }
     {
         let rule = match enabled(&self.state) {
-            None => return Ok(None),
+            None => return Ok(false),
             Some(rule) => rule,
         };
         let input = match rule {
@@ -103,11 +144,12 @@ impl Validator {
             Rule::Decide(_) => Input::OwnTags(self.own_tags.copy(self.alloc)?),
             _ => Input::Nothing,
         };
-        Ok(Some(fire_unkept(&mut self.state, rule, input)?))
+        keep(fire(self.alloc, &mut self.state, rule, input)?, bodies)?;
+        Ok(true)
     }
 
-    /// Fires the rule of a timeout of the present height and round, if it holds.
-    fn time_out(&mut self, kind: Step) -> Result<Option<Fired>, Fail>
+    /// Fires the rule of a timeout of the present height and round, if it holds. What is let go joins these bodies.
+    fn time_out(&mut self, kind: Step, bodies: &mut Vec<Body>) -> Result<bool, Fail>
         ghost g: { Context }
         requires { g ≡ record { powers = self.old.state.powers; me = self.old.state.me; genuine = λ _. self.old.genuine; vouches = λ _ _. false; certified = λ _. []; own_tags = λ _ _ _. self.old.own_tags } }
     {
@@ -117,18 +159,21 @@ impl Validator {
             round: self.state.round(),
         };
         if !holds_timeout(&self.state, timeout) {
-            return Ok(None);
+            return Ok(false);
         }
         let input = self.pick()?;
-        Ok(Some(fire_unkept(&mut self.state, Rule::TimedOut(timeout), input)?))
+        keep(
+            fire(self.alloc, &mut self.state, Rule::TimedOut(timeout), input)?,
+            bodies,
+        )?;
+        Ok(true)
     }
 
     /// Fires until no rule is enabled. What is let go joins these bodies.
     fn settle(&mut self, bodies: &mut Vec<Body>) -> Result<(), Fail> {
         for _ in 0..100 {
-            match self.step()? {
-                None => return Ok(()),
-                Some(fired) => let_go(fired, bodies)?,
+            if !self.step(bodies)? {
+                return Ok(());
             }
         }
         Err(Fail::new("it never settles"))
@@ -141,12 +186,11 @@ impl Validator {
     }
 }
 
-/// Lets go what a firing leaves.
-fn let_go(fired: Fired, bodies: &mut Vec<Body>) -> Result<(), Fail> {
-    let Fired { saved, timeout: _ } = fired;
-    match saved {
+/// Keeps what is let go, if anything.
+fn keep(body: Option<Body>, bodies: &mut Vec<Body>) -> Result<(), Fail> {
+    match body {
         None => {}
-        Some(saved) => bodies.push(release(saved))?,
+        Some(body) => bodies.push(body)?,
     }
     Ok(())
 }

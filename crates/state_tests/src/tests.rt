@@ -1,56 +1,83 @@
-ghost use Rattle.std.specs.Prelude.{◌≡◌, [], IfOk};
+ghost use Rattle.std.specs.Prelude.{◌≡◌, [], false, None, IfOk};
 ghost use Rattle.transactions.specs.Grammar.{IsValue};
 ghost use Rattle.protocol.specs.Records.{act_of};
 ghost use Rattle.protocol.specs.State.{fresh};
+ghost use Rattle.round_states.specs.Plans.{says, IsOfPlace};
 ghost use Rattle.round_states.specs.Replaying.{HasProposedValue};
 
 use messages::{Body, Proposal, Step as VoteStep, Vote};
 use powers::Powers;
-use protocol::{Act, OwnMessage, Record, Refusal, Step};
-use round_states::{Fired, Picked, SaveFault, Saver, State, Unfired, Unsaved, release};
+use protocol::{Act, OwnMessage, Refusal, Step};
+use round_states::{Picked, Plan, State, release};
 use std::alloc::Global;
 use std::process::Abort;
 use std::test::Fail;
 use transactions::{Id, Named, Seq, Value, read_value, value_id};
+use vote_journal::{Journal, JournalFault, Strikes, StrikingStore, spell_record};
 
 /// The id of some value.
 const A: Id = [0xaa; 32];
 
-/// A journal that counts its saves and the decisions among them, and refuses the save of this number, counted from 1:
-/// none for 0.
-#[derive(Drop)]
-struct FakeJournal {
-    saves: u32,
-    decisions: u32,
-    sender: u16,
-    failing: u32,
+/// Whether the journal's device serves a save, or fails at it.
+#[derive(Clone, Copy)]
+enum Device {
+    Serves,
+    Fails,
 }
 
-impl FakeJournal {
-    fn new(failing: u32) -> FakeJournal {
-        FakeJournal {
-            saves: 0,
-            decisions: 0,
-            sender: 0,
-            failing,
+/// A validator's journal without records.
+fn journal_of(alloc: Global, me: u16, device: Device) -> Result<Journal<StrikingStore>, Fail>
+    ensures { IfOk result (λ journal. (journal.me ≡ me) × (journal.failed ≡ false)) }
+{
+    let strikes = Strikes::new(alloc)?;
+    if let Device::Fails = device {
+        strikes.strike(1, 0)?;
+    }
+    Ok(Journal::struck_by(alloc, me, strikes)?)
+}
+
+/// Carries a plan out, and gives what it says; or tells why its record was not saved, and then nothing has changed.
+fn carry_out(
+    alloc: Global,
+    state: &mut State,
+    plan: Plan,
+    device: Device,
+) -> Result<Result<Option<Body>, JournalFault>, Fail>
+    requires { IsOfPlace state.old plan.change (says plan) }
+{
+    let mut journal = journal_of(alloc, state.me(), device)?;
+    let Plan {
+        entry,
+        change,
+        timeout: _,
+    } = plan;
+    state.make_room(&change)?;
+    let saved = match entry {
+        None => None,
+        Some(entry) => {
+            let spelled = spell_record(alloc, state.me(), &entry)?;
+            match journal.save(entry, &spelled) {
+                Ok(saved) => Some(saved),
+                Err(fault) => {
+                    state.forget_room();
+                    return Ok(Err(fault));
+                }
+            }
         }
+    };
+    match state.apply(change, saved) {
+        None => Ok(Ok(None)),
+        Some(said) => Ok(Ok(Some(release(said)))),
     }
 }
 
-impl Saver for FakeJournal {
-    ghost saves = { λ old pending answer new. Unit {0} };
-
-    fn save(&mut self, unsaved: &Unsaved) -> Result<(), SaveFault> {
-        self.saves = self.saves.saturating_add(1);
-        self.sender = unsaved.sender();
-        if let Record::Decided(_) = unsaved.record() {
-            self.decisions = self.decisions.saturating_add(1);
-        }
-        if self.saves == self.failing {
-            Err(SaveFault::Failed)
-        } else {
-            Ok(())
-        }
+/// Carries a plan out whose record is saved, and gives what it says.
+fn say(alloc: Global, state: &mut State, plan: Plan) -> Result<Option<Body>, Fail>
+    requires { IsOfPlace state.old plan.change (says plan) }
+{
+    match carry_out(alloc, state, plan, Device::Serves)? {
+        Ok(body) => Ok(body),
+        Err(_) => Err(Fail::new("it was not saved")),
     }
 }
 
@@ -105,19 +132,10 @@ fn picked(alloc: Global, number: u8) -> Result<Picked, Fail>
     })
 }
 
-fn vote_in(body: Body) -> Option<Vote> {
+fn vote_in(body: Option<Body>) -> Option<Vote> {
     match body {
-        Body::Vote(vote) => Some(vote),
+        Some(Body::Vote(vote)) => Some(vote),
         _ => None,
-    }
-}
-
-/// Lets go what a firing leaves.
-fn let_go(fired: Fired) -> Option<Body> {
-    let Fired { saved, timeout: _ } = fired;
-    match saved {
-        None => None,
-        Some(saved) => Some(release(saved)),
     }
 }
 
@@ -153,26 +171,26 @@ fn begin(alloc: Global, state: &mut State, round: u32) -> Result<Option<Body>, F
         return Err(Fail::new("the round is no later one"));
     }
     let handed = picked(alloc, 1)?;
-    let fired = state.start_round(round, Some(handed), &mut FakeJournal::new(0))?;
-    Ok(let_go(fired))
+    let plan = state.plan_start(round, Some(handed))?;
+    say(alloc, state, plan)
 }
 
 /// The own prevote.
-fn prevote(state: &mut State, content: Option<Id>) -> Result<Option<Vote>, Fail> {
+fn prevote(alloc: Global, state: &mut State, content: Option<Id>) -> Result<Option<Vote>, Fail> {
     if !state.has_begun() || state.step() != Step::Propose {
         return Ok(None);
     }
-    let saved = state.prevote(content, &mut FakeJournal::new(0))?;
-    Ok(vote_in(release(saved)))
+    let plan = state.plan_prevote(content);
+    Ok(vote_in(say(alloc, state, plan)?))
 }
 
 /// The own precommit for nil.
-fn precommit_nil(state: &mut State) -> Result<Option<Vote>, Fail> {
+fn precommit_nil(alloc: Global, state: &mut State) -> Result<Option<Vote>, Fail> {
     if !state.has_begun() || state.step() != Step::Prevote {
         return Ok(None);
     }
-    let saved = state.precommit(None, &mut FakeJournal::new(0))?;
-    Ok(vote_in(release(saved)))
+    let plan = state.plan_precommit();
+    Ok(vote_in(say(alloc, state, plan)?))
 }
 
 /// Why each of these fresh proposals is refused, if it is: after its height, its round, its sender
@@ -266,15 +284,15 @@ fn votes_refused(rt: HostRuntime) -> Result<(), Fail> {
     Ok(())
 }
 
-fn prevote_value(rt: &impl Abort, state: &mut State) -> Result<(), Fail> {
+fn prevote_value(rt: &impl Abort, alloc: Global, state: &mut State) -> Result<(), Fail> {
     let prevoted = vote(VoteStep::Prevote, 0, 0, 3, Some(A));
-    assert_eq!(rt; prevote(state, Some(A))?, Some(prevoted));
+    assert_eq!(rt; prevote(alloc, state, Some(A))?, Some(prevoted));
     Ok(())
 }
 
-fn precommit_nothing(rt: &impl Abort, state: &mut State) -> Result<(), Fail> {
+fn precommit_nothing(rt: &impl Abort, alloc: Global, state: &mut State) -> Result<(), Fail> {
     let precommitted = vote(VoteStep::Precommit, 0, 0, 3, None);
-    assert_eq!(rt; precommit_nil(state)?, Some(precommitted));
+    assert_eq!(rt; precommit_nil(alloc, state)?, Some(precommitted));
     let power = state.tally().power_for(0, VoteStep::Precommit, None);
     assert_eq!(rt; (state.step(), power), (Step::Precommit, 1));
     Ok(())
@@ -283,8 +301,8 @@ fn precommit_nothing(rt: &impl Abort, state: &mut State) -> Result<(), Fail> {
 /// A round in its own votes.
 fn vote_in_round(rt: &impl Abort, alloc: Global, state: &mut State) -> Result<(), Fail> {
     begin(alloc, state, 0)?;
-    prevote_value(rt, state)?;
-    precommit_nothing(rt, state)
+    prevote_value(rt, alloc, state)?;
+    precommit_nothing(rt, alloc, state)
 }
 
 #[test]
@@ -308,54 +326,44 @@ fn a_copy(rt: HostRuntime) -> Result<(), Fail> {
 }
 
 /// Locks the first kept value, and gives the precommit for it.
-fn lock(state: &mut State) -> Result<Option<Vote>, Fail> {
+fn lock(alloc: Global, state: &mut State) -> Result<Option<Vote>, Fail> {
     if !state.has_begun() || state.step() == Step::Propose || state.kept().is_empty() {
         return Err(Fail::new("nothing to lock"));
     }
-    match state.find_value(0, &mut FakeJournal::new(0))? {
-        Some(saved) => Ok(vote_in(release(saved))),
-        None => Ok(None),
-    }
+    let plan = state.plan_lock(0)?;
+    Ok(vote_in(say(alloc, state, plan)?))
 }
 
-/// Decides the first kept value, and gives how many precommits decided it, or why it was not saved.
+/// Decides the first kept value, and gives how many precommits decided it and under whose number, or why it was not saved.
 fn decide(
     alloc: Global,
     state: &mut State,
-    journal: &mut FakeJournal,
-) -> Result<Result<usize, Unfired>, Fail> {
+    device: Device,
+) -> Result<Result<(usize, u16), JournalFault>, Fail> {
     let may_decide = state.kept().first().is_some_and(|kept| kept.is_valid);
     if !may_decide || state.height() >= 1 << 48 {
         return Err(Fail::new("nothing to decide"));
     }
     let tags = vec![in alloc; [7u8; 32]; 4]?;
-    let saved = match state.decide(0, &tags, journal) {
-        Ok(saved) => saved,
-        Err(unfired) => return Ok(Err(unfired)),
-    };
-    match release(saved) {
-        Body::Bundle(bundle) => Ok(Ok(bundle.precommits.len())),
-        _ => Err(Fail::new("no decision")),
+    let plan = state.plan_decision(0, &tags)?;
+    match carry_out(alloc, state, plan, device)? {
+        Ok(Some(Body::Bundle(bundle))) => Ok(Ok((bundle.precommits.len(), bundle.sender))),
+        Ok(_) => Err(Fail::new("no decision")),
+        Err(fault) => Ok(Err(fault)),
     }
 }
 
 /// A decision whose first save fails: the height goes on with the second one.
-fn decide_again(
-    rt: &impl Abort,
-    alloc: Global,
-    state: &mut State,
-    journal: &mut FakeJournal,
-) -> Result<(), Fail> {
-    let refused = Err(Unfired::NotSaved(SaveFault::Failed));
-    assert_eq!(rt; decide(alloc, state, journal)?, refused);
+fn decide_again(rt: &impl Abort, alloc: Global, state: &mut State) -> Result<(), Fail> {
+    assert_eq!(rt;
+        decide(alloc, state, Device::Fails)?,
+        Err(JournalFault::Failed)
+    );
     assert_eq!(rt; seen_in_copy(state)?, (0, 1, true));
     assert_eq!(rt; state.decided().len(), 0);
-    assert_eq!(rt; decide(alloc, state, journal)?, Ok(1));
+    assert_eq!(rt; decide(alloc, state, Device::Serves)?, Ok((1, 3)));
     assert_eq!(rt; seen_in_copy(state)?, (1, 0, false));
-    assert_eq!(rt;
-        (state.decided().len(), journal.decisions, journal.sender),
-        (1, 2, 3)
-    );
+    assert_eq!(rt; state.decided().len(), 1);
     Ok(())
 }
 
@@ -370,11 +378,11 @@ fn pass(rt: &impl Abort, alloc: Global, state: &mut State) -> Result<(), Fail> {
     begin(alloc, state, 0)?;
     assert_eq!(rt; propose(alloc, state, 0, 0, 0, 1)?, None);
     let id = state.kept().first().map(|kept| kept.id);
-    prevote(state, id)?;
+    prevote(alloc, state, id)?;
     let precommitted = vote(VoteStep::Precommit, 0, 0, 3, id);
-    assert_eq!(rt; lock(state)?, Some(precommitted));
+    assert_eq!(rt; lock(alloc, state)?, Some(precommitted));
     assert_eq!(rt; seen_in_copy(state)?, (0, 1, true));
-    decide_again(rt, alloc, state, &mut FakeJournal::new(1))
+    decide_again(rt, alloc, state)
 }
 
 #[test]
@@ -388,9 +396,11 @@ fn await_each(rt: &impl Abort, alloc: Global, state: &mut State) -> Result<(), F
     for round in 0..2 {
         begin(alloc, state, round)?;
         assert!(rt; !state.are_prevotes_awaited() && !state.are_precommits_awaited());
-        state.await_prevotes();
+        let plan = state.plan_await_prevotes();
+        assert!(rt; say(alloc, state, plan)?.is_none());
         assert!(rt; state.are_prevotes_awaited() && !state.are_precommits_awaited());
-        state.await_precommits();
+        let plan = state.plan_await_precommits();
+        assert!(rt; say(alloc, state, plan)?.is_none());
         assert!(rt; state.are_precommits_awaited());
     }
     Ok(())
@@ -451,22 +461,29 @@ fn the_proposer_proposes(rt: HostRuntime) -> Result<(), Fail> {
 }
 
 /// Why the own prevote for nil was not said, if it was not.
-fn refused_prevote(state: &mut State, journal: &mut FakeJournal) -> Result<Option<Unfired>, Fail> {
+fn refused_prevote(
+    alloc: Global,
+    state: &mut State,
+    device: Device,
+) -> Result<Option<JournalFault>, Fail> {
     if !state.has_begun() || state.step() != Step::Propose {
         return Err(Fail::new("no prevote"));
     }
-    Ok(state.prevote(None, journal).err())
+    let plan = state.plan_prevote(None);
+    Ok(carry_out(alloc, state, plan, device)?.err())
 }
 
 /// Why the own precommit for nil was not said, if it was not.
 fn refused_precommit(
+    alloc: Global,
     state: &mut State,
-    journal: &mut FakeJournal,
-) -> Result<Option<Unfired>, Fail> {
+    device: Device,
+) -> Result<Option<JournalFault>, Fail> {
     if !state.has_begun() || state.step() != Step::Prevote {
         return Err(Fail::new("no precommit"));
     }
-    Ok(state.precommit(None, journal).err())
+    let plan = state.plan_precommit();
+    Ok(carry_out(alloc, state, plan, device)?.err())
 }
 
 /// The step, and the power of the own votes in round 0.
@@ -482,16 +499,14 @@ fn stands(state: &State) -> (Step, u64, u64) {
 /// Each vote is saved at the second try, and kept from then on alone.
 fn vote_again(rt: &impl Abort, alloc: Global, state: &mut State) -> Result<(), Fail> {
     begin(alloc, state, 0)?;
-    let failed = Some(Unfired::NotSaved(SaveFault::Failed));
-    let mut journal = FakeJournal::new(1);
-    assert_eq!(rt; refused_prevote(state, &mut journal)?, failed);
+    let failed = Some(JournalFault::Failed);
+    assert_eq!(rt; refused_prevote(alloc, state, Device::Fails)?, failed);
     assert_eq!(rt; stands(state), (Step::Propose, 0, 0));
-    assert_eq!(rt; refused_prevote(state, &mut journal)?, None);
+    assert_eq!(rt; refused_prevote(alloc, state, Device::Serves)?, None);
     assert_eq!(rt; stands(state), (Step::Prevote, 1, 0));
-    let mut journal = FakeJournal::new(1);
-    assert_eq!(rt; refused_precommit(state, &mut journal)?, failed);
+    assert_eq!(rt; refused_precommit(alloc, state, Device::Fails)?, failed);
     assert_eq!(rt; stands(state), (Step::Prevote, 1, 0));
-    assert_eq!(rt; refused_precommit(state, &mut journal)?, None);
+    assert_eq!(rt; refused_precommit(alloc, state, Device::Serves)?, None);
     assert_eq!(rt; stands(state), (Step::Precommit, 1, 1));
     Ok(())
 }
@@ -507,35 +522,30 @@ fn refused_round(
     alloc: Global,
     state: &mut State,
     round: u32,
-    journal: &mut FakeJournal,
-) -> Result<Option<Unfired>, Fail> {
+    device: Device,
+) -> Result<Option<JournalFault>, Fail> {
     if state.has_begun() {
         return Err(Fail::new("a round has begun"));
     }
     let handed = picked(alloc, 1)?;
-    Ok(state.start_round(round, Some(handed), journal).err())
+    let plan = state.plan_start(round, Some(handed))?;
+    Ok(carry_out(alloc, state, plan, device)?.err())
 }
 
 /// A proposal is saved at the second try: only then its round begins.
-fn propose_again(
-    rt: &impl Abort,
-    alloc: Global,
-    state: &mut State,
-    journal: &mut FakeJournal,
-) -> Result<(), Fail> {
-    let failed = Some(Unfired::NotSaved(SaveFault::Failed));
-    assert_eq!(rt; refused_round(alloc, state, 0, journal)?, failed);
+fn propose_again(rt: &impl Abort, alloc: Global, state: &mut State) -> Result<(), Fail> {
+    let failed = Some(JournalFault::Failed);
+    assert_eq!(rt; refused_round(alloc, state, 0, Device::Fails)?, failed);
     assert_eq!(rt; (state.has_begun(), state.kept().len()), (false, 0));
-    assert_eq!(rt; refused_round(alloc, state, 0, journal)?, None);
+    assert_eq!(rt; refused_round(alloc, state, 0, Device::Serves)?, None);
     assert_eq!(rt; (state.has_begun(), state.kept().len()), (true, 1));
-    assert_eq!(rt; journal.saves, 2);
     Ok(())
 }
 
 #[test]
 fn a_proposal_that_was_not_saved(rt: HostRuntime) -> Result<(), Fail> {
     let mut state = state_of(rt.alloc(), 0)?;
-    propose_again(&rt, rt.alloc(), &mut state, &mut FakeJournal::new(1))
+    propose_again(&rt, rt.alloc(), &mut state)
 }
 
 /// A validator that comes back behind the decision of one value.

@@ -10,8 +10,7 @@ use Rattle.protocol.specs.Messages.{Record}
 use Rattle.vote_journal.specs.Grammar.{header, framed, record_spelling, IsRecord, Entry, OfRecord, Mark, mark, entry_content, entry_spelling, entries_spelling, IsEntry}
 use Rattle.vote_journal.specs.Order.{may_follow, AreLawful, records_in, is_marked, may_stand, AreInOrder}
 use Rattle.vote_journal.specs.Layout.{IsContent, IsTorn, IsBegunHeader, Splits, IsJournal, IsWhole}
-use Rattle.vote_journal.specs.Store.{Begun, Shortened, Only, NoMore}
-use Rattle.vote_journal.specs.declared.keeping.Kept.{Kept}
+use Rattle.vote_journal.specs.Store.{Begun, Only, NoMore}
 use Rattle.vote_journal.specs.declared.opening.Plan.{Plan}
 use Rattle.vote_journal.specs.declared.scanning.Scan.{Scan}
 use Rattle.std.proofs.Common.{Ok, Err}

@@ -1,6 +1,6 @@
 //! A journal on a store: what is saved, and when.
 
-ghost use Rattle.std.specs.Prelude.{◌≡◌, ◌++◌, ◌∷◌, [], ℕ, List, OnOk, IsErrOf, true, false};
+ghost use Rattle.std.specs.Prelude.{◌≡◌, ◌++◌, ◌∷◌, [], ℕ, List, IfOk, OnOk, IsErrOf, true, false};
 ghost use Rattle.protocol.specs.Records.{record_of};
 ghost use Rattle.vote_journal.specs.Grammar.{record_spelling, IsRecord};
 ghost use Rattle.vote_journal.specs.Layout.{IsWhole};
@@ -8,10 +8,35 @@ ghost use Rattle.vote_journal.specs.Store.{Only, NoMore, Adds, Begun, Grew, Coun
 ghost use Rattle.vote_journal.specs.Saving.{IsSaveFault, CountsSave, IsBeforeOrAfter, LeavesBeforeOrAfter, WhereSaved};
 
 use crate::fault::JournalFault;
-use crate::spelling::spell_record;
 use crate::store::{Store, StoreFault};
 use protocol::Record;
 use std::alloc::Global;
+use std::marker::Model;
+
+/// A record that is saved. Only a save that answered `Ok` makes one.
+#[derive(Drop)]
+pub struct Saved {
+    entry: Record,
+}
+
+impl Model for Saved {
+    ghost use Rattle.protocol.specs.Messages.{Record as Entry};
+
+    ghost Value = { Entry };
+
+    ghost use Rattle.protocol.specs.Records.{record_of};
+
+    ghost view = { λ a. record_of a.entry };
+}
+
+impl Saved {
+    /// What is saved.
+    pub fn into_record(self) -> Record
+        ensures { record_of result ≡ self }
+    {
+        self.entry
+    }
+}
 
 /// The journal of a validator on a store. While it has not failed, all of it is synced.
 ///
@@ -41,32 +66,32 @@ fn append_synced<S: Store>(store: &mut S, bytes: &[u8]) -> Result<(), StoreFault
 }
 
 impl<S: Store + Drop> Journal<S> {
-    /// Adds a record. At `Ok` it is appended and synced: each later stop leaves it.
+    /// Adds a record, as the bytes that `spell_record` gives for it. At `Ok` it is appended and synced: each later stop
+    /// leaves it.
     ///
     /// Faults: `Failed` (1) where the store's device failed, and then the journal has failed; `OutOfMemory` (2), and
     /// then nothing was appended. A record that has a spelling and may follow those of the journal keeps it one that can
     /// be opened again.
-    pub fn save(&mut self, entry: &Record) -> Result<(), JournalFault>
-        requires { self.old.failed ≡ false }
-        ensures saved { IsRecord self.old.me (record_of entry.now) → OnOk result (S.seen self.new.store ≡ S.seen self.old.store ++ record_spelling self.old.me (record_of entry.now)) }
+    pub fn save(&mut self, entry: Record, spelled: &[u8]) -> Result<Saved, JournalFault>
+        requires running { self.old.failed ≡ false }
+        requires spelled { IsRecord self.old.me (record_of entry) → spelled.now ≡ record_spelling self.old.me (record_of entry) }
+        ensures same { IfOk result (λ saved. saved ≡ record_of entry) }
+        ensures saved { IsRecord self.old.me (record_of entry) → OnOk result (S.seen self.new.store ≡ S.seen self.old.store ++ record_spelling self.old.me (record_of entry)) }
         ensures synced { OnOk result (Only (S.seen self.new.store) (S.may_leave self.new.store) × (self.new.failed ≡ false)) }
-        ensures stop { IsRecord self.old.me (record_of entry.now) → (c : List ℕ) → S.may_leave self.new.store c → Begun (S.seen self.old.store) (record_spelling self.old.me (record_of entry.now)) c }
+        ensures stop { IsRecord self.old.me (record_of entry) → (c : List ℕ) → S.may_leave self.new.store c → Begun (S.seen self.old.store) (record_spelling self.old.me (record_of entry)) c }
         // What a stop leaves has the records before, or this one too, and no others.
-        ensures whole { WhereSaved self.old.me (S.seen self.old.store) (record_of entry.now) (λ powers rs. LeavesBeforeOrAfter powers self.old.me (S.may_leave self.new.store) rs (record_of entry.now)) }
+        ensures whole { WhereSaved self.old.me (S.seen self.old.store) (record_of entry) (λ powers rs. LeavesBeforeOrAfter powers self.old.me (S.may_leave self.new.store) rs (record_of entry)) }
         // So does what stands where the device failed.
-        ensures broken { IsErrOf result JournalFault.Failed → WhereSaved self.old.me (S.seen self.old.store) (record_of entry.now) (λ powers rs. IsBeforeOrAfter powers self.old.me (S.seen self.new.store) rs (record_of entry.now)) }
-        ensures grown { OnOk result (WhereSaved self.old.me (S.seen self.old.store) (record_of entry.now) (λ powers rs. IsWhole powers self.old.me (S.seen self.new.store) (rs ++ record_of entry.now ∷ []))) }
+        ensures broken { IsErrOf result JournalFault.Failed → WhereSaved self.old.me (S.seen self.old.store) (record_of entry) (λ powers rs. IsBeforeOrAfter powers self.old.me (S.seen self.new.store) rs (record_of entry)) }
+        ensures grown { OnOk result (WhereSaved self.old.me (S.seen self.old.store) (record_of entry) (λ powers rs. IsWhole powers self.old.me (S.seen self.new.store) (rs ++ record_of entry ∷ []))) }
         ensures fault { IsSaveFault result (Grew (S.failures self.old.store) (S.failures self.new.store) × (self.new.failed ≡ true))
             ((S.seen self.new.store ≡ S.seen self.old.store) × NoMore (S.may_leave self.old.store) (S.may_leave self.new.store) × (self.new.failed ≡ false)) }
         // The device's failures are counted, and nothing else is.
         ensures counted { CountsSave result (S.failures self.old.store) (S.failures self.new.store) }
         ensures me { self.new.me ≡ self.old.me }
     {
-        let Ok(bytes) = spell_record(self.alloc, self.me, entry) else {
-            return Err(JournalFault::OutOfMemory);
-        };
-        match append_synced(&mut self.store, &bytes) {
-            Ok(()) => Ok(()),
+        match append_synced(&mut self.store, spelled) {
+            Ok(()) => Ok(Saved { entry }),
             Err(StoreFault::Device) => {
                 self.failed = true;
                 Err(JournalFault::Failed)

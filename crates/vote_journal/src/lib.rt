@@ -30,7 +30,7 @@ mod store;
 mod striking;
 
 pub use fault::JournalFault;
-pub use journal::Journal;
+pub use journal::{Journal, Saved};
 pub use laws::{
     follows_law, journal_law, kept_law, one_journal_law, served_law, stop_law,
     stopped_headline_law, stopped_law, torn_law,
@@ -39,6 +39,6 @@ pub use memory::MemoryStore;
 pub use opening::{NotOpened, Opened};
 pub use reading::read_record;
 pub use scanning::{Front, front_of};
-pub use spelling::{body_of, spell_record};
+pub use spelling::{body_of, spell_own, spell_record};
 pub use store::{DeviceFailed, Store, StoreFault};
 pub use striking::{Strikes, StrikingStore};

@@ -1,6 +1,6 @@
 //! Records as bytes.
 
-ghost use Rattle.std.specs.Prelude.{◌≡◌, ◌≤◌, ◌++◌, ◌∷◌, length, OnOk, IfOk};
+ghost use Rattle.std.specs.Prelude.{◌≡◌, ◌≤◌, ◌++◌, ◌∷◌, ℕ, length, OnOk, IfOk};
 ghost use Rattle.transactions.specs.Grammar.{value_spelling};
 ghost use Rattle.messages.specs.Grammar.{body_spelling, IsBody, IsBundle};
 ghost use Rattle.protocol.specs.Messages.{body_of};
@@ -81,13 +81,17 @@ fn frame_lock(alloc: Global, body: &[u8], value: &Value) -> Result<Vec<u8>, Allo
     Ok(out)
 }
 
-fn spell_own(alloc: Global, me: u16, message: &OwnMessage) -> Result<Vec<u8>, AllocError>
-    ensures { IsRecord me (record_of (Record.Own message.now)) → IfOk result (λ bytes. bytes.items ≡ framed (content_spelling me (record_of (Record.Own message.now)))) }
+/// The bytes that an own message adds to the journal, by those of its body as `body_of` gives it: at most 1,024,725.
+///
+/// A message whose record has a spelling is refused for want of memory alone.
+#[tactic(auto, unfolding(crate::specs::Grammar::record_spelling))]
+pub fn spell_own(alloc: Global, message: &OwnMessage, body: &[u8]) -> Result<Vec<u8>, AllocError>
+    requires short { length body.now ≤ 1024720 }
+    ensures { (me : ℕ) → IsRecord me (record_of (Record.Own message.now)) → body.now ≡ body_spelling (body_of me message.now.height message.now.round (act_of message.now.act)) → IfOk result (λ bytes. bytes.items ≡ record_spelling me (record_of (Record.Own message.now))) }
 {
-    let body = bytes_of(alloc, &body_of(alloc, me, message)?)?;
     match &message.act {
-        Act::Precommitting(Some(named)) => frame_lock(alloc, &body, named.value()),
-        _ => frame_body(alloc, 1, &body),
+        Act::Precommitting(Some(named)) => frame_lock(alloc, body, named.value()),
+        _ => frame_body(alloc, 1, body),
     }
 }
 
@@ -106,7 +110,10 @@ pub fn spell_record(alloc: Global, me: u16, entry: &Record) -> Result<Vec<u8>, A
     ensures { IsRecord me (record_of entry.now) → IfOk result (λ bytes. bytes.items ≡ record_spelling me (record_of entry.now)) }
 {
     match entry {
-        Record::Own(message) => spell_own(alloc, me, message),
+        Record::Own(message) => {
+            let body = bytes_of(alloc, &body_of(alloc, me, message)?)?;
+            spell_own(alloc, message, &body)
+        }
         Record::Decided(bundle) => spell_decision(alloc, bundle),
     }
 }

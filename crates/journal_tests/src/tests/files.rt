@@ -1,8 +1,12 @@
 //! Journals in files.
 
+ghost use Rattle.std.specs.Prelude.{◌≡◌};
+
+use super::refused_save;
 use journal_file::{FileFault, FileStore};
 use powers::Powers;
 use protocol::{Act, OwnMessage, Record};
+use std::alloc::Global;
 use std::fs;
 use std::test::Fail;
 use vote_journal::{Journal, Store};
@@ -42,8 +46,14 @@ fn count(rt: &HostRuntime, powers: &Powers) -> Result<usize, Fail> {
 }
 
 /// Saves a prevote in an open journal. Answers whether that is done.
-fn saves(journal: &mut Journal<FileStore>, round: u32) -> bool {
-    !journal.has_failed() && journal.save(&prevote(round)).is_ok()
+fn saves(alloc: Global, journal: &mut Journal<FileStore>, round: u32) -> Result<bool, Fail>
+    requires { journal.old.me ≡ 2 }
+    ensures { journal.new.me ≡ 2 }
+{
+    if journal.has_failed() {
+        return Ok(false);
+    }
+    Ok(refused_save(alloc, journal, prevote(round))?.is_none())
 }
 
 /// Whether two prevotes are saved in an empty file.
@@ -51,7 +61,9 @@ fn saves_both(rt: &HostRuntime) -> Result<bool, Fail> {
     match Journal::open(rt.alloc(), FileStore::open(rt, PATH)?, 2, &powers(rt)?) {
         Ok(opened) => {
             let mut journal = opened.journal;
-            Ok(saves(&mut journal, 0) && saves(&mut journal, 1))
+            let first = saves(rt.alloc(), &mut journal, 0)?;
+            let second = saves(rt.alloc(), &mut journal, 1)?;
+            Ok(first && second)
         }
         Err(refused) => Err(refused.fault.into()),
     }

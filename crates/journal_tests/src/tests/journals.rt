@@ -1,5 +1,8 @@
 //! The worked values of the format, and what opening and saving leave.
 
+ghost use Rattle.std.specs.Prelude.{◌≡◌};
+
+use super::refused_save;
 use messages::{Bundle, Precommit};
 use powers::Powers;
 use protocol::{Act, OwnMessage, Record};
@@ -201,7 +204,7 @@ pub(super) fn save_at(alloc: Global, bytes: &[u8], failing: u64) -> Result<Outco
                 own,
             },
         ) => {
-            let fault = saved(&mut journal);
+            let fault = saved(alloc, &mut journal)?;
             Ok(Outcome {
                 fault,
                 decisions: decisions.len(),
@@ -214,13 +217,15 @@ pub(super) fn save_at(alloc: Global, bytes: &[u8], failing: u64) -> Result<Outco
     }
 }
 
-fn saved(journal: &mut Journal<MemoryStore>) -> u8 {
+fn saved(alloc: Global, journal: &mut Journal<MemoryStore>) -> Result<u8, Fail>
+    requires { journal.old.me ≡ 2 }
+{
     if journal.has_failed() {
-        return 9;
+        return Ok(9);
     }
-    match journal.save(&own(Act::Prevoting(None))) {
-        Ok(()) => 0,
-        Err(fault) => fault as u8,
+    match refused_save(alloc, journal, own(Act::Prevoting(None)))? {
+        None => Ok(0),
+        Some(fault) => Ok(fault as u8),
     }
 }
 

@@ -1,6 +1,7 @@
 //! Journals in memory, and stores whose calls are struck from outside.
 
 use super::journals::{HEADER, MARKED};
+use super::refused_save;
 use messages::{Body, Step, Vote};
 use powers::Powers;
 use protocol::{Act, OwnMessage, Record};
@@ -57,8 +58,8 @@ fn fails_marking(alloc: Global, keep: usize) -> Result<bool, Fail> {
 /// Whether a journal in memory holds the header, the mark and what is saved.
 fn saves_in_memory(alloc: Global) -> Result<bool, Fail> {
     let mut journal = Journal::in_memory(alloc, 2)?;
-    let saved = journal.save(&Record::Own(nil_prevote())).is_ok();
-    Ok(saved && journal.close().bytes().len() == 34)
+    let refused = refused_save(alloc, &mut journal, Record::Own(nil_prevote()))?;
+    Ok(refused.is_none() && journal.close().bytes().len() == 34)
 }
 
 /// Whether the save of a prevote fails where that call is struck while a journal owns the store, and so many bytes stand
@@ -67,8 +68,8 @@ fn fails_saving(alloc: Global, call: u64, keep: usize, len: usize) -> Result<boo
     let strikes = Strikes::new(alloc)?;
     let mut journal = Journal::struck_by(alloc, 2, strikes.clone()?)?;
     strikes.strike(call, keep)?;
-    let failed = journal.save(&Record::Own(nil_prevote())).is_err();
-    Ok(failed && journal.has_failed() && journal.close().bytes().len() == len)
+    let refused = refused_save(alloc, &mut journal, Record::Own(nil_prevote()))?;
+    Ok(refused.is_some() && journal.has_failed() && journal.close().bytes().len() == len)
 }
 
 /// Whether each strike counts by itself, the latest on a call says what stays, and none outlasts its call.

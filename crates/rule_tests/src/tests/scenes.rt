@@ -69,10 +69,13 @@ fn bring(validator: &mut Validator, comes: Comes, bodies: &mut Vec<Body>) -> Res
             let content = id_of(validator.alloc, byte)?;
             hear_votes(validator, step, round, senders, content)
         }
-        Comes::Due(kind) => match validator.time_out(kind)? {
-            None => Err(Fail::new("the timeout does not hold")),
-            Some(fired) => let_go(fired, bodies),
-        },
+        Comes::Due(kind) => {
+            if validator.time_out(kind, bodies)? {
+                Ok(())
+            } else {
+                Err(Fail::new("the timeout does not hold"))
+            }
+        }
     }
 }
 

@@ -95,6 +95,7 @@ fn place_in(body: Option<Body>) -> Option<(u16, u32)> {
     }
 }
 
+/// Its plan to begin says its proposal, before anything is saved or has changed.
 #[tactic(auto, unfolding(protocol::specs::Restart::restart))]
 fn foretell_start(rt: &impl Abort, state: &State, alloc: Global) -> Result<(), Fail>
     requires { (state.now.state ≡ restart 0 []) × (state.now.me ≡ 0) × (state.now.genuine ≡ []) }
@@ -103,8 +104,9 @@ fn foretell_start(rt: &impl Abort, state: &State, alloc: Global) -> Result<(), F
         value: value_of(alloc, 1, b'p')?,
         genuine: true,
     });
-    let message = next_message(state, Rule::Start, &input)?;
-    assert_eq!(rt; place_in(message), Some((0, 0)));
+    let plan = plan(state, Rule::Start, input)?;
+    assert_eq!(rt; place_in(state.message_of(&plan)?), Some((0, 0)));
+    assert!(rt; !state.has_begun() && plan.entry.is_some());
     Ok(())
 }
 
@@ -116,7 +118,7 @@ fn foretells(rt: HostRuntime) -> Result<(), Fail> {
 
 /// Decides by a bundle of validator 1, of which every precommit is right.
 #[tactic(auto, unfolding(protocol::specs::Values::id))]
-fn decide_by(state: &mut State, alloc: Global, value: Value) -> Result<Option<Fired>, Fail>
+fn decide_by(state: &mut State, alloc: Global, value: Value) -> Result<Option<Body>, Fail>
     requires fits { IsValue value }
     requires fresh { (state.old.state.height ≡ 0) × (state.old.state.proposals ≡ []) × (state.old.genuine ≡ []) }
 {
@@ -132,14 +134,14 @@ fn decide_by(state: &mut State, alloc: Global, value: Value) -> Result<Option<Fi
         value,
         precommits: Seq::new(alloc),
     };
-    Ok(Some(decide_by_bundle(state, bundle, &mut Unkept)?))
+    let plan = plan_by_bundle(state, bundle)?;
+    carry_out(alloc, state, plan)
 }
 
 /// The sender and the round of the bundle that a firing lets go.
-fn bundle_in(fired: Fired) -> Option<(u16, u32)> {
-    let Fired { saved, timeout: _ } = fired;
-    match release(saved?) {
-        Body::Bundle(bundle) => Some((bundle.sender, bundle.round)),
+fn bundle_in(body: Option<Body>) -> Option<(u16, u32)> {
+    match body {
+        Some(Body::Bundle(bundle)) => Some((bundle.sender, bundle.round)),
         _ => None,
     }
 }
@@ -148,11 +150,8 @@ fn take_decision(rt: &impl Abort, state: &mut State, alloc: Global) -> Result<()
     requires { (state.old.state.height ≡ 0) × (state.old.state.proposals ≡ []) × (state.old.genuine ≡ []) }
 {
     let value = value_of(alloc, 1, b'a')?;
-    let bundle = match decide_by(state, alloc, value)? {
-        None => None,
-        Some(fired) => bundle_in(fired),
-    };
-    assert_eq!(rt; bundle, Some((0, 4)));
+    let bundle = decide_by(state, alloc, value)?;
+    assert_eq!(rt; bundle_in(bundle), Some((0, 4)));
     assert_eq!(rt; state.height(), 1);
     Ok(())
 }

@@ -18,7 +18,7 @@ items_more i ds b lt is = rw (take_more ds i b lt, ← is, flat_map-append (λ (
 
 pub loop-bundle-init : goal.loop-bundle-init
 unfolding restart
-loop-bundle-init c = (refl, c.requires.new, c.requires.new, λ g a. a)
+loop-bundle-init c = (refl, c.requires.new, c.requires.new, (λ g a. a), c.requires.room)
 
 pub replay_decision-requires-clause-fresh : goal.replay_decision-requires-clause-fresh
 replay_decision-requires-clause-fresh c = rw c.loop-bundle.invariant.1 refl
@@ -42,7 +42,8 @@ loop-bundle-preserved c =
       ap (λ (w : Machine). w.state) ok ∙ ap (λ (s : State). decided s b.value) inv.1 ∙ rw (more, add-one) refl,
       (rw inv.0 at (c.in_ok-replay_decision.ensures.restarts so_far b refl (rw inv.0 inv.2)))
           ∙ ap (λ (rs : List Entry). restart c.args.state.now.me rs) (sym (decided_more i ds b c.loop-bundle-test.true c.bundle-item.is)),
-      λ g a. c.in_ok-replay_decision.ensures.agrees g (inv.3 g a),
+      (λ g a. c.in_ok-replay_decision.ensures.agrees g (inv.3 g a)),
+      ap (λ (w : Machine). w.room) ok,
     )
 
 pub returns-clause-restarts : goal.returns-clause-restarts
@@ -59,3 +60,6 @@ returns-clause-me c = c.loop-bundle.invariant.0
 
 pub returns-clause-agrees : goal.returns-clause-agrees
 returns-clause-agrees c = c.loop-bundle.invariant.3
+
+pub returns-clause-room : goal.returns-clause-room
+returns-clause-room c = c.loop-bundle.invariant.4

@@ -13,7 +13,7 @@ said_more : (i : ℕ) (own : List OwnMessage) (m : OwnMessage) (before : List Re
 said_more i own m before lt is = rw (take_more own i m lt, ← is, map-append said (take i own) (m ∷ []), reverse-append) refl
 
 pub loop-message-init : goal.loop-message-init
-loop-message-init c = (refl, refl, c.requires.alone, (λ before is. is), λ s p ring a. a)
+loop-message-init c = (refl, refl, c.requires.alone, (λ before is. is), (λ s p ring a. a), c.requires.room)
 
 pub replay_own-requires-clause-height : goal.replay_own-requires-clause-height
 replay_own-requires-clause-height c = (rw (← c.message-item.is) at (c.requires.heights c.loop-message.message-index c.message-item.result c.loop-message-test.true)) ∙ sym c.loop-message.invariant.1
@@ -35,7 +35,8 @@ loop-message-preserved c =
           let stood : c.loop-message.state.state ≡ restart c.loop-message.state.me so_far = rw inv.0 (inv.3 before is) in
           let next : c.replay_own.new.self.state ≡ restart c.args.state.now.me (said m ∷ so_far) = rw inv.0 at (c.in_ok-replay_own.ensures.restarts so_far stood) in
           next ∙ ap (λ (rs : List Record). restart c.args.state.now.me rs) (sym (said_more i c.args.own.now m before c.loop-message-test.true c.message-item.is))),
-      λ s p ring a. c.in_ok-replay_own.ensures.agrees (context s p) (inv.4 s p ring a) (c.in_ok-genuine.ensures s p ring),
+      (λ s p ring a. c.in_ok-replay_own.ensures.agrees (context s p) (inv.4 s p ring a) (c.in_ok-genuine.ensures s p ring)),
+      ap (λ (w : Machine). w.room) ok,
     )
 
 pub returns-clause-restarts : goal.returns-clause-restarts
@@ -45,3 +46,6 @@ returns-clause-restarts c = λ before is.
 
 pub returns-clause-agrees : goal.returns-clause-agrees
 returns-clause-agrees c = c.loop-message.invariant.4
+
+pub returns-clause-room : goal.returns-clause-room
+returns-clause-room c = c.loop-message.invariant.5

@@ -12,3 +12,4 @@ abbrev pub invariant-loop-message : goal.invariant-loop-message
 invariant-loop-message l = (l.state.me ≡ l.fn.state.me) × (l.state.state.height ≡ l.fn.state.state.height) × (l.state.state.valid_value ≡ None)
     × ((before : List Record) → l.fn.state.state ≡ restart l.fn.state.me before → l.state.state ≡ restart l.fn.state.me (reverse (map said (take l.message-index l.own)) ++ before))
     × ((c : Setting) (p : ℕ) → IsRingOf c p l.ring → Agrees (context c p) l.fn.state → Agrees (context c p) l.state)
+    × (l.state.room ≡ None)

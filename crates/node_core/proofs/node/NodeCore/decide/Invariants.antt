@@ -1,4 +1,4 @@
 use Rattle.node_core.proofs.node.NodeCore.decide.Given as goal
 
-abbrev pub ghost-decide_saving : goal.ghost-decide_saving
-ghost-decide_saving g a = g.came
+abbrev pub ghost-plan_by_bundle : goal.ghost-plan_by_bundle
+ghost-plan_by_bundle g a = g.came

@@ -13,6 +13,7 @@ invariant_of-result g c = record {
   whole = c.count.ensures.whole;
   few = rw c.new.ensures c.count-2.ensures.lawful.few;
   agrees = record { powers = refl; me = refl; genuine = rw c.new.ensures refl };
+  room = rw c.new.ensures refl;
   waiting = λ t i. absurd (rw c.new-2.ensures at i);
   stamps = rw c.new.ensures (λ i d lt. absurd (omega (arith, lt)));
   decided = rw (c.new.ensures, c.new-3.ensures) refl;

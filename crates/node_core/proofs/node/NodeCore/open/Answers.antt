@@ -34,7 +34,7 @@ over-requires-clause-sound g c =
     let said : c.in-Ok.restart.said.items ≡ bodies_by me o.own.items = rw (c.new-state.ensures, c.deref-2.ensures.value) at c.in-Ok.ensures.said in
     rw (c.requires.journal.0, c.requires.journal.1)
     (back_sound powers me bytes o.decisions.items o.own.items c.requires.read a.ring c.in-Ok.restart.state c.in-Ok.restart.said.items (g.S.Store.failures o.journal.store) c.requires.owner c.requires.count c.requires.me c.count.ensures.whole c.count-2.ensures.lawful.few
-    (replayable powers me bytes o.decisions.items o.own.items c.requires.read) agrees state said)
+    (replayable powers me bytes o.decisions.items o.own.items c.requires.read) agrees state c.in-Ok.ensures.room said)
 
 pub returns-in-Ok-clause-stands : goal.returns-in-Ok-clause-stands
 returns-in-Ok-clause-stands g c = λ rs whole.
@@ -48,7 +48,7 @@ returns-in-Ok-clause-stands g c = λ rs whole.
     let state : c.in-Ok.restart.state.state ≡ restart me (journal_of o.decisions.items o.own.items) = rw (c.new-state.ensures, c.deref.ensures.value, c.deref-2.ensures.value) at c.in-Ok.ensures.state in
     let said : c.in-Ok.restart.said.items ≡ bodies_by me o.own.items = rw (c.new-state.ensures, c.deref-2.ensures.value) at c.in-Ok.ensures.said in
     rw (c.over.ensures, c.requires.journal.0, c.requires.journal.1)
-    (back_stands powers me bytes o.decisions.items o.own.items c.requires.read a.ring c.in-Ok.restart.state c.in-Ok.restart.said.items (g.S.Store.failures o.journal.store) rs agrees state said whole)
+    (back_stands powers me bytes o.decisions.items o.own.items c.requires.read a.ring c.in-Ok.restart.state c.in-Ok.restart.said.items (g.S.Store.failures o.journal.store) rs agrees state c.in-Ok.ensures.room said whole)
 
 pub returns-in-Ok-clause-powers : goal.returns-in-Ok-clause-powers
 returns-in-Ok-clause-powers g c =

@@ -23,7 +23,7 @@ invariant_of-self-2 g c =
     let tag = rw (← c.self.view_is) at c.requires.right in
     let causes = none_stand (vote_causes core.machine.me core.machine.state c.args.vote) (ap is_none c.in_ok-take_vote.ensures.answer) in
     let height : c.args.vote.height ≡ core.machine.state.height = eqb-true _ _ (not-false _ causes.0) in
-    sound_kept core c.take_vote.new.self message c.self.invariant agrees
+    sound_kept core c.take_vote.new.self message c.self.invariant agrees (ap (λ (m : Machine). m.room) c.in_ok-take_vote.ensures.ok)
     (rw state (All-append IsStamp core.machine.state.stamps _ c.self.invariant.stamps (stamps_kept (step_of_vote c.args.vote.step) c.args.vote.round c.args.vote.sender c.args.vote.content c.args.tags c.requires.tags)))
     state (rw state refl) (rw state refl)
     (λ running. rw state (taken_stamped (setting_of core) core.machine.me core.machine.state message (OfVote c.args.vote)

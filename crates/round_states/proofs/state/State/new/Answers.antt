@@ -12,4 +12,5 @@ invariant_of-result c = record {
   height = search rules;
   valid_value = search rules;
   ready = search rules;
+  room = tt;
 }

@@ -19,6 +19,6 @@ returns-clause-restarts c = λ before b same is.
     let v = c.args.value.now in
     let none : s ≡ fresh s.delivered s.height = rw (← c.self.view_is) at c.requires.fresh in
     let more : delivered_by c.push_reserved.new.self.items ≡ s.delivered ++ items v = rw (c.push_reserved.ensures.items, delivered_more, c.reserve.ensures.items, c.in_ok-value.ensures) refl in
-    next_height s (delivered_by c.push_reserved.new.self.items) v none more
+    rw c.forget_reserved.ensures (next_height s (delivered_by c.push_reserved.new.self.items) v none more)
     ∙ ap (λ (m : Machine). decided m.state v) c.self.view_is
     ∙ decision_restarts c.args.self.now.me b v before c.args.self.now.state same is

@@ -7,7 +7,7 @@ use Rattle.protocol.specs.declared.types.Step.TheVariants.{Propose, Prevote, Pre
 use Rattle.protocol.specs.State.{Context}
 use Rattle.round_states.specs.Machine.{Machine}
 use Rattle.round_states.specs.Steps.{IsPick, IsPickTold}
-use Rattle.round_states.specs.declared.steps.Picked.{Picked}
+use Rattle.round_states.specs.declared.plans.Picked.{Picked}
 use Rattle.round_machine.specs.Naming.{pick_in, ServesTimeout}
 use Rattle.round_machine.specs.declared.rule.Input.{Input}
 use Rattle.rule_tests.proofs.tests.Validator.time_out.Goals as goal
@@ -21,8 +21,8 @@ serves g m flag Propose input same h = tt
 serves g m flag Prevote input same h = tt
 serves g m flag Precommit input same h = let t = told g flag (pick_in input) same h.0 in (t.0, t.1, λ own none. h.1)
 
-pub fire_unkept-requires : goal.fire_unkept-requires
-fire_unkept-requires g c =
+pub fire-requires : goal.fire-requires
+fire-requires g c =
     let v = c.args.self.now in (
       rw c.requires (record { powers = refl; me = refl; genuine = v.told }),
       (tt, (sym (c.holds_timeout.ensures g.g) ∙ c.if-not-holds_timeout.false, serves g.g v.state v.genuine c.args.kind c.in_ok-input.input (λ x. ap (λ (k : Context). k.genuine x) c.requires) c.in_ok-input.ensures)),

@@ -1,4 +1,4 @@
 use Rattle.rule_tests.proofs.tests.Validator.time_out.Given as goal
 
-abbrev pub ghost-fire_unkept : goal.ghost-fire_unkept
-ghost-fire_unkept g a = g.g
+abbrev pub ghost-fire : goal.ghost-fire
+ghost-fire g a = g.g

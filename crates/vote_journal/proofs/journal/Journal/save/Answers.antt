@@ -4,22 +4,22 @@ use Rattle.vote_journal.specs.Store.{Begun}
 use Rattle.vote_journal.proofs.Stops.{save_leaves, saving_leaves, whole_push}
 use Rattle.vote_journal.proofs.journal.Journal.save.Goals as goal
 
-pub returns-in-Ok-append_synced-clause-whole : goal.returns-in-Ok-append_synced-clause-whole
-returns-in-Ok-append_synced-clause-whole g c = λ powers rs w h f x left.
-    save_leaves powers c.args.self.now.me (g.S.Store.seen c.args.self.now.store) c.deref.result.now rs (record_of c.args.entry.now) x (g.S.Store.may_leave c.args.self.now.store)
-    (c.args.self.now.settled c.requires) (c.deref.ensures.value ∙ c.in-Ok.ensures h) (c.append_synced.ensures.stop x left) w h f
+pub returns-in-Ok-clause-whole : goal.returns-in-Ok-clause-whole
+returns-in-Ok-clause-whole g c = λ powers rs w h f x left.
+    save_leaves powers c.args.self.now.me (g.S.Store.seen c.args.self.now.store) c.args.spelled.now rs (record_of c.args.entry) x (g.S.Store.may_leave c.args.self.now.store)
+    (c.args.self.now.settled c.requires.running) (c.requires.spelled h) (c.append_synced.ensures.stop x left) w h f
 
-pub returns-in-Ok-append_synced-clause-grown : goal.returns-in-Ok-append_synced-clause-grown
-returns-in-Ok-append_synced-clause-grown g c = λ powers rs w h f.
-    whole_push powers c.args.self.now.me (g.S.Store.seen c.args.self.now.store) (g.S.Store.seen c.append_synced.new.store) rs (record_of c.args.entry.now) w h f
-    (c.in-Ok-append_synced.ensures.done.0 ∙ ap (λ (x : List ℕ). g.S.Store.seen c.args.self.now.store ++ x) (c.deref.ensures.value ∙ c.in-Ok.ensures h))
+pub returns-in-Ok-clause-grown : goal.returns-in-Ok-clause-grown
+returns-in-Ok-clause-grown g c = λ powers rs w h f.
+    whole_push powers c.args.self.now.me (g.S.Store.seen c.args.self.now.store) (g.S.Store.seen c.append_synced.new.store) rs (record_of c.args.entry) w h f
+    (c.in-Ok.ensures.done.0 ∙ ap (λ (x : List ℕ). g.S.Store.seen c.args.self.now.store ++ x) (c.requires.spelled h))
 
 pub returns-in-Err-Device-clause-whole : goal.returns-in-Err-Device-clause-whole
 returns-in-Err-Device-clause-whole g c = λ powers rs w h f x left.
-    save_leaves powers c.args.self.now.me (g.S.Store.seen c.args.self.now.store) c.deref.result.now rs (record_of c.args.entry.now) x (g.S.Store.may_leave c.args.self.now.store)
-    (c.args.self.now.settled c.requires) (c.deref.ensures.value ∙ c.in-Ok.ensures h) (c.append_synced.ensures.stop x left) w h f
+    save_leaves powers c.args.self.now.me (g.S.Store.seen c.args.self.now.store) c.args.spelled.now rs (record_of c.args.entry) x (g.S.Store.may_leave c.args.self.now.store)
+    (c.args.self.now.settled c.requires.running) (c.requires.spelled h) (c.append_synced.ensures.stop x left) w h f
 
 pub returns-in-Err-Device-clause-broken : goal.returns-in-Err-Device-clause-broken
 returns-in-Err-Device-clause-broken g c = λ _ powers rs w h f.
-    saving_leaves powers c.args.self.now.me (g.S.Store.seen c.args.self.now.store) rs (record_of c.args.entry.now) (g.S.Store.seen c.append_synced.new.store) w h f
-    (subst (λ (x : List ℕ). Begun (g.S.Store.seen c.args.self.now.store) x (g.S.Store.seen c.append_synced.new.store)) (c.deref.ensures.value ∙ c.in-Ok.ensures h) (c.append_synced.ensures.began (c.in-Err-Device.is ∙ ap Err c.in-Err-Device.field-0-is)))
+    saving_leaves powers c.args.self.now.me (g.S.Store.seen c.args.self.now.store) rs (record_of c.args.entry) (g.S.Store.seen c.append_synced.new.store) w h f
+    (subst (λ (x : List ℕ). Begun (g.S.Store.seen c.args.self.now.store) x (g.S.Store.seen c.append_synced.new.store)) (c.requires.spelled h) (c.append_synced.ensures.began (c.in-Err-Device.is ∙ ap Err c.in-Err-Device.field-0-is)))

@@ -1,5 +1,5 @@
 use Rattle.std.specs.Prelude.{MatchResult}
-use Rattle.std.proofs.Common.{◌≡◌, List, [], ◌∷◌, ◌++◌, Option, Some, None, Result, Ok, Err, sym, ◌∙◌, subst}
+use Rattle.std.proofs.Common.{◌≡◌, List, [], ◌∷◌, ◌++◌, Option, Result, Ok, Err, sym, ◌∙◌, subst}
 use Rattle.std.proofs.lemmas.List.{append-nil}
 use Rattle.protocol.specs.Messages.{Record}
 use Rattle.protocol.specs.declared.records.Record.{Record as Held}

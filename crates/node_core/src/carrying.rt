@@ -1,0 +1,148 @@
+//! A plan is carried out: spelled, saved, and applied.
+
+ghost use Rattle.std.specs.Prelude.{◌≡◌, ◌∷◌, [], None, IfOk, IfErr, IfSome, OnOk, OnErr, map, option_map, option_to_list};
+ghost use Rattle.messages.specs.Grammar.{IsBody};
+ghost use Rattle.protocol.specs.Messages.{body_of};
+ghost use Rattle.protocol.specs.Records.{act_of, record_of};
+ghost use Rattle.protocol.specs.Rules.{released_by};
+ghost use Rattle.vote_journal.specs.Grammar.{record_spelling, IsRecord};
+ghost use Rattle.round_states.specs.Pending.{pending_of};
+ghost use Rattle.round_states.specs.Plans.{says, applied, IsOfPlace};
+ghost use Rattle.node_core.specs.Core.{frame_by};
+ghost use Rattle.node_core.specs.Firing.{bytes_in};
+ghost use Rattle.node_core.specs.Saving.{IsWritten, IsUnwritten};
+
+use crate::journal::{NodeJournal, Unfired};
+use crate::node::NodeCore;
+use frame_admission::{bytes_of, frame_of_body};
+use messages::Body;
+use protocol::{OwnMessage, Record, Timeout};
+use round_states::{Plan, Said, State};
+use std::alloc::AllocError;
+use vote_journal::{Store, spell_own, spell_record};
+
+/// The frame of an own message, which is not to be sent before the message is said.
+#[derive(Drop)]
+pub(crate) struct OwnFrame {
+    bytes: Vec<u8>,
+}
+
+impl OwnFrame {
+    /// The frame, once its message is said.
+    pub(crate) fn release(self, _said: &Said) -> Vec<u8>
+        ensures { result ≡ self.bytes }
+    {
+        self.bytes
+    }
+}
+
+/// The bytes of what a plan says: its record as the journal has it, and the frame of its message, which share the bytes of
+/// the message's body.
+#[derive(Drop)]
+pub(crate) struct Spelled {
+    pub(crate) record: Vec<u8>,
+    pub(crate) frame: Option<OwnFrame>,
+}
+
+/// What a firing leaves to its node: what may be let go, and a timeout to schedule.
+#[derive(Drop)]
+pub(crate) struct Fired {
+    pub(crate) said: Option<Said>,
+    pub(crate) timeout: Option<Timeout>,
+}
+
+impl<S: Store + Drop> NodeCore<S> {
+    /// Spells what a plan says, once.
+    pub(crate) fn spelled(&self, plan: &Plan) -> Result<Spelled, AllocError>
+        requires place { IsOfPlace self.now.machine plan.now.change (says plan.now) }
+        ensures record { IfOk result (λ w. IfSome (says plan.now) (λ r. IsRecord self.now.machine.me r → w.record.items ≡ record_spelling self.now.machine.me r)) }
+        ensures frame { IfOk result (λ w. bytes_in w.frame ≡ map (frame_by self.now) (option_to_list (released_by self.now.machine.me (says plan.now)))) }
+        ensures body { OnOk result (IfSome (released_by self.now.machine.me (says plan.now)) IsBody) }
+    {
+        match (self.state.message_of(plan)?, &plan.entry) {
+            (Some(body), Some(Record::Own(message))) => self.spelled_own(message, &body),
+            (Some(_), _) => unreachable!(),
+            (None, entry) => Ok(Spelled {
+                record: self.spelled_record(entry)?,
+                frame: None,
+            }),
+        }
+    }
+}
+
+impl<S: Store + Drop> NodeCore<S> {
+    /// Spells an own message by its body.
+    fn spelled_own(&self, message: &OwnMessage, body: &Body) -> Result<Spelled, AllocError>
+        requires body { body.now ≡ body_of self.now.machine.me message.now.height message.now.round (act_of message.now.act) }
+        requires fits { IsBody body.now }
+        ensures record { let r = record_of (Record.Own message.now) in IfOk result (λ w. IsRecord self.now.machine.me r → w.record.items ≡ record_spelling self.now.machine.me r) }
+        ensures frame { IfOk result (λ w. bytes_in w.frame ≡ frame_by self.now body.now ∷ []) }
+    {
+        let bytes = bytes_of(self.alloc, body)?;
+        let record = spell_own(self.alloc, message, &bytes)?;
+        let frame = OwnFrame {
+            bytes: frame_of_body(self.alloc, &self.ring, &bytes)?,
+        };
+        Ok(Spelled {
+            record,
+            frame: Some(frame),
+        })
+    }
+
+    /// The bytes of a record, if there is one.
+    fn spelled_record(&self, entry: &Option<Record>) -> Result<Vec<u8>, AllocError>
+        ensures { IfOk result (λ bytes. IfSome (option_map record_of entry.now) (λ r. IsRecord self.now.machine.me r → bytes.items ≡ record_spelling self.now.machine.me r)) }
+    {
+        match entry {
+            None => Ok(Vec::new(self.alloc)),
+            Some(entry) => spell_record(self.alloc, self.state.me(), entry),
+        }
+    }
+}
+
+/// Carries a plan of this state out: makes room for its change, saves its record, and then applies the change, which can't
+/// fail. Refused, the state is as it was.
+pub(crate) fn carry_out<S: Store + Drop>(
+    state: &mut State,
+    plan: Plan,
+    spelled: Vec<u8>,
+    journal: &mut NodeJournal<S>,
+) -> Result<Fired, Unfired>
+    requires place { IsOfPlace state.old plan.change (says plan) }
+    requires spelled { IfSome (says plan) (λ r. IsRecord journal.old.me r → spelled.items ≡ record_spelling journal.old.me r) }
+    requires room { state.old.room ≡ None }
+    ensures state { OnOk result (state.new ≡ applied state.old plan) }
+    ensures said { IfOk result (λ f. f.said ≡ pending_of state.old.me (says plan)) }
+    ensures timeout { IfOk result (λ f. f.timeout ≡ plan.timeout) }
+    ensures wrote { OnOk result (IsWritten (says plan) journal.old journal.new) }
+    ensures unwritten { IfErr result (λ e. IsUnwritten e (says plan) journal.old journal.new) }
+    ensures err { OnErr result (state.new ≡ state.old) }
+{
+    let Plan {
+        entry,
+        change,
+        timeout,
+    } = plan;
+    state.make_room(&change)?;
+    match journal.save(entry, &spelled) {
+        Ok(saved) => {
+            let said = state.apply(change, saved);
+            Ok(Fired { said, timeout })
+        }
+        Err(unfired) => {
+            state.forget_room();
+            Err(unfired)
+        }
+    }
+}
+
+/// The frame of an own message that is said.
+pub(crate) fn released(frame: Option<OwnFrame>, said: &Option<Said>) -> Option<Vec<u8>>
+    requires { said.now ≡ None → bytes_in frame ≡ [] }
+    ensures { map (λ f. f.items) (option_to_list result) ≡ bytes_in frame }
+{
+    match (frame, said) {
+        (Some(frame), Some(said)) => Some(frame.release(said)),
+        _ => None,
+    }
+}
