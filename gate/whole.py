@@ -4,10 +4,11 @@
 usage: gate/whole.py [--anew]
 
 Its stages run in turn, each of which says 'N passed, M failed' on its last line: what the scripts take of the kit; the files'
-layout; what must not compile; `rt ci`, which proves and tests each crate and runs each program; the schedules, by the program as
+layout; what must not compile; `rt ci`, which proves and tests each crate and runs each program; the wrong bodies; the schedules, by the program as
 both compilers made it; one of them with each write of the validator's journal failing; random ones; whole clusters in a simulator, from a
-hundred seeds; what `tmnode` says of failures and what a cluster of it outlives, as processes; and the wrong bodies. Then come the processor seconds of each crate, and a last
-line that counts everything. Where the layout or `rt ci` fails, nothing behind it is tried.
+hundred seeds; and what `tmnode` says of failures and what a cluster of it outlives, as processes. What must not compile is tried beside
+`rt ci`, and the wrong bodies beside all that comes behind them, so that no processor waits; their lines come among the others'. Then come the processor seconds of each
+crate, and a last line that counts everything. Where the layout or `rt ci` fails, nothing behind it is tried.
 
 What this machine proved before of the same files, and what it told of the same edits, isn't done again; with --anew all is. Every
 test, program and schedule runs each time. The proved programs are left in bin/.
@@ -30,28 +31,32 @@ TOP = os.path.dirname(os.path.dirname(os.path.realpath(__file__)))
 STAGES = {
     "the kit's parts": ["gate/kit.py"],
     "layout": ["gate/layout.py"],
-    "what must not compile": ["must-not-compile/run.sh"],
+    "what must not compile": ["nice", "-n", "10", "must-not-compile/run.sh"],
     "proofs, tests and programs": ["rt", "ci"],
+    "wrong bodies": ["nice", "-n", "5", "gate/wrong_bodies.py", "--built"],
     "schedules, as LLVM builds the program": ["schedules/check.sh", "--with", "crates/tmsim/out/tmsim"],
     "schedules, as Rattle's compiler builds it": ["schedules/check.sh", "--with", "crates/tmsim/out/tmsim.by-rattle"],
     "a stop at each write": ["schedules/each_stop.py", "--with", "crates/tmsim/out/tmsim"],
     "random schedules": ["schedules/random_runs.py", "--count", "200", "--with", "crates/tmsim/out/tmsim"],
     "clusters in a simulator": ["test/clusters.py", "--seeds", "1..100", "--minutes", "10", "--with", "crates/tmcluster/out/tmcluster"],
     "the program as processes": ["test/processes.py", "--with", "crates/tmnode/out/tmnode"],
-    "wrong bodies": ["gate/wrong_bodies.py", "--built"],
 }
 # What is said where a stage fails behind which nothing is tried.
 ENDS = {
     "layout": "`rt fmt` in a crate's folder lays its files out. Until then nothing else is tried.",
     "proofs, tests and programs": "The stages behind stand on these proofs, so they are left out.",
 }
+# The stages beside which the next ones run.
+BESIDE = ("what must not compile", "wrong bodies")
 # The stages that keep what they did.
-KEEP = ("rt", "gate/wrong_bodies.py")
+KEEP = ("proofs, tests and programs", "wrong bodies")
 # About what a whole run takes where nothing is kept, in processor seconds; its table says what it took.
 USUAL = 26_000
 # The part of a crate's time that a check belongs to.
 PARTS = ("proof", "tests", "edits")
 TICKS = os.sysconf("SC_CLK_TCK")
+# What runs of the stages.
+RUNNING = []
 
 
 class Meter(threading.Thread):
@@ -121,17 +126,55 @@ def check_of(number):
     return crate, "tests" if "--test" in words else "proof"
 
 
-def run_stage(name, words):
-    """Runs a stage, shows what it prints, and returns how much passed and failed."""
-    print(f"== {name}", flush=True)
-    counts = None
-    with subprocess.Popen(words, stdout=subprocess.PIPE, stderr=subprocess.STDOUT, text=True, errors="replace") as ran:
-        for line in ran.stdout:
-            print(line, end="", flush=True)
-            counts = re.fullmatch(r"(\d+) passed, (\d+) failed\n", line) or counts
-    passed, failed = (int(counts[1]), int(counts[2])) if counts else (0, 0)
-    # (a stage that ends badly has failed, whatever it counted)
-    return passed, max(failed, 1) if ran.returncode else failed
+class Stage(threading.Thread):
+    """A stage that runs and shows what it prints, and then how much passed and failed."""
+
+    def __init__(self, name, words):
+        super().__init__(daemon=True)
+        # (what ends before it has counted has failed)
+        self.title, self.words, self.passed, self.failed = name, words, 0, 1
+        self.start()
+
+    def run(self):
+        print(f"== {self.title}\n", end="", flush=True)
+        counts = None
+        with subprocess.Popen(self.words, stdout=subprocess.PIPE, stderr=subprocess.STDOUT, text=True, errors="replace") as ran:
+            RUNNING.append(ran)
+            for line in ran.stdout:
+                counts = re.fullmatch(r"(\d+) passed, (\d+) failed\n", line) or counts
+                print(f"{self.title}: {line}" if counts and self.title in BESIDE else line, end="", flush=True)
+        self.passed, self.failed = (int(counts[1]), int(counts[2])) if counts else (0, 0)
+        # (a stage that ends badly has failed, whatever it counted)
+        if ran.returncode:
+            self.failed = max(self.failed, 1)
+
+
+def run_stages(copy, anew):
+    """Runs the stages in turn, and returns them. Those beside which the next ones run have ended too."""
+    ran = []
+    for name, words in STAGES.items():
+        if words[-1].endswith(".by-rattle") and not os.path.isfile(words[-1]):
+            print(f"== {name}: left out, since `rt ci` above made no such program", flush=True)
+            continue
+        ran.append(Stage(name, [*words, *anew] if name in KEEP else words))
+        if name in BESIDE:
+            continue
+        ran[-1].join()
+        if ran[-1].failed and name in ENDS:
+            print(ENDS[name], flush=True)
+            break
+        if words[0] == "rt":
+            keep_programs(copy, (*PROGRAMS, "tmcluster"))
+    for it in ran:
+        it.join()
+    return ran
+
+
+def end(*_):
+    """Ends the run and what runs of it."""
+    for it in RUNNING:
+        it.terminate()
+    sys.exit(1)
 
 
 def show(table, whole):
@@ -150,24 +193,15 @@ def main():
         return 2
     minutes = USUAL / 60 / len(os.sched_getaffinity(0)) * 1.1
     print(f"This takes about {minutes:.0f} minutes on these processors where nothing is kept of earlier runs.", flush=True)
-    began, meter, passed, failed = time.time(), Meter(), 0, 0
+    began, meter = time.time(), Meter()
     meter.start()
     with tempfile.TemporaryDirectory(prefix="gate-") as copy:
         left_out = shutil.ignore_patterns("out", ".git", "bin", "__pycache__")
         shutil.copytree(TOP, copy, ignore=left_out, symlinks=True, dirs_exist_ok=True)
         os.chdir(copy)
-        for name, words in STAGES.items():
-            if words[-1].endswith(".by-rattle") and not os.path.isfile(words[-1]):
-                print(f"== {name}: left out, since `rt ci` above made no such program", flush=True)
-                continue
-            well, badly = run_stage(name, [*words, *anew] if words[0] in KEEP else words)
-            passed, failed = passed + well, failed + badly
-            if badly and name in ENDS:
-                print(ENDS[name])
-                break
-            if words[0] == "rt":
-                keep_programs(copy, (*PROGRAMS, "tmcluster"))
+        ran = run_stages(copy, anew)
         os.chdir(TOP)
+    passed, failed = (sum(getattr(it, what) for it in ran) for what in ("passed", "failed"))
     meter.ended.set()
     used = resource.getrusage(resource.RUSAGE_CHILDREN)
     show(meter.table(), used.ru_utime + used.ru_stime)
@@ -177,5 +211,5 @@ def main():
 
 
 if __name__ == "__main__":
-    signal.signal(signal.SIGTERM, lambda *_: sys.exit(1))
+    signal.signal(signal.SIGTERM, end)
     sys.exit(main())

@@ -30,13 +30,17 @@ import threading
 from typing import NamedTuple
 
 sys.dont_write_bytecode = True
+from definitions import NAMES, batches, errors_of
 from kept import Kept
 from kit import ONE_JOB, PARTS, TOP, crates as crates_below, guard, rt
 from libraries import where_built
 
 printing = threading.Lock()
-# What an edit of definitions takes of the memory that is planned for a proof of its whole crate: its check proves one function.
+# What checks take of the memory that is planned for a proof of their whole crate: of one edit of definitions, which proves one function, of several
+# of them, and of all edits of code.
 LAW_SHARE = 0.4
+BATCH_SHARE = 0.8
+CODE_SHARE = 0.75
 
 
 def say(text):
@@ -305,8 +309,6 @@ def grouped(crate, edits, has_copies):
     return [it for it in (copies, *groups) if it.places]
 
 
-# What a proof file says where it names what the edit took away: a refusal, but one that says little of the contract.
-NAMES = re.compile(r"has no field|is not in scope|has no `")
 
 
 def goals_of(function, text, lines):
@@ -411,16 +413,29 @@ def verdict_by_law(crate, edit):
         return is_proved, f"{edit.label}: {'proved, as it must be' if is_proved else 'NOT PROVED, though it says the same'}"
     if is_proved:
         return False, f"{edit.label}: NOT REFUSED: {edit.law} is still proved with this edit"
-    told = [it for it in lines if ": error: " in it and "was not admitted" not in it and not NAMES.search(it)]
-    told += [it for it in lines if re.match(r"note: src/\S+: it is not proved", it)]
+    told = errors_of(lines) + [it for it in lines if re.match(r"note: src/\S+: it is not proved", it)]
     little = "" if told else " (only because a proof file names what the edit took away)"
     return True, f"{edit.label}: refused, as it must be{little}, by {edit.law}: {(told or [''])[0][:120]}"
 
 
 def tried_by_law(crate, edits, note):
-    """Tries edits of definitions, and notes what each comes to."""
+    """Tries edits of definitions one by one, and notes what each comes to."""
     for edit in edits:
         note(edit, *verdict_by_law(crate, edit))
+
+
+def tried_in_batches(crate, edits, note):
+    """Tries edits of definitions, several in a check, and by itself what such a check doesn't tell."""
+    told = set()
+    for batch in batches(crate, edits):
+        only = [word for it in batch.only() for word in ("--only", it)]
+        lines = checked(crate, batch.texts(), [*ONE_JOB, *only], None).stdout.rstrip("\n").split("\n")
+        for edit in batch.edits:
+            verdict = batch.verdict(edit, lines)
+            if verdict:
+                note(edit, True, f"{edit.label}: {verdict}")
+                told.add(edit)
+    tried_by_law(crate, [it for it in edits if it not in told], note)
 
 
 def tried(crate, edits, note):
@@ -466,11 +481,16 @@ def tasks_of(crate, edits, kept):
     """Returns the checks of a crate's edits, which may run side by side: one for each edit of definitions, and one for all others."""
     code, size, memory = [it for it in edits if not it.law], crate.count(rb"\n"), rt.need(crate)
     tasks = {}
-    for edit in (it for it in edits if it.law):
+    by_law = [it for it in edits if it.law]
+    together = [[*it.edits] for it in batches(crate, by_law)]
+    for group in together:
+        call = lambda given, jobs, group=group: kept.told(crate, group, tried_in_batches, say)
+        tasks[crate.name, "edits", group[0].label] = [], size * len(group), BATCH_SHARE * memory, call
+    for edit in (it for it in by_law if not any(it in group for group in together)):
         call = lambda given, jobs, edit=edit: kept.told(crate, [edit], tried_by_law, say)
         tasks[crate.name, "edits", edit.label] = [], size, LAW_SHARE * memory, call
     if code:
-        tasks[crate.name, "edits"] = [], size * len(code), memory, lambda given, jobs: kept.told(crate, code, tried, say)
+        tasks[crate.name, "edits"] = [], size * len(code), CODE_SHARE * memory, lambda given, jobs: kept.told(crate, code, tried, say)
     return tasks
 
 
