@@ -2,6 +2,7 @@
 
 use super::queues::Validator;
 use protocol::{Standing, SubmitFault};
+use std::alloc::Global;
 use std::process::Abort;
 use std::test::Fail;
 use transactions::{Op, Seq, Shared, Tx, Value, spell_value};
@@ -26,6 +27,23 @@ enum Sent {
 }
 
 use Sent::{Bytes, Close};
+
+/// What is done with a validator, or looked at.
+#[derive(Clone, Copy)]
+enum Step<'a> {
+    /// These are sent, and wait from then on.
+    Queues(&'a [Sent]),
+    /// Each is sent, and gets its answer.
+    Answers(&'a [(Sent, Answer)]),
+    /// A value of these is delivered, which another may have proposed.
+    Delivers(&'a [Sent]),
+    /// These wait, in this order.
+    Waits(&'a [Sent]),
+    /// Client 7 stands so after what is delivered and what waits: in this session, with this number, closed or not.
+    Reaches(u32, u64, bool),
+}
+
+use Step::{Answers, Delivers, Queues, Reaches, Waits};
 
 type Answer = Result<(), SubmitFault>;
 
@@ -199,7 +217,6 @@ impl Validator {
         Ok(())
     }
 
-    /// A value of these is delivered, which another may have proposed.
     fn delivers(&mut self, rt: &impl Abort, sent: &[Sent]) -> Result<(), Fail> {
         let value = self.value_of_seven(sent)?;
         self.take(rt, &value)?;
@@ -207,12 +224,10 @@ impl Validator {
         Ok(())
     }
 
-    /// These wait, in this order.
     fn waits(&self, rt: &impl Abort, sent: &[Sent]) {
         assert!(rt; are_of_seven(self.mempool.waiting(7), sent), "{sent:?}");
     }
 
-    /// Client 7 stands so after what is delivered and what waits.
     fn reaches(&self, rt: &impl Abort, session: u32, last: u64, closed: bool) {
         let reached = Standing {
             session,
@@ -221,52 +236,87 @@ impl Validator {
         };
         assert_eq!(rt; self.mempool.reached(7, &self.frontier), reached);
     }
+
+    fn takes(&mut self, rt: &impl Abort, step: &Step) -> Result<(), Fail> {
+        match step {
+            Queues(sent) => self.queues(rt, sent),
+            Answers(cases) => self.answers_seven(rt, cases),
+            Delivers(sent) => self.delivers(rt, sent),
+            Waits(sent) => Ok(self.waits(rt, sent)),
+            Reaches(session, last, closed) => Ok(self.reaches(rt, *session, *last, *closed)),
+        }
+    }
+
+    fn plays(&mut self, rt: &impl Abort, steps: &[Step]) -> Result<(), Fail> {
+        for step in steps {
+            self.takes(rt, step)?;
+        }
+        Ok(())
+    }
+}
+
+/// The first of four validators takes these steps, from nothing.
+fn plays(rt: &impl Abort, alloc: Global, steps: &[Step]) -> Result<(), Fail> {
+    let mut validator = Validator::new(alloc, 4)?;
+    validator.plays(rt, steps)
 }
 
 /// The close of session 0 waits, and then it is delivered.
-fn closes_first_session(rt: &impl Abort, validator: &mut Validator) -> Result<(), Fail> {
-    validator.answers_seven(rt, &AT_FIRST)?;
-    validator.reaches(rt, 0, 1, true);
-    validator.answers_seven(rt, &AFTER_A_CLOSE[..7])?;
-    validator.delivers(rt, &[Close(0, 1)])?;
-    validator.reaches(rt, 0, 1, true);
-    validator.answers_seven(rt, &AFTER_A_CLOSE)?;
-    validator.reaches(rt, 1, 1, false);
-    validator.waits(rt, &[Bytes(1, 1)]);
-    Ok(())
-}
-
 #[test]
 fn causes_after_a_delivered_close(rt: HostRuntime) -> Result<(), Fail> {
-    let mut validator = Validator::new(rt.alloc(), 4)?;
-    closes_first_session(&rt, &mut validator)?;
-    validator.answers_seven(&rt, &IN_THE_NEXT_SESSION)?;
-    validator.delivers(&rt, &[Bytes(1, 1)])?;
-    validator.answers_seven(&rt, &WITH_THE_NEXT_DELIVERED)?;
-    validator.waits(&rt, &[Close(1, 2), Bytes(2, 1)]);
-    Ok(())
+    plays(
+        &rt,
+        rt.alloc(),
+        &[
+            Answers(&AT_FIRST),
+            Reaches(0, 1, true),
+            Answers(&AFTER_A_CLOSE[..7]),
+            Delivers(&[Close(0, 1)]),
+            Reaches(0, 1, true),
+            Answers(&AFTER_A_CLOSE),
+            Reaches(1, 1, false),
+            Waits(&[Bytes(1, 1)]),
+            Answers(&IN_THE_NEXT_SESSION),
+            Delivers(&[Bytes(1, 1)]),
+            Answers(&WITH_THE_NEXT_DELIVERED),
+            Waits(&[Close(1, 2), Bytes(2, 1)]),
+        ],
+    )
 }
 
 #[test]
 fn causes_after_a_queued_close(rt: HostRuntime) -> Result<(), Fail> {
-    let mut validator = Validator::new(rt.alloc(), 4)?;
-    validator.queues(&rt, &[Close(0, 1)])?;
-    validator.answers_seven(&rt, &AFTER_A_CLOSE)?;
-    validator.answers_seven(&rt, &IN_THE_NEXT_SESSION)?;
-    validator.delivers(&rt, &[Close(0, 1), Bytes(1, 1)])?;
-    validator.answers_seven(&rt, &WITH_THE_NEXT_DELIVERED)?;
-    validator.waits(&rt, &[Close(1, 2), Bytes(2, 1)]);
-    Ok(())
+    plays(
+        &rt,
+        rt.alloc(),
+        &[
+            Queues(&[Close(0, 1)]),
+            Answers(&AFTER_A_CLOSE),
+            Answers(&IN_THE_NEXT_SESSION),
+            Delivers(&[Close(0, 1), Bytes(1, 1)]),
+            Answers(&WITH_THE_NEXT_DELIVERED),
+            Waits(&[Close(1, 2), Bytes(2, 1)]),
+        ],
+    )
+}
+
+/// So many transactions of a session wait, the last of which is its close.
+fn fill_with(
+    rt: &impl Abort,
+    validator: &mut Validator,
+    session: u32,
+    count: u64,
+) -> Result<(), Fail> {
+    for number in 1..count {
+        validator.queues(rt, &[Bytes(session, number)])?;
+    }
+    validator.queues(rt, &[Close(session, count)])
 }
 
 /// Two sessions of 32 transactions fill the queue.
 fn fill_queue(rt: &impl Abort, validator: &mut Validator) -> Result<(), Fail> {
-    for session in 0..2 {
-        for number in 1..32 {
-            validator.queues(rt, &[Bytes(session, number)])?;
-        }
-        validator.queues(rt, &[Close(session, 32)])?;
-    }
+    fill_with(rt, validator, 0, 32)?;
+    fill_with(rt, validator, 1, 32)?;
     assert_eq!(rt; validator.mempool.waiting(7).len(), 64);
     Ok(())
 }
@@ -275,23 +325,35 @@ fn fill_queue(rt: &impl Abort, validator: &mut Validator) -> Result<(), Fail> {
 fn all_sessions_share_a_queue(rt: HostRuntime) -> Result<(), Fail> {
     let mut validator = Validator::new(rt.alloc(), 4)?;
     fill_queue(&rt, &mut validator)?;
-    validator.answers_seven(&rt, &WHERE_THE_QUEUE_IS_FULL)?;
-    validator.delivers(&rt, &[Bytes(0, 1)])?;
-    validator.answers_seven(&rt, &[(Bytes(2, 1), Ok(()))])
+    validator.plays(
+        &rt,
+        &[
+            Answers(&WHERE_THE_QUEUE_IS_FULL),
+            Delivers(&[Bytes(0, 1)]),
+            Answers(&[(Bytes(2, 1), Ok(()))]),
+        ],
+    )
 }
 
-/// What is too long, of an unknown client or under a tag that isn't its own is refused for that, whatever its session.
+/// What is too long or of an unknown client is refused for that, whatever its session.
 fn judge_before_sessions(rt: &impl Abort, validator: &mut Validator) -> Result<(), Fail> {
     let mut too_long = validator.tagged(10, 5, 9, Op::Close)?;
     too_long.op = validator.bytes(1025)?;
     assert_eq!(rt; validator.submit(too_long), Err(SubmitFault::TooLong));
     let unknown = validator.tagged(10, 5, 9, Op::Close)?;
     assert_eq!(rt; validator.submit(unknown), Err(SubmitFault::UnknownClient));
-    let mut moved = validator.of_seven(Bytes(0, 1))?;
-    moved.session = 1;
-    assert_eq!(rt; validator.submit(moved), Err(SubmitFault::BadTag));
-    let mut moved = validator.of_seven(Bytes(5, 9))?;
-    moved.session = 0;
+    Ok(())
+}
+
+/// And so is a transaction under the tag of another session.
+fn judge_moved(
+    rt: &impl Abort,
+    validator: &mut Validator,
+    sent: Sent,
+    session: u32,
+) -> Result<(), Fail> {
+    let mut moved = validator.of_seven(sent)?;
+    moved.session = session;
     assert_eq!(rt; validator.submit(moved), Err(SubmitFault::BadTag));
     Ok(())
 }
@@ -299,23 +361,38 @@ fn judge_before_sessions(rt: &impl Abort, validator: &mut Validator) -> Result<(
 #[test]
 fn causes_before_those_of_sessions(rt: HostRuntime) -> Result<(), Fail> {
     let mut validator = Validator::new(rt.alloc(), 4)?;
-    judge_before_sessions(&rt, &mut validator)
+    judge_before_sessions(&rt, &mut validator)?;
+    judge_moved(&rt, &mut validator, Bytes(0, 1), 1)?;
+    judge_moved(&rt, &mut validator, Bytes(5, 9), 0)
+}
+
+/// A transaction of the byte 62 gets this answer under the tag of session 1's transaction 1.
+fn answers_to_bytes(
+    rt: &impl Abort,
+    validator: &mut Validator,
+    session: u32,
+    answer: Answer,
+) -> Result<(), Fail> {
+    let bytes = Op::Bytes(Seq::from_vec(b"b".to_vec(validator.alloc)?));
+    let found = validator.answer_to_tag(7, session, 1, bytes, &TAG_OF_BYTES)?;
+    assert_eq!(rt; found, answer);
+    Ok(())
+}
+
+/// A close of session 1 with number 0 gets this answer under its known tag.
+fn answers_to_zero(rt: &impl Abort, validator: &mut Validator, answer: Answer) -> Result<(), Fail> {
+    let found = validator.answer_to_tag(7, 1, 0, Op::Close, &TAG_OF_ZERO)?;
+    assert_eq!(rt; found, answer);
+    Ok(())
 }
 
 /// Known tags of session 1, which number 0 does not begin, and number 1 does.
 fn judge_known_tags(rt: &impl Abort, validator: &mut Validator) -> Result<(), Fail> {
     validator.queues(rt, &[Close(0, 1)])?;
-    let zero = validator.answer_to_tag(7, 1, 0, Op::Close, &TAG_OF_ZERO)?;
-    assert_eq!(rt; zero, GAP);
-    let other = Op::Bytes(Seq::from_vec(b"b".to_vec(validator.alloc)?));
-    let found = validator.answer_to_tag(7, 2, 1, other, &TAG_OF_BYTES)?;
-    assert_eq!(rt; found, Err(SubmitFault::BadTag));
-    let first = Op::Bytes(Seq::from_vec(b"b".to_vec(validator.alloc)?));
-    let found = validator.answer_to_tag(7, 1, 1, first, &TAG_OF_BYTES)?;
-    assert_eq!(rt; found, Ok(()));
-    let zero = validator.answer_to_tag(7, 1, 0, Op::Close, &TAG_OF_ZERO)?;
-    assert_eq!(rt; zero, OLD);
-    Ok(())
+    answers_to_zero(rt, validator, GAP)?;
+    answers_to_bytes(rt, validator, 2, Err(SubmitFault::BadTag))?;
+    answers_to_bytes(rt, validator, 1, Ok(()))?;
+    answers_to_zero(rt, validator, OLD)
 }
 
 #[test]
@@ -327,37 +404,44 @@ fn known_tags_of_a_later_session(rt: HostRuntime) -> Result<(), Fail> {
 #[test]
 fn what_waits_goes_on_from_what_is_delivered(rt: HostRuntime) -> Result<(), Fail> {
     for (delivered, waiting) in &DELIVERIES {
-        let mut validator = Validator::new(rt.alloc(), 4)?;
-        validator.queues(&rt, &QUEUED)?;
-        validator.delivers(&rt, delivered)?;
-        validator.waits(&rt, waiting);
+        let steps = [Queues(&QUEUED), Delivers(delivered), Waits(waiting)];
+        plays(&rt, rt.alloc(), &steps)?;
     }
     Ok(())
 }
 
-/// Another's close, or another's transaction in place of the own close, has dropped all: the client goes on from there.
+/// Another's close has dropped all: the client goes on from there.
 #[test]
-fn the_next_follows_what_is_delivered(rt: HostRuntime) -> Result<(), Fail> {
-    let mut validator = Validator::new(rt.alloc(), 4)?;
-    validator.queues(&rt, &QUEUED)?;
-    validator.delivers(&rt, &[Bytes(0, 1), Close(0, 2)])?;
-    validator.answers_seven(
+fn the_next_follows_a_close_of_another(rt: HostRuntime) -> Result<(), Fail> {
+    plays(
         &rt,
+        rt.alloc(),
         &[
-            (Close(0, 3), CLOSED),
-            (Bytes(2, 1), AHEAD),
-            (Bytes(1, 1), Ok(())),
+            Queues(&QUEUED),
+            Delivers(&[Bytes(0, 1), Close(0, 2)]),
+            Answers(&[
+                (Close(0, 3), CLOSED),
+                (Bytes(2, 1), AHEAD),
+                (Bytes(1, 1), Ok(())),
+            ]),
         ],
-    )?;
-    let mut validator = Validator::new(rt.alloc(), 4)?;
-    validator.queues(&rt, &QUEUED)?;
-    validator.delivers(&rt, &[Bytes(0, 1), Bytes(0, 2), Bytes(0, 3)])?;
-    validator.answers_seven(
+    )
+}
+
+/// And so has another's transaction in place of the own close.
+#[test]
+fn the_next_follows_what_stands_for_the_own_close(rt: HostRuntime) -> Result<(), Fail> {
+    plays(
         &rt,
+        rt.alloc(),
         &[
-            (Close(0, 3), OLD),
-            (Bytes(1, 1), AHEAD),
-            (Close(0, 4), Ok(())),
+            Queues(&QUEUED),
+            Delivers(&[Bytes(0, 1), Bytes(0, 2), Bytes(0, 3)]),
+            Answers(&[
+                (Close(0, 3), OLD),
+                (Bytes(1, 1), AHEAD),
+                (Close(0, 4), Ok(())),
+            ]),
         ],
     )
 }
@@ -386,9 +470,14 @@ fn a_value_spans_sessions(rt: HostRuntime) -> Result<(), Fail> {
     let mut validator = Validator::new(rt.alloc(), 4)?;
     pick_two_sessions(&rt, &mut validator)?;
     validator.deliver(&rt)?;
-    validator.waits(&rt, &[]);
-    validator.reaches(&rt, 1, 2, true);
-    validator.answers_seven(&rt, &[(Bytes(0, 2), OLD), (Bytes(2, 1), Ok(()))])
+    validator.plays(
+        &rt,
+        &[
+            Waits(&[]),
+            Reaches(1, 2, true),
+            Answers(&[(Bytes(0, 2), OLD), (Bytes(2, 1), Ok(()))]),
+        ],
+    )
 }
 
 /// Whether a value of this transaction alone is genuine.

@@ -7,6 +7,7 @@ use peer_links::{Dialed, Dialer, Links, Next, Way};
 use std::alloc::Global;
 use std::fmt::Display;
 use std::net::{Net, SocketAddr, TcpListener, TcpStream};
+use std::process::Abort;
 use std::sync::Wait;
 use std::sync::atomic::{AtomicU64, Ordering};
 use std::test::Fail;
@@ -52,19 +53,27 @@ fn who_comes_is_taken_and_who_is_dialed(rt: HostRuntime) -> Result<(), Fail> {
     let mut links = TcpLinks::bind(alloc, &rt, &peers, 0)?;
     let mut dialer = links.dialer()?;
 
+    let mut other = links.dialer()?;
     let _comes = TcpStream::connect(&rt, me.as_str())?;
-    assert_eq!(rt; next_way(&rt, &mut links, CALLS), Some(Way::Accepted));
-
-    for nobody in [0, 1, 3] {
-        assert_eq!(rt; dialer.dial(&rt, nobody), Dialed::Unreached);
-    }
-    assert_eq!(rt; next_way(&rt, &mut links, 2), None);
-    for _ in 0..2 {
-        assert_eq!(rt; dialer.dial(&rt, 2), Dialed::Reached);
-        assert_eq!(rt; next_way(&rt, &mut links, CALLS), Some(Way::Dialed(2)));
-    }
-    assert_eq!(rt; links.dialer()?.dial(&rt, 2), Dialed::Reached);
+    try_who_comes_and_who_is_dialed(&rt, &mut links, &mut dialer);
+    assert_eq!(rt; other.dial(&rt, 2), Dialed::Reached);
     Ok(())
+}
+
+fn try_who_comes_and_who_is_dialed<R: Abort + Wait + Clock, L: Links, D: Dialer>(
+    rt: &R,
+    links: &mut L,
+    dialer: &mut D,
+) {
+    assert_eq!(rt; next_way(rt, links, CALLS), Some(Way::Accepted));
+    for nobody in [0, 1, 3] {
+        assert_eq!(rt; dialer.dial(rt, nobody), Dialed::Unreached);
+    }
+    assert_eq!(rt; next_way(rt, links, 2), None);
+    for _ in 0..2 {
+        assert_eq!(rt; dialer.dial(rt, 2), Dialed::Reached);
+        assert_eq!(rt; next_way(rt, links, CALLS), Some(Way::Dialed(2)));
+    }
 }
 
 #[test]
@@ -145,13 +154,21 @@ fn the_first_failure_in_a_row_is_a_warning(rt: HostRuntime) -> Result<(), Fail> 
     let other = closed_address(alloc, &net)?;
     let mut links = TcpLinks::bind(alloc, &net, &[me.as_str(), other.as_str()], 0)?;
     let mut dialer = links.dialer()?;
+    try_failures_in_a_row(&rt, &net, &mut dialer, other.as_str())
+}
+
+fn try_failures_in_a_row<
+    R: Abort + Wait + Clock,
+    N: Net<Stream = TcpStream, Listener = TcpListener>,
+    D: Dialer,
+>(rt: &R, net: &CountingNet<'_, N>, dialer: &mut D, address: &str) -> Result<(), Fail> {
     for _ in 0..3 {
-        assert_eq!(rt; dialer.dial(&rt, 1), Dialed::Unreached);
+        assert_eq!(rt; dialer.dial(rt, 1), Dialed::Unreached);
     }
-    let listener = TcpListener::bind(&net, other.as_str())?;
-    assert_eq!(rt; dialer.dial(&rt, 1), Dialed::Reached);
+    let listener = TcpListener::bind(net, address)?;
+    assert_eq!(rt; dialer.dial(rt, 1), Dialed::Reached);
     drop(listener);
-    assert_eq!(rt; dialer.dial(&rt, 1), Dialed::Unreached);
+    assert_eq!(rt; dialer.dial(rt, 1), Dialed::Unreached);
     assert_eq!(rt; net.warnings.load(Ordering::SeqCst), 2);
     assert_eq!(rt; net.debugging.load(Ordering::SeqCst), 2);
     Ok(())
