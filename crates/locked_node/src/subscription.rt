@@ -69,8 +69,8 @@ pub struct Subscription {
 }
 
 impl Subscription {
-    /// Takes the item that follows those taken; none, where the ring was empty at one moment of the
-    /// call. It takes no memory, and waits for the node's lock at no time.
+    /// Takes the item that follows those taken. At none nothing is taken: that the ring was then empty at one moment of the
+    /// call is a clause of `take_or_learn` alone. It takes no memory, and waits for the node's lock at no time.
     pub fn try_take<R: Wait>(&mut self, rt: &R) -> Option<Delivered>
         ensures some { IfSome result (λ d. self.new.ring ≡ record self.old.ring { taken = self.old.ring.taken ++ d ∷ [] }) }
         ensures none { IfNone result (self.new.ring ≡ self.old.ring) }

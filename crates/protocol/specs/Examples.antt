@@ -178,6 +178,19 @@ locked = record (restart 3 []) { begun = true; round = 3; lock = Some (record { 
 abbrev pub Holds : Type 0
 Holds = (saved (context four 3) empty locked (PrevoteAgain 1 greeting) ≡ Some (Own 0 3 (Prevoting None))) × (saved (context four 3) empty locked (PrevoteAgain 2 greeting) ≡ Some (Own 0 3 (Prevoting (Some (id greeting)))))
 
+-- in round 1, whose proposer proposes the empty value with this valid round, in which three prevoted it
+abbrev pub proposed_from : ℕ → State
+proposed_from valid_round = record (restart 0 []) {
+  begun = true;
+  round = 1;
+  proposals = record { height = 0; round = 1; valid_round = Some valid_round; value = empty; sender = 1 } ∷ [];
+  votes = map (λ i. prevote 0 valid_round i (Some (id empty))) (0 ∷ 1 ∷ 2 ∷ []);
+}
+
+-- L28 is for a valid round below the round: a quorum of prevotes in the round itself doesn't let it fire.
+abbrev pub Again : Type 0
+Again = (holds (context four 3) (proposed_from 0) (PrevoteAgain 0 empty) ≡ true) × (holds (context four 3) (proposed_from 1) (PrevoteAgain 1 empty) ≡ false)
+
 -- Among the delivered items the numbers go on, and after a close those of the next session alone.
 abbrev pub Orders : Type 0
 Orders = (valid [] greeting ≡ true) × (valid (item hello ∷ []) greeting ≡ false)
@@ -277,4 +290,4 @@ abbrev pub WorkedRuns : Type 0
 WorkedRuns = Decides × Relocks × Bundles × Reports
 
 abbrev pub WorkedCases : Type 0
-WorkedCases = Tallies × Holds × Orders × Waits × Starts × Refuses × Takes × Judges × Ends × Halts × Picks × Answers × Sent
+WorkedCases = Tallies × Holds × Again × Orders × Waits × Starts × Refuses × Takes × Judges × Ends × Halts × Picks × Answers × Sent

@@ -25,8 +25,8 @@ pub use refusal::{JudgeFault, Refusal, SubmitFault};
 pub use standing::Standing;
 pub use types::{Stamp, Step, Timeout, ValueAt};
 
-/// Within a height a validator's own messages grow in round and step, over restarts too, and what it released is in
-/// its journal: it never says two things in one step of a round. Where nothing is forged, so are the own votes that it
+/// Within a height a validator's own messages grow in round and step, over restarts too, and each vote that it released is in
+/// its journal: it never votes twice in one step of a round. Where nothing is forged, so are the own votes that it
 /// keeps, and its precommit for a value followed a quorum of prevotes for the value in that round.
 pub fn one_vote_law()
     ensures { OneVoteLaw }

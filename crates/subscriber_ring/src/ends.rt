@@ -215,8 +215,8 @@ impl Subscription {
         self.taken + self.first
     }
 
-    /// Takes the item that follows those taken; none, where the ring was empty at one moment of the
-    /// call. It takes no memory, and the lock of nobody.
+    /// Takes the item that follows those taken. At none nothing is taken: that the ring was then empty at one moment of the
+    /// call is the channel's, and a clause of `take_or_learn` alone. It takes no memory, and the lock of nobody.
     pub fn try_take<R: Wait>(&mut self, rt: &R) -> Option<Delivered>
         ensures some { IfSome result (λ d. self.new ≡ record self.old { taken = self.old.taken ++ d ∷ [] }) }
         ensures none { IfNone result (self.new ≡ self.old) }

@@ -35,7 +35,7 @@ pub fn handed_law()
 
 /// A call that keeps a core's contract is a call of the world. Where it answers that all went well it did all that was
 /// handed in and fired rules until none was enabled; where it answers a cause it is the world's, and nothing was done;
-/// nothing is left out but where it answers want of memory.
+/// nothing is left out but where it answers want of memory, or that its journal failed or had failed.
 pub fn answered_law()
     ensures { AnsweredLaw }
 {}

@@ -16,7 +16,7 @@ use Rattle.protocol.specs.Queues.{pick}
 use Rattle.protocol.specs.Refusals.{bundle_senders}
 use Rattle.protocol.specs.Restart.{restart}
 use Rattle.protocol.specs.Order.{enabled}
-use Rattle.protocol.specs.Examples.{Tallies, Holds, Orders, Waits, Starts, Refuses, Takes, Judges, Ends, Halts, Picks, Answers, Sent}
+use Rattle.protocol.specs.Examples.{Tallies, Holds, Again, Orders, Waits, Starts, Refuses, Takes, Judges, Ends, Halts, Picks, Answers, Sent}
 
 pub tallies : Tallies
 tallies = (refl, refl, refl)
@@ -24,6 +24,10 @@ tallies = (refl, refl, refl)
 pub holds_locked : Holds
 unfolding is_quorum is_weak proposer tagged below restart pick valid genuine fifo value_spelling tx_spelling tx_fields_spelling tags_spelling number_bytes
 holds_locked = (refl, refl)
+
+pub again : Again
+unfolding is_quorum is_weak proposer tagged below restart pick valid genuine fifo value_spelling tx_spelling tx_fields_spelling tags_spelling number_bytes id sha256 digest_bytes hash_after compress rounds schedule first_words
+again = (refl, refl)
 
 pub orders : Orders
 unfolding is_quorum is_weak proposer tagged below restart pick valid genuine fifo value_spelling tx_spelling tx_fields_spelling tags_spelling number_bytes
