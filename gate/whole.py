@@ -33,7 +33,7 @@ STAGES = {
     "layout": ["gate/layout.py"],
     "what must not compile": ["nice", "-n", "10", "must-not-compile/run.sh"],
     "proofs, tests and programs": ["rt", "ci"],
-    "wrong bodies": ["nice", "-n", "5", "gate/wrong_bodies.py", "--built"],
+    "wrong bodies": ["nice", "-n", "10", "gate/wrong_bodies.py", "--built"],
     "schedules, as LLVM builds the program": ["schedules/check.sh", "--with", "crates/tmsim/out/tmsim"],
     "schedules, as Rattle's compiler builds it": ["schedules/check.sh", "--with", "crates/tmsim/out/tmsim.by-rattle"],
     "a stop at each write": ["schedules/each_stop.py", "--with", "crates/tmsim/out/tmsim"],
