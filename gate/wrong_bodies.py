@@ -316,7 +316,7 @@ def goals_of(function, text, lines):
     spans = [it for it in functions_of(function[0], text) if it.key == function]
     found = []
     for line in lines:
-        at = re.match(r"note: (src/\S+?\.rt):(\d+):\d+: it is not proved", line)
+        at = re.match(r"note: (src/\S+?\.rt):(\d+):\d+: (?:it is not proved|`search` found no proof)", line)
         if at and any(it.file == at[1] and it.first < int(at[2]) <= it.last + 1 for it in spans):
             found.append(line)
         # (a proof that rests on another, which was refused, says nothing of its own)
