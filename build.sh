@@ -1,6 +1,6 @@
 #!/usr/bin/env bash
 # Proves what the programs stand on, and leaves tmsim, tmnode and client_example in bin/, and other programs that are named:
-# ./build.sh [NAME..], as frame_bench. Half an hour or so the first time on four processors; a minute where a gate has passed the
+# ./build.sh [NAME..], as tmbench. Half an hour or so the first time on four processors; a minute where a gate has passed the
 # same sources on this machine.
 set -euo pipefail
 cd "$(dirname "${BASH_SOURCE[0]}")"

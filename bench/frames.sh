@@ -3,8 +3,8 @@
 # proposal of 256 of them.
 set -euo pipefail
 cd "$(dirname "${BASH_SOURCE[0]}")/.."
-./build.sh frame_bench >&2
+./build.sh tmbench >&2
 for turns in "prevotes 2000" "transactions 100" "proposal 200"; do
     read -r kind count <<<"$turns"
-    echo "$kind: $(bin/frame_bench "$kind" "$count")"
+    echo "$kind: $(bin/tmbench frames "$kind" "$count")"
 done

@@ -5,14 +5,14 @@
 # usage: bench/journal.sh [FOLDER]
 set -euo pipefail
 cd "$(dirname "${BASH_SOURCE[0]}")/.."
-./build.sh journal_bench >&2
-work=$(mktemp -d "${1:-.}/journal_bench.XXXXXX")
+./build.sh tmbench >&2
+work=$(mktemp -d "${1:-.}/tmbench.XXXXXX")
 trap 'rm -rf "$work"' EXIT
-bin/journal_bench save "$work/saves" 2000 | awk '{ printf "%s, %d saves a second\n", $0, 1000000 / ($3 > 0 ? $3 : 1) }'
-bin/journal_bench fill "$work/decisions" 335
+bin/tmbench journal save "$work/saves" 2000 | awk '{ printf "%s, %d saves a second\n", $0, 1000000 / ($3 > 0 ? $3 : 1) }'
+bin/tmbench journal fill "$work/decisions" 335
 bytes=$(stat -c %s "$work/decisions")
 for _ in 1 2 3; do
-    said=$(/usr/bin/time -f '%M' -o "$work/memory.txt" bin/journal_bench open "$work/decisions")
+    said=$(/usr/bin/time -f '%M' -o "$work/memory.txt" bin/tmbench journal open "$work/decisions")
     awk -v b="$bytes" -v k="$(cat "$work/memory.txt")" '{
         ms = $7 > 0 ? $7 : 1
         printf "%s after it, peak %d KB, %.0f MB a second\n", $0, k, b / ms / 1000

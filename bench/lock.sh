@@ -5,14 +5,14 @@
 # the quickest counts.
 set -euo pipefail
 cd "$(dirname "${BASH_SOURCE[0]}")/.."
-./build.sh lock_bench >&2
+./build.sh tmbench >&2
 for threads in 1 2 4; do
-    bin/lock_bench handle "$threads" 200 | awk -v n="$threads" '{
+    bin/tmbench lock handle "$threads" 200 | awk -v n="$threads" '{
         printf "handle, %d thread(s): %.0f frames a second, %.0f by the core alone: %+.1f %% time\n",
             n, $1 * 1e9 / $7, $1 * 1e9 / $14, ($7 / $14 - 1) * 100
     }'
 done
-bin/lock_bench status 100 | awk '{ printf "status: %.1f ns a read beside a thread that hands frames in, %.1f ns beside none\n", $4 / $1, $14 / $1 }'
+bin/tmbench lock status 100 | awk '{ printf "status: %.1f ns a read beside a thread that hands frames in, %.1f ns beside none\n", $4 / $1, $14 / $1 }'
 for _ in 1 2 3; do
-    bin/lock_bench take 2000000 | awk '{ printf "take: %.2f million items a second\n", $1 * 1e3 / $4 }'
+    bin/tmbench lock take 2000000 | awk '{ printf "take: %.2f million items a second\n", $1 * 1e3 / $4 }'
 done

@@ -1,0 +1,97 @@
+//! A journal of decisions, as it is written.
+
+use crate::fault::BenchFault;
+use crate::node::ME;
+use journal_file::FileStore;
+use messages::{Bundle, Precommit};
+use protocol::Record;
+use std::alloc::Global;
+use std::fs::File;
+use std::rt::Files;
+use transactions::{Op, Seq, Shared, Tx, Value, value_id};
+use vote_journal::{Store, spell_record};
+
+/// How many transactions a decision has.
+const TXS: u64 = 256;
+
+/// What a journal begins with: its name, and the mark of the form with sessions, so that opening it adds nothing.
+const FRONT: &[u8] = b"TMJ1\0\0\0\x05\x04\0\0\0\x02";
+
+/// Writes the journal of so many decisions, and tells its bytes.
+pub(crate) fn filled<R: Files<File = File> + AllocGlobal>(
+    rt: &R,
+    path: &str,
+    count: u32,
+) -> Result<String, BenchFault> {
+    let alloc = rt.alloc();
+    let mut store = FileStore::open(rt, path)?;
+    let written = fill(alloc, &mut store, count)?;
+    Ok(format!(in alloc; "{count} decisions, {written} bytes\n")?)
+}
+
+/// Appends the decisions of so many heights, and syncs.
+fn fill(alloc: Global, store: &mut FileStore, count: u32) -> Result<usize, BenchFault> {
+    store.append(FRONT)?;
+    let mut written = FRONT.len();
+    for height in 0..count {
+        let bytes = spell_record(alloc, ME, &decision(alloc, u64::from(height))?)?;
+        store.append(&bytes)?;
+        written = written.saturating_add(bytes.len());
+    }
+    store.sync()?;
+    Ok(written)
+}
+
+/// The decision of a height: the next 256 transactions of client 7.
+fn decision(alloc: Global, height: u64) -> Result<Record, BenchFault> {
+    let value = value(alloc, height.saturating_mul(TXS))?;
+    let id = value_id(alloc, &value)?;
+    Ok(Record::Decided(Bundle {
+        height,
+        sender: ME,
+        round: 0,
+        id,
+        value,
+        precommits: certificate(alloc)?,
+    }))
+}
+
+/// The 256 transactions that come after so many.
+fn value(alloc: Global, before: u64) -> Result<Value, BenchFault> {
+    let mut txs = Vec::new(alloc);
+    for place in 0..TXS {
+        let number = before.saturating_add(place).saturating_add(1);
+        txs.push(tx(alloc, number)?)?;
+    }
+    Ok(Value {
+        txs: Shared::from_vec(alloc, txs)?,
+    })
+}
+
+/// A transaction of 1,024 bytes.
+fn tx(alloc: Global, number: u64) -> Result<Tx, BenchFault> {
+    Ok(Tx {
+        client: 7,
+        session: 0,
+        number,
+        op: Op::Bytes(Seq::from_vec(vec![in alloc; 7u8; 1024]?)),
+        tags: nines(alloc)?,
+    })
+}
+
+/// Precommits of validators 0, 1 and 2.
+fn certificate(alloc: Global) -> Result<Seq<Precommit>, BenchFault> {
+    let mut precommits = Seq::new(alloc);
+    for sender in 0..3u16 {
+        precommits.push(Precommit {
+            sender,
+            tags: nines(alloc)?,
+        })?;
+    }
+    Ok(precommits)
+}
+
+/// A tag for each of four validators, which nobody looks at.
+fn nines(alloc: Global) -> Result<Seq<[u8; 32]>, BenchFault> {
+    Ok(Seq::from_vec(vec![in alloc; [9u8; 32]; 4]?))
+}
