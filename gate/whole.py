@@ -51,7 +51,7 @@ BESIDE = ("what must not compile", "wrong bodies")
 # The stages that keep what they did.
 KEEP = ("proofs, tests and programs", "wrong bodies")
 # About what a whole run takes where nothing is kept, in processor seconds; its table says what it took.
-USUAL = 26_000
+USUAL = 29_000
 # The part of a crate's time that a check belongs to.
 PARTS = ("proof", "tests", "edits")
 TICKS = os.sysconf("SC_CLK_TCK")
