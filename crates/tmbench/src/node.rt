@@ -40,10 +40,13 @@ pub(crate) fn new_core(alloc: Global, clients: u16) -> Result<NodeCore<MemorySto
 pub(crate) fn four(alloc: Global) -> Result<Powers, BenchFault>
     ensures { IfOk result (λ powers. length powers ≡ 4) }
 {
-    match Powers::new(vec![in alloc; 1, 1, 1, 1]?) {
-        Ok(powers) if powers.count() == 4 => Ok(powers),
-        _ => Err(BenchFault::NoNode),
+    let Ok(powers) = Powers::new(vec![in alloc; 1, 1, 1, 1]?) else {
+        return Err(BenchFault::NoNode);
+    };
+    if powers.count() != 4 {
+        return Err(BenchFault::NoNode);
     }
+    Ok(powers)
 }
 
 /// Its keys.
@@ -51,10 +54,13 @@ fn ring(alloc: Global, clients: u16) -> Result<KeyRing, BenchFault>
     ensures { IfOk result (λ ring. (ring.me ≡ Validator 3) × (ring.count ≡ 4)) }
 {
     let text = key_file(alloc, clients)?;
-    match KeyRing::read(alloc, text.as_bytes(), Party::Validator(ME), 4) {
-        Ok(ring) if ring.me() == Party::Validator(ME) && ring.count() == 4 => Ok(ring),
-        _ => Err(BenchFault::NoNode),
+    let Ok(ring) = KeyRing::read(alloc, text.as_bytes(), Party::Validator(ME), 4) else {
+        return Err(BenchFault::NoNode);
+    };
+    if ring.me() != Party::Validator(ME) || ring.count() != 4 {
+        return Err(BenchFault::NoNode);
     }
+    Ok(ring)
 }
 
 /// The text of its key file.
