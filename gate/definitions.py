@@ -4,7 +4,8 @@ An edit of a definition has to make a law refuse. A check of its own takes some 
 reaches, so several stand in one: each in copies of the modules that it changes and of those on the way from them to its law, under names
 that end in its mark, and with a copy of the law. So edits say nothing of one another, nor of what isn't copied. Beside them stands, for
 each law, a copy over all of these modules in which nothing is edited: where it isn't proved the check tells nothing of that law's
-edits. What isn't told here is tried by itself (`gate/wrong_bodies.py`).
+edits. A law over types, or whose proof cites a contract, stands in no such check, since no code is copied. What isn't told here is
+tried by itself (`gate/wrong_bodies.py`).
 """
 import functools
 import os
@@ -17,7 +18,7 @@ from kit import rt
 MOST_LINES = 30_000
 # What a proof file says where it names what the edit took away: a refusal, but one that says little of the contract.
 NAMES = re.compile(r"has no field|is not in scope|has no `")
-LAW = re.compile(r"(?m)^pub fn (\w+)(?:<[^>]*>)?\(\)\n(?: +[^\n]*\n)*\{\}$")
+LAW = re.compile(r"(?m)^pub fn (\w+)\(\)\n(?: +[^\n]*\n)*\{\}$")
 HEADER = re.compile(r"(?m)^(?:ghost )?use [^;]*;\n")
 
 
@@ -105,18 +106,31 @@ class Sources:
         stated = [it for it in HEADER.findall(self.text_of(law.file)) if uses(it, law.text)]
         return {*self.named_in("".join(stated)), *self.proof_of(law)}
 
-    def way(self, law, changed):
-        """Returns the modules on the way from these to a law, with those of them that it reaches."""
-        reached, left = set(), [*self.first_of(law)]
+    @functools.cache
+    def reached(self, law):
+        """Returns the modules that a law rests on."""
+        found, left = set(), [*self.first_of(law)]
         while left:
             it = left.pop()
-            if it not in reached:
-                reached.add(it)
+            if it not in found:
+                found.add(it)
                 left += self.named(it)
-        found, more = set(), reached & changed
+        return found
+
+    @functools.cache
+    def rests_on_code(self, law):
+        """Whether a law's proof names what the check makes of code, other than types: a contract would speak of what was copied, and isn't."""
+        own = (f"{law.path}.", f"contracts.{law.path}.", "declared.")
+        texts = (self.text_of(it.file) for it in self.reached(law))
+        found = {path for text in texts for side, path in self.names.findall(text) if not self.module_of(side, path)}
+        return not all(f"{it}.".startswith(own) for it in found)
+
+    def way(self, law, changed):
+        """Returns the modules on the way from these to a law, with those of them that it reaches."""
+        found, more = set(), self.reached(law) & changed
         while more:
             found |= more
-            more = {it for it in reached - found if self.named(it) & found}
+            more = {it for it in self.reached(law) - found if self.named(it) & found}
         return found
 
 
@@ -252,7 +266,7 @@ def batches(crate, edits):
         law = sources.law(edit.law)
         files = {it[0] for it in edit.pairs}
         changed = {it for it in sources.modules if it.file in files}
-        if not law or len(changed) < len(files) or any(it.side != "specs" for it in changed):
+        if not law or sources.rests_on_code(law) or len(changed) < len(files) or any(it.side != "specs" for it in changed):
             continue
         modules = sources.way(law, changed)
         if not modules:
