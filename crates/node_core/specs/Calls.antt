@@ -1,5 +1,5 @@
 -- What a call answers, and what it leaves.
-use Rattle.std.specs.Prelude.{◌≡◌, ℕ, ◌<◌, ◌-◌, ◌^◌, ◌⊎◌, ◌++◌, map, min, reverse, List, Bool, true, false, Option, Some, None, is_some, option_map, Result, Ok, Err}
+use Rattle.std.specs.Prelude.{◌≡◌, ℕ, ◌<◌, ◌-◌, ◌^◌, ◌⊎◌, ◌++◌, map, min, reverse, List, true, false, Option, Some, None, is_some, option_map, Result, Err}
 use Rattle.protocol.specs.Messages.{Message, Record}
 use Rattle.protocol.specs.Tags.{Setting}
 use Rattle.protocol.specs.State.{Node, Rule, TimedOut}

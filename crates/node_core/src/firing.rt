@@ -12,7 +12,7 @@ ghost use Rattle.protocol.specs.Arrivals.{firing};
 ghost use Rattle.node_core.specs.Core.{Stands, context_of, setting_of};
 ghost use Rattle.node_core.specs.Calls.{HasFiredOnce, IsLeft, IsUnfired, TellsJournal};
 ghost use Rattle.node_core.specs.Running.{HasRun, IsCutOff};
-ghost use Rattle.node_core.specs.Firing.{IsHanded, IsFit, IsRoundHanded, decided_by, said_by, is_empty, IsNarrow};
+ghost use Rattle.node_core.specs.Firing.{IsHanded, IsFit, IsReady, IsRoundHanded, decided_by, said_by, is_empty, IsNarrow};
 
 use crate::carrying::{Fired, Spelled, carry_out, released};
 use crate::node::NodeCore;
@@ -22,9 +22,16 @@ use mempool::Mempool;
 use messages::Body;
 use protocol::{Refusal, Step, Timeout};
 use round_machine::{Input, Rule, enabled, plan};
-use round_states::{Picked, Said, State, release};
+use round_states::{Picked, Plan, Said, State, release};
 use std::alloc::AllocError;
 use vote_journal::Store;
+
+/// A firing that can be carried out: its plan, and the bytes of what it says.
+#[derive(Drop)]
+struct Ready {
+    plan: Plan,
+    spelled: Spelled,
+}
 
 impl<S: Store + Drop> NodeCore<S> {
     /// Fires the first enabled rule, again and again, until none is enabled, or one can't fire for memory or the journal.
@@ -68,13 +75,16 @@ impl<S: Store + Drop> NodeCore<S> {
         ensures journal { TellsJournal result self.old.journal self.new.journal }
         ensures err { IfErr result (λ r. IsUnfired r self.old self.new) }
     {
-        let input = self.input(rule)?;
-        self.outgoing.reserve(1)?;
-        self.scheduled.reserve(1)?;
-        self.decisions.reserve(1)?;
-        self.said.reserve(1)?;
-        let plan = plan(&self.state, rule, input)?;
-        let Spelled { record, frame } = self.spelled(&plan)?;
+        let Ready {
+            plan,
+            spelled: Spelled { record, frame },
+        } = self.prepare(rule)?;
+        make_room(
+            &mut self.outgoing,
+            &mut self.scheduled,
+            &mut self.decisions,
+            &mut self.said,
+        )?;
         let Fired { said, timeout } = carry_out(&mut self.state, plan, record, &mut self.journal)?;
         push_one(&mut self.outgoing, released(frame, &said));
         push_one(&mut self.scheduled, timeout);
@@ -86,6 +96,20 @@ impl<S: Store + Drop> NodeCore<S> {
             &mut self.said,
         );
         Ok(())
+    }
+
+    /// Plans a rule that holds, and spells what it says. Nothing changes yet.
+    fn prepare(&self, rule: Rule) -> Result<Ready, AllocError>
+        ghost g: { Context }
+        requires context { g ≡ context_of self.now }
+        requires placed { IsPlaced self.now.machine.state rule }
+        requires holds { holds (context_of self.now) self.now.machine.state (rule_of self.now.machine.state rule) ≡ true }
+        ensures { IfOk result (IsReady self.now rule) }
+    {
+        let input = self.input(rule)?;
+        let plan = plan(&self.state, rule, input)?;
+        let spelled = self.spelled(&plan)?;
+        Ok(Ready { plan, spelled })
     }
 
     /// What the rule is handed.
@@ -155,6 +179,26 @@ impl<S: Store + Drop> NodeCore<S> {
         let tags = own_tags(self.alloc, &self.ring, self.state.height(), round, kept.id)?;
         Ok(Input::OwnTags(tags))
     }
+}
+
+/// Makes room for one more in each of these.
+pub(crate) fn make_room(
+    outgoing: &mut Vec<Vec<u8>>,
+    scheduled: &mut Vec<Timeout>,
+    decisions: &mut Decisions,
+    said: &mut Vec<Body>,
+) -> Result<(), AllocError>
+    ensures outgoing { outgoing.new.items ≡ outgoing.old.items }
+    ensures scheduled { scheduled.new.items ≡ scheduled.old.items }
+    ensures decisions { decisions.new.bundles ≡ decisions.old.bundles }
+    ensures said { said.new.items ≡ said.old.items }
+    ensures room { OnOk result ((vec_len outgoing.new < vec_capacity outgoing.new) × (vec_len scheduled.new < vec_capacity scheduled.new)) }
+    ensures places { OnOk result ((0 < decisions.new.room) × (vec_len said.new < vec_capacity said.new)) }
+{
+    outgoing.reserve(1)?;
+    scheduled.reserve(1)?;
+    decisions.reserve(1)?;
+    said.reserve(1)
 }
 
 /// Adds to a list that has room what there is to add.

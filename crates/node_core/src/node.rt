@@ -4,6 +4,7 @@ ghost use Rattle.std.specs.Prelude.{◌≡◌, ◌<◌, [], true, false, length,
 ghost use Rattle.protocol.specs.Values.{fifo};
 ghost use Rattle.protocol.specs.Tags.{Validator};
 ghost use Rattle.protocol.specs.State.{Node};
+ghost use Rattle.protocol.specs.Queues.{waiting_of};
 ghost use Rattle.protocol.specs.Order.{enabled};
 ghost use Rattle.protocol.specs.Restart.{opened};
 ghost use Rattle.proposal_validity.specs.Standing.{IsFrontierOf};
@@ -26,7 +27,7 @@ use round_states::State;
 use std::alloc::Global;
 use std::marker::Model;
 use std::mem;
-use transactions::Value;
+use transactions::{Tx, Value};
 use vote_journal::{Journal, Store};
 
 /// Which validator this is, and the powers of all.
@@ -153,6 +154,13 @@ impl<S: Store + Drop> NodeCore<S> {
         ensures { IsFrontierOf self.now.machine.state.delivered result.now }
     {
         self.state.frontier()
+    }
+
+    /// The transactions of a client that wait to be proposed, in order of their numbers: at most 64.
+    pub fn waiting(&self, client: u16) -> &[Tx]
+        ensures { result.now ≡ waiting_of client self.now.queues }
+    {
+        self.mempool.waiting(client)
     }
 
     /// How often the last call fired a rule that is fired by itself: not a timeout's, and not a bundle's.

@@ -18,7 +18,7 @@ ghost use Rattle.protocol.specs.Answers.{IsAnswer};
 ghost use Rattle.node_core.specs.Calls.{IsReceived, IsLeft, IsRefused, IsUnfired, IsBeside, HasFiredOnce, TellsJournal};
 
 use crate::carrying::{Fired, Spelled, carry_out};
-use crate::firing::{note, push_one};
+use crate::firing::{make_room, note, push_one};
 use crate::node::NodeCore;
 use frame_admission::frame_for;
 use height_catchup::{certified, judge};
@@ -177,11 +177,14 @@ impl<S: Store + Drop> NodeCore<S> {
         ensures err { IfErr result (λ r. IsUnfired r self.old self.new) }
     {
         let certificate = certified(self.alloc, bundle, &self.ring)?;
-        self.scheduled.reserve(1)?;
-        self.decisions.reserve(1)?;
-        self.said.reserve(1)?;
         let plan = plan_by_bundle(&self.state, certificate)?;
         let Spelled { record, frame: _ } = self.spelled(&plan)?;
+        make_room(
+            &mut self.outgoing,
+            &mut self.scheduled,
+            &mut self.decisions,
+            &mut self.said,
+        )?;
         let Fired { said, timeout } = carry_out(&mut self.state, plan, record, &mut self.journal)?;
         push_one(&mut self.scheduled, timeout);
         note(

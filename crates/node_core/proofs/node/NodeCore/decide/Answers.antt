@@ -8,7 +8,6 @@ use Rattle.round_machine.specs.Bundling.{Came}
 use Rattle.round_states.specs.Machine.{Agrees}
 use Rattle.round_states.specs.Plans.{says, moved, applied}
 use Rattle.node_core.specs.Core.{Core, context_of, setting_of}
-use Rattle.node_core.specs.Firing.{decided_by}
 use Rattle.node_core.specs.Saving.{of_unfired}
 use Rattle.node_core.specs.Seen.{seen}
 use Rattle.node_core.proofs.Known.{known, few_setting}
@@ -38,7 +37,7 @@ saying g c =
     subst (λ (x : Came). says c.in_ok-plan.plan ≡ saved x.context (pick core.queues) core.machine.state (DecideByBundle x.bundle)) came (c.in_ok-plan.ensures.says (pick core.queues))
 
 made : (g : given.Over) (c : goal.After-note g) → IsFiredTo (DecideByBundle c.args.bundle) (seen {S = g.row.S.Denot} c.self.inside)
-    (seen {S = g.row.S.Denot} (record { alloc = c.self.inside.alloc; ring = c.self.inside.ring; state = c.carry_out.new.state; mempool = c.note.new.mempool; decisions = c.note.new.decisions; said = c.note.new.own; journal = c.carry_out.new.journal; outgoing = c.self.inside.outgoing; scheduled = c.push_one.new.list; fired = c.self.inside.fired }))
+    (seen {S = g.row.S.Denot} (record { alloc = c.self.inside.alloc; ring = c.self.inside.ring; state = c.carry_out.new.state; mempool = c.note.new.mempool; decisions = c.note.new.decisions; said = c.note.new.own; journal = c.carry_out.new.journal; outgoing = c.make_room.new.outgoing; scheduled = c.push_one.new.list; fired = c.self.inside.fired }))
 made g c =
     let core : Core = seen c.self.inside in
     let s = core.machine.state in
@@ -53,14 +52,14 @@ made g c =
     (subst (λ (x : Came). Agrees x.context (applied core.machine p.plan)) came p.ensures.agrees)
     done.state refl done.said done.timeout
     c.note.ensures.queues
-    (rw c.reserve-2.ensures.same at c.note.ensures.decisions)
-    (rw released (sym (append-nil _)))
-    (rw c.reserve.ensures.items at c.push_one.ensures)
-    (rw c.reserve-3.ensures.items at c.note.ensures.own)
+    (rw c.make_room.ensures.decisions at c.note.ensures.decisions)
+    (rw (c.make_room.ensures.outgoing, released) (sym (append-nil _)))
+    (rw c.make_room.ensures.scheduled at c.push_one.ensures)
+    (rw c.make_room.ensures.said at c.note.ensures.own)
     done.wrote
 
 pub carry_out-requires-clause-spelled : goal.carry_out-requires-clause-spelled
-carry_out-requires-clause-spelled g c = rw c.self.invariant.journal c.in_ok-record.ensures.record
+carry_out-requires-clause-spelled g c = rw c.self.invariant.journal (rw (← c.self.view_is) at c.in_ok-record.ensures.record)
 
 pub note-requires-clause-height : goal.note-requires-clause-height
 note-requires-clause-height g c =
@@ -69,7 +68,7 @@ note-requires-clause-height g c =
     let s = core.machine.state in
     let came = rw (← c.self.view_is) at c.requires.1.1.0 in
     let saying = subst (λ (x : Came). says c.in_ok-plan.plan ≡ saved x.context v s (DecideByBundle x.bundle)) came (c.in_ok-plan.ensures.says v) in
-    rw (c.in_ok-said.ensures.said, pending_decided core.machine.me (says c.in_ok-plan.plan), saying, c.reserve-2.ensures.same, c.self.invariant.decided) (decided_height (context_of core) v s (DecideByBundle c.args.bundle) (rw (← c.self.view_is) at c.requires.1.1.1.0))
+    rw (c.in_ok-said.ensures.said, pending_decided core.machine.me (says c.in_ok-plan.plan), saying, c.make_room.ensures.decisions, c.self.invariant.decided) (decided_height (context_of core) v s (DecideByBundle c.args.bundle) (rw (← c.self.view_is) at c.requires.1.1.1.0))
 
 may : (g : given.Over) (c : goal.After-note g) → MayFire (DecideByBundle c.args.bundle) (seen {S = g.row.S.Denot} c.self.inside)
 may g c =
@@ -82,8 +81,8 @@ returns-clause-ok g c = rw (← c.self.view_is) (λ n s. fired_once n _ _ _ (mad
 pub returns-clause-journal : goal.returns-clause-journal
 returns-clause-journal g c = rw (← c.self.view_is) (written_serves (saved (context_of (seen c.self.inside)) (pick (seen c.self.inside).queues) c.self.inside.state.state (DecideByBundle c.args.bundle)) _ _ (made g c).journal)
 
-pub invariant_of-self-3 : goal.invariant_of-self-3
-invariant_of-self-3 g c =
+pub invariant_of-self-2 : goal.invariant_of-self-2
+invariant_of-self-2 g c =
     let core : Core = seen c.self.inside in
     let a = bundle_decided core c.self.invariant (pick core.queues) c.args.bundle c.requires.1.1.1.1 in
     fired_sound (DecideByBundle c.args.bundle) core _ (made g c) (may g c) a.spelled a.own tt
@@ -97,12 +96,12 @@ returns-in_err-said-clause-journal g c =
 pub returns-in_err-said-clause-err : goal.returns-in_err-said-clause-err
 returns-in_err-said-clause-err g c =
     let p = err_from_is_err_and c.from_residual-in_err-said.result c.from_residual-in_err-said.ensures.1 in
-    rw (← c.self.view_is, p.1, p.2, c.in_err-said.ensures.err, c.reserve.ensures.items, c.reserve-2.ensures.same, c.reserve-3.ensures.items)
+    rw (← c.self.view_is, p.1, p.2, c.in_err-said.ensures.err, c.make_room.ensures.outgoing, c.make_room.ensures.scheduled, c.make_room.ensures.decisions, c.make_room.ensures.said)
     (unfired_core _ c.in_err-said.field-0.0 (seen c.self.inside) c.carry_out.new.journal c.in_err-said.ensures.unwritten)
 
 pub invariant_of-self-in_err-said : goal.invariant_of-self-in_err-said
 invariant_of-self-in_err-said g c =
-    rw (c.in_err-said.ensures.err, c.reserve.ensures.items, c.reserve-2.ensures.same, c.reserve-3.ensures.items)
+    rw (c.in_err-said.ensures.err, c.make_room.ensures.outgoing, c.make_room.ensures.scheduled, c.make_room.ensures.decisions, c.make_room.ensures.said)
     (unfired_sound _ c.in_err-said.field-0.0 (seen c.self.inside) c.carry_out.new.journal c.self.invariant c.in_err-said.ensures.unwritten)
 
 -- the record was not saved for the device

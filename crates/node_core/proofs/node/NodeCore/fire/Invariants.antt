@@ -1,4 +1,4 @@
 use Rattle.node_core.proofs.node.NodeCore.fire.Given as goal
 
-abbrev pub ghost-plan : goal.ghost-plan
-ghost-plan g a = g.g
+abbrev pub ghost-prepare : goal.ghost-prepare
+ghost-prepare g a = g.g
