@@ -1,23 +1,28 @@
 #!/usr/bin/env python3
 """Runs tmsim on schedules, with each of its growths refused in turn.
 
-usage: each_refusal.py [--with PROGRAM] [SCHEDULE ..]
+usage: each_refusal.py [--with PROGRAM] [--runs N] [SCHEDULE ..]
 
-Wants the built program (./build.sh builds it) and gcc. With no schedule, all of this folder are run. Where a validator
-refuses a call for want of memory, it is settled and the call made once more: the report has to be the stored one but for
-the line that tells of that refusal, and a line of the second call, where the first had taken the message in: that it
-is kept already, that its height is decided, or that the validator halted in between. Where memory is refused outside the
-validator, the report has to be a beginning of the stored one, and the program has to say why it ended.
+Wants the built program (./build.sh builds it) and gcc, and says where there is none. With no schedule, all of this folder are run. With
+--runs about N growths are refused in all, spread evenly over those of all schedules. Where a validator refuses a call for want of memory,
+it is settled and the call made once more: the report has to be the stored one but for the line that reports that refusal, and a line of the
+second call, where the first had taken the message in: that it is kept already, that its height is decided, or that the validator halted
+in between. Where memory is refused outside the validator, the report has to be a beginning of the stored one, and the program has to say
+why it ended. The last line is 'N passed, M failed', which counts the runs.
 """
+import argparse
 import concurrent.futures
 import os
 import pathlib
+import shutil
 import subprocess
 import sys
 import tempfile
 from typing import NamedTuple
 
 HERE = pathlib.Path(__file__).resolve().parent
+# What each line of the report that is in a schedule begins with.
+MARGIN = "#    "
 
 
 class Wanted(NamedTuple):
@@ -38,7 +43,7 @@ class Growths:
 
     def run(self, schedule, number):
         """The status and the two texts of the run in which growth NUMBER is refused, and how many there were; none is for number 0."""
-        counted = pathlib.Path(f"{self.work}/counted.{number}")
+        counted = pathlib.Path(f"{self.work}/counted.{schedule.stem}.{number}")
         env = {"LD_PRELOAD": self.library, "REFUSED": str(number), "COUNTED": str(counted), "PATH": os.environ["PATH"]}
         done = subprocess.run([self.program, schedule.name], cwd=HERE, env=env, capture_output=True, text=True, check=False)
         growths = int(counted.read_text(encoding="ascii"))
@@ -51,8 +56,9 @@ def text_of(file, other):
 
 
 def wanted_of(schedule):
-    return Wanted(int(text_of(schedule.with_suffix(".status"), "0")), text_of(schedule.with_suffix(".report"), "").splitlines(),
-                  text_of(schedule.with_suffix(".errors"), ""))
+    lines = schedule.read_text(encoding="latin-1").splitlines()
+    report = [line.removeprefix(MARGIN) for line in lines if line.startswith(MARGIN)]
+    return Wanted(int(text_of(schedule.with_suffix(".status"), "0")), report, text_of(schedule.with_suffix(".errors"), ""))
 
 
 def without_refusal(lines):
@@ -75,32 +81,45 @@ def is_right(status, out, err, wanted):
     return said and any(lines == wanted.report[: len(lines)] for lines in told)
 
 
-def refuse_each(growths, schedule, pool):
-    """Tells of the runs of one schedule, and returns how many were wrong."""
+def refuse_each(growths, schedule, numbers, pool):
+    """Runs a schedule with each growth of these numbers refused, says what came of it, and returns how many runs were wrong."""
     wanted = wanted_of(schedule)
-    status, out, err, count = growths.run(schedule, 0)
-    bad = [] if is_right(status, out, err, wanted) else [0]
-    settled = told_of = 0
-    numbers = range(1, count + 1)
+    bad, settled, with_answer = [], 0, 0
     for number, (status, out, err, _) in zip(numbers, pool.map(lambda number: growths.run(schedule, number), numbers)):
         settled += status == wanted.status and err == wanted.errors
-        told_of += " refuses 16" in out
+        with_answer += " refuses 16" in out
         if not is_right(status, out, err, wanted):
             bad.append(number)
-    print(f"{schedule.name}: {count} growths refused in turn, {settled} runs to the end, {told_of} with a refusal told, wrong at {bad or 'none'}",
-          flush=True)
+    print(f"{schedule.name}: {len(numbers)} runs, {settled} to the end, {with_answer} with a refusal reported, wrong at {bad or 'none'}", flush=True)
     return len(bad)
 
 
+def numbers_of(counts, most):
+    """Returns which growths of each schedule are refused: all, none first, or so many of all, spread evenly. None is growth 0."""
+    step = max(1, -(-sum(counts) // most)) if most else 1
+    found, before = [], 0
+    for count in counts:
+        found.append([it for it in range(count + 1) if it == 0 or (before + it) % step == 0])
+        before += count
+    return found
+
+
 def main():
-    words = sys.argv[1:]
-    program = HERE.parent / "bin/tmsim"
-    if words[:1] == ["--with"]:
-        program, words = pathlib.Path(words[1]).resolve(), words[2:]
-    schedules = [pathlib.Path(name).resolve() for name in words] or sorted(HERE.glob("*.txt"))
+    words = argparse.ArgumentParser(description=__doc__, formatter_class=argparse.RawDescriptionHelpFormatter)
+    words.add_argument("--with", dest="program", default=HERE.parent / "bin/tmsim")
+    words.add_argument("--runs", type=int, default=0)
+    words.add_argument("schedules", nargs="*")
+    given = words.parse_args()
+    if not shutil.which("gcc"):
+        print("no growth can be refused without gcc\n0 passed, 0 failed")
+        return 0
+    schedules = [pathlib.Path(name).resolve() for name in given.schedules] or sorted(HERE.glob("*.txt"))
     with tempfile.TemporaryDirectory() as work, concurrent.futures.ThreadPoolExecutor(os.cpu_count()) as pool:
-        growths = Growths(program, work)
-        wrong = sum(refuse_each(growths, schedule, pool) for schedule in schedules)
+        growths = Growths(pathlib.Path(given.program).resolve(), work)
+        counts = [it[3] for it in pool.map(lambda schedule: growths.run(schedule, 0), schedules)]
+        each = numbers_of(counts, given.runs)
+        wrong = sum(refuse_each(growths, *it, pool) for it in zip(schedules, each))
+    print(f"{sum(map(len, each)) - wrong} passed, {wrong} failed")
     return 1 if wrong else 0
 
 

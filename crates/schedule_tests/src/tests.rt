@@ -1,7 +1,9 @@
-//! Schedules that are bad or end by a fault, and streams that fail.
+//! Schedules that are bad or end by a fault, streams that fail, schedules with their reports in them, and diagrams of those.
 
 mod bad_lines;
+mod charts;
 mod faults;
+mod followed;
 mod streams;
 
 use schedule_text::simulate;

@@ -4,3 +4,4 @@ pub mod Names
 pub mod Values
 pub mod Lines
 pub mod Runs
+pub mod Texts

@@ -55,7 +55,7 @@ pub(crate) enum ReadFault {
 /// Why the program ends early: the text that it tells on standard error, and its exit status.
 #[derive(Clone, Copy, Debug)]
 pub enum Failure<'a> {
-    /// It was called with other than one argument.
+    /// It was called with words of no form.
     Usage,
     /// The file of this name can't be opened, or be read to its end.
     CannotRead(&'a str),

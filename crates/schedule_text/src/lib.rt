@@ -41,22 +41,30 @@
 //!
 //! One line is no event: `state P` tells how P stands, and which proposals it keeps.
 //!
+//! A schedule may have its report in it (`follow`): under each line what it caused, each line of the report behind `#` and four
+//! spaces.
+//!
 //! What comes, comes as a frame, with right tags but where an item says otherwise. The keys, the messages, the calls of the
 //! validators and what is told are those of a `World`.
 #![tactic(auto)]
 
 mod cast;
 mod fault;
+mod following;
 mod items;
 mod lines;
+mod margin;
 mod numbers;
 mod program;
 mod report;
 mod running;
 mod schedule;
 mod standing;
+mod steps;
+mod text;
 mod values;
 mod words;
 
 pub use fault::Failure;
+pub use following::follow;
 pub use program::{HELP, simulate};

@@ -6,6 +6,7 @@ ghost use Rattle.std.specs.Io.KnownBytes.{IsAtEnd};
 ghost use Rattle.schedule_text.specs.Failures.{status_of};
 
 use crate::fault::Failure;
+use crate::margin::Margin;
 use crate::running::{Run, write_ends};
 use crate::schedule::Schedule;
 use std::alloc::Global;
@@ -18,6 +19,8 @@ pub const HELP: &str = "\
 tmsim reads a schedule of what is done to a world of validators and clients, and prints the report of its run.
 
 usage: tmsim FILE
+       tmsim --follow FILE           the schedule, and under each line what it caused, as comments
+       tmsim --chart OUT.svg FILE    a picture of the run in OUT.svg: validators side by side, time downwards
 ";
 
 /// Reads a schedule to its end, runs it, and writes its report. Answers the exit status: 0, or that
@@ -79,7 +82,7 @@ fn report_of<'a, W: Write>(alloc: Global, text: &[u8], out: &mut W) -> Result<()
 }
 
 /// The whole text of the file.
-fn read_text<'a, R: BufRead>(
+pub(crate) fn read_text<'a, R: BufRead>(
     alloc: Global,
     name: &'a str,
     reader: &mut R,
@@ -121,7 +124,7 @@ fn write_report<'a, W: Write>(
     ensures { IfErr result (λ failure. status_of failure ≢ 2) }
 {
     let report = reported(alloc, schedule, out)?;
-    write_ends(report.ends.as_slice(), out)
+    write_ends(Margin::Nothing, report.ends.as_slice(), out)
 }
 
 /// Runs a schedule, and writes what is told of it up to the ends. The world's report of the events behind the last state that
@@ -134,7 +137,7 @@ fn reported<'a, W: Write>(
     ensures quiet { IfErr result (λ failure. status_of failure ≢ 2) }
     ensures whole { schedule.now.stretches.items ≡ [] → IfOk result (IsRunOf schedule.now) }
 {
-    let mut run = Run::new(alloc, schedule)?;
+    let mut run = Run::new(alloc, schedule, Margin::Nothing)?;
     run.tell_stretches(&schedule.stretches, out)?;
     run.tell_events(&schedule.rest, out)
 }

@@ -7,6 +7,7 @@ ghost use Rattle.world_schedule.specs.Worlds.{HasOpened, IsWorld, IsReport};
 ghost use Rattle.schedule_text.specs.Failures.{status_of};
 
 use crate::fault::Failure;
+use crate::margin::Margin;
 use crate::report::{EndLine, ReportLine, is_shown};
 use crate::schedule::{Schedule, Stretch};
 use crate::standing::{KeptLine, StateLine};
@@ -24,11 +25,16 @@ pub(crate) struct Run<'a> {
     world: World,
     /// How many events happened.
     before: u64,
+    margin: Margin,
 }
 
 impl<'a> Run<'a> {
     /// The world's beginning.
-    pub(crate) fn new(alloc: Global, schedule: &'a Schedule) -> Result<Run<'a>, AllocError>
+    pub(crate) fn new(
+        alloc: Global,
+        schedule: &'a Schedule,
+        margin: Margin,
+    ) -> Result<Run<'a>, AllocError>
         ensures { IfOk result (λ run. HasOpened schedule.now.cast.parties.powers schedule.now.cast.clients schedule.now.cast.liars.items run.world × (run.before ≡ 0)) }
     {
         Ok(Run {
@@ -36,6 +42,7 @@ impl<'a> Run<'a> {
             values: &schedule.values,
             world: schedule.cast.world(alloc)?,
             before: 0,
+            margin,
         })
     }
 
@@ -100,19 +107,25 @@ impl<'a> Run<'a> {
     {
         for told in told {
             if is_shown(told) {
-                write_line(&ReportLine::new(self.alloc, told, self.values)?, out)?;
+                let line = ReportLine::new(self.alloc, told, self.values)?;
+                write_line(self.margin, &line, out)?;
             }
         }
         Ok(())
     }
 
     /// Tells a validator's state, and the proposals that it keeps.
-    fn tell_state<'f, W: Write>(&self, validator: u16, out: &mut W) -> Result<(), Failure<'f>>
+    pub(crate) fn tell_state<'f, W: Write>(
+        &self,
+        validator: u16,
+        out: &mut W,
+    ) -> Result<(), Failure<'f>>
         ensures { IfErr result (λ failure. status_of failure ≢ 2) }
     {
         let values = self.values;
         let state = self.world.state(u64::from(validator));
         write_line(
+            self.margin,
             &StateLine {
                 validator,
                 state,
@@ -125,6 +138,7 @@ impl<'a> Run<'a> {
         };
         for kept in state.kept() {
             write_line(
+                self.margin,
                 &KeptLine {
                     validator,
                     kept,
@@ -138,20 +152,28 @@ impl<'a> Run<'a> {
 }
 
 /// Writes how the validators end.
-pub(crate) fn write_ends<'a, W: Write>(ends: &[End], out: &mut W) -> Result<(), Failure<'a>>
+pub(crate) fn write_ends<'a, W: Write>(
+    margin: Margin,
+    ends: &[End],
+    out: &mut W,
+) -> Result<(), Failure<'a>>
     ensures { IfErr result (λ failure. status_of failure ≡ 5) }
 {
     for end in ends {
-        write_line(&EndLine(end), out)?;
+        write_line(margin, &EndLine(end), out)?;
     }
     Ok(())
 }
 
-/// Writes a line, and its line feed.
-fn write_line<'a, L: fmt::Display, W: Write>(line: &L, out: &mut W) -> Result<(), Failure<'a>>
+/// Writes a line behind its margin, and its line feed.
+fn write_line<'a, L: fmt::Display, W: Write>(
+    margin: Margin,
+    line: &L,
+    out: &mut W,
+) -> Result<(), Failure<'a>>
     ensures { IfErr result (λ failure. status_of failure ≡ 5) }
 {
-    match writeln!(out, "{line}") {
+    match writeln!(out, "{margin}{line}") {
         Ok(()) => Ok(()),
         Err(_) => Err(Failure::CannotWrite),
     }

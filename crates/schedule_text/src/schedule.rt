@@ -6,7 +6,7 @@ use crate::items::{items_in, name_in};
 use crate::lines::Forms;
 use crate::numbers::{number_in_u16, number_in_u32};
 use crate::values::{Values, value_of};
-use crate::words::{is_word, words_between};
+use crate::words::{is_silent, is_word, words_between};
 use powers::Powers;
 use std::alloc::Global;
 use std::mem::replace;
@@ -78,9 +78,9 @@ impl Reading {
         Ok(())
     }
 
-    /// A line that says nothing is skipped: it is empty, or begins with `#`.
+    /// Takes a line; one that says nothing is skipped.
     fn take_line(&mut self, line: &[u8]) -> Result<(), LineFault> {
-        if matches!(line, [] | [b'#', ..]) {
+        if is_silent(line) {
             return Ok(());
         }
         let words = words_between(self.alloc, line, b' ')?;

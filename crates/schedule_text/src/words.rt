@@ -16,3 +16,8 @@ pub(crate) fn words_between(
 pub(crate) fn is_word(word: &[u8], wanted: &str) -> bool {
     word == wanted.as_bytes()
 }
+
+/// Returns whether a line says nothing: it is empty, or begins with `#`.
+pub(crate) fn is_silent(line: &[u8]) -> bool {
+    matches!(line, [] | [b'#', ..])
+}
