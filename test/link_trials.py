@@ -239,22 +239,22 @@ def reads_until(descriptor, lines):
 
 def too_few_files(cluster, _):
     """A validator that may open few files can't take all who connect, says so, and goes on with whom it has."""
-    told_at = free_addresses(1)[0]
+    told_at, asked_at = free_addresses(2)
     for me in range(3):
         cluster.start(me, {**GUARDED, "idle": 50})
     want_all_to_go_on(cluster, range(3), PATIENCE, "at first")
     # (a connection takes two files: with an odd number of them the last one is taken, and can't be used)
     for limit in (24, 25):
-        cluster.start(3, {**GUARDED, "idle": 50, "status": told_at}, **limited(NOFILE=limit))
+        cluster.start(3, {**GUARDED, "idle": 50, "status": told_at, "metrics": asked_at}, **limited(NOFILE=limit))
         want_all_to_go_on(cluster, range(4), PATIENCE, "at first")
-        held = [hold(cluster.addresses[3], b"") for _ in range(30)] + [hold(told_at, b"") for _ in range(3)]
+        held = [hold(cluster.addresses[3], b"") for _ in range(30)] + [hold(it, b"") for it in (told_at, asked_at) for _ in range(3)]
         time.sleep(1)
         want_all_to_go_on(cluster, range(4), 20, "with no files left")
         for it in held:
             it.close()
         cluster.kill(3)
     log = read(cluster.path("v3.log"))
-    for line in ("a peer cannot be taken", "cannot be used", "nobody can be told how far it is"):
+    for line in ("a peer cannot be taken", "cannot be used", "nobody can be told how far it is", "nobody can ask for metrics"):
         want(line in log, f"'{line}' isn't logged")
     cluster.start(3, {**GUARDED, "idle": 50})
     want_all_to_go_on(cluster, range(4), 30, "with files again")

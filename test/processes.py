@@ -24,9 +24,11 @@ TOP = os.path.dirname(os.path.dirname(os.path.realpath(__file__)))
 IN_PYTHON = f"{TOP}/clients/python"
 sys.path.append(IN_PYTHON)
 import pomtsjef
+from config_trials import CONFIG_TRIALS
 from journal_trials import JOURNAL_TRIALS, want_journals_shown
 from link_trials import LINK_TRIALS
 from log_lines import LogLines
+from metrics_trials import METRICS_TRIALS
 from validators import (
     PATIENCE,
     PRECOMMIT,
@@ -709,8 +711,10 @@ TESTS = (
     a_clock_that_begins_anew,
     noise,
     links_that_are_never_done,
+    *CONFIG_TRIALS,
     *JOURNAL_TRIALS,
     *LINK_TRIALS,
+    *METRICS_TRIALS,
 )
 
 

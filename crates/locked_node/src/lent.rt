@@ -21,7 +21,7 @@ use crate::meeting::is_segment;
 use crate::place::{Place, count_from};
 use crate::subscription::{SubscribeFault, Subscription};
 use node_core::NodeCore;
-use protocol::{Refusal, Timeout};
+use protocol::{MOST_CLIENTS, Refusal, Step, Timeout};
 use status_words::{Node, Publisher, Seat, Status, Words};
 use std::alloc::{AllocError, Global};
 use std::marker::Model;
@@ -174,6 +174,14 @@ impl Ahead {
     {
         self.delivered
     }
+}
+
+/// Where in its height a node is, and how many transactions wait to be proposed.
+#[derive(Clone, Copy, Debug, PartialEq, Eq)]
+pub struct Gauges {
+    pub round: u32,
+    pub step: Step,
+    pub queued: u64,
 }
 
 impl<S: Store + Drop, J: Node> State<S, J> {
@@ -336,6 +344,17 @@ impl<S: Store + Drop, J: Node> State<S, J> {
         }
     }
 
+    /// Returns where in its height the node is, and how many transactions wait.
+    pub fn gauges(&self) -> Gauges
+        ensures place { (result.round ≡ self.now.core.machine.state.round) × (result.step ≡ self.now.core.machine.state.step) }
+    {
+        Gauges {
+            round: self.core.round(),
+            step: self.core.state().step(),
+            queued: queued_in(&self.core),
+        }
+    }
+
     /// A seat that has seen 0 and 0.
     pub fn seat(&mut self, words: &Words<J>) -> Seat<J>
         ensures same { self.new ≡ self.old }
@@ -343,4 +362,13 @@ impl<S: Store + Drop, J: Node> State<S, J> {
     {
         self.publisher.seat(words)
     }
+}
+
+/// Returns how many transactions of all clients wait to be proposed.
+fn queued_in<S: Store + Drop>(core: &NodeCore<S>) -> u64 {
+    let mut queued: u64 = 0;
+    for client in 0..MOST_CLIENTS {
+        queued = queued.saturating_add(core.waiting(client).len() as u64);
+    }
+    queued
 }

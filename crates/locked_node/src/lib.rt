@@ -15,7 +15,7 @@ mod subscription;
 pub use event::Event;
 pub use feeding::Stop;
 pub use laws::{certificates_law, count_law, subscribers_law};
-pub use lent::{Ahead, Done, Met, Offered, State, Stepped};
+pub use lent::{Ahead, Done, Gauges, Met, Offered, State, Stepped};
 pub use node::{LockedNode, Released, words_for};
 pub use place::Uncopied;
 pub use subscription::{SubscribeFault, Subscription};

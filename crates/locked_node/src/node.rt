@@ -12,7 +12,7 @@ ghost use Rattle.locked_node.specs.Subscribing.{IsSubscribeFault};
 ghost use Rattle.subscriber_ring.specs.Ends.{is_capacity};
 
 use crate::event::Event;
-use crate::lent::{Done, Met, State};
+use crate::lent::{Done, Gauges, Met, State};
 use crate::place::count_from;
 use crate::subscription::{SubscribeFault, Subscription};
 use node_core::NodeCore;
@@ -184,6 +184,11 @@ impl<S: Store + Drop, J: Node> LockedNode<S, J> {
         ensures { result.items ≡ items.now }
     {
         self.state.lock(rt).certify(items)
+    }
+
+    /// Returns where in its height the node is, and how many transactions wait to be proposed.
+    pub fn gauges<R: Wait>(&self, rt: &R) -> Gauges {
+        self.state.lock(rt).gauges()
     }
 
     /// The height and the number of delivered items, neither less than the seat had seen. It waits for

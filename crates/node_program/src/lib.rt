@@ -7,6 +7,7 @@
 //! a journal holds. A failure is a line on standard error, and the exit status tells which it was.
 #![tactic(auto)]
 
+mod metrics;
 mod opening;
 mod printing;
 mod program;

@@ -4,6 +4,7 @@ ghost use Rattle.std.specs.Prelude.{◌≡◌, ◌≤◌, IfOk};
 
 use crate::validator::run;
 use client_program::send;
+use config_file::{all_words, config_named, read_config};
 use journal_program::show_journal;
 use key_files::write_keys;
 use node_settings::{Failure, Invocation, Page, settings};
@@ -41,8 +42,52 @@ pub fn node_program<
     }
 }
 
-/// What comes of the words: the exit status, or why the program ends early.
+/// What comes of the words, and of those in the configuration file that they name: the exit status, or why the program ends early.
 fn outcome<
+    R: Eprint
+        + Threads
+        + Wait
+        + Clock
+        + Net<Stream = TcpStream, Listener = TcpListener>
+        + Files<File = File>
+        + AllocGlobal
+        + RandomSource
+        + Sync,
+    T: AsStr,
+    W: Write + Send + Drop,
+>(rt: &R, words: &[T], out: W) -> Result<u8, Failure>
+    ensures { IfOk result (λ status. status ≤ 1) }
+{
+    match config_named(words) {
+        Some(name) => outcome_with(rt, words, &read_config(rt, name, words)?, out),
+        None => outcome_of(rt, words, out),
+    }
+}
+
+/// What comes of the words and of those of a configuration file.
+fn outcome_with<
+    R: Eprint
+        + Threads
+        + Wait
+        + Clock
+        + Net<Stream = TcpStream, Listener = TcpListener>
+        + Files<File = File>
+        + AllocGlobal
+        + RandomSource
+        + Sync,
+    T: AsStr,
+    W: Write + Send + Drop,
+>(rt: &R, words: &[T], configured: &[String], out: W) -> Result<u8, Failure>
+    ensures { IfOk result (λ status. status ≤ 1) }
+{
+    match all_words(rt.alloc(), words, configured) {
+        Ok(all) => outcome_of(rt, &all, out),
+        Err(_) => Err(Failure::OutOfMemory),
+    }
+}
+
+/// What comes of the words that there are.
+fn outcome_of<
     R: Eprint
         + Threads
         + Wait

@@ -1,6 +1,7 @@
 //! `tmnode run`.
 
-ghost use Rattle.std.specs.Prelude.{◌≡◌, ◌<◌, ◌≤◌, IfOk, length};
+ghost use Rattle.std.specs.Prelude.{◌≡◌, ◌<◌, ◌≤◌, IfOk, IsSome, length};
+ghost use Rattle.protocol.specs.Tags.{Validator};
 ghost use Rattle.status_words.specs.Seen.{opened as opened_at};
 ghost use Rattle.status_words.specs.Ends.{opened_table, opened_words};
 ghost use Rattle.protocol.specs.State.{Node as ProtocolNode};
@@ -10,22 +11,25 @@ ghost use Rattle.node_settings.specs.Lawful.{IsLawfulRun};
 ghost use Rattle.node_program.specs.Manners.{keeping_of};
 ghost use Rattle.node_program.specs.Opening.{IsOpenedInFile};
 
+use crate::metrics::report_until_end;
 use crate::opening::{open_core, unopened};
 use crate::printing::{Printout, print_until_end};
 use crate::telling::{listen, tell_until_end};
-use authenticators::Party;
+use authenticators::{KeyRing, Party};
 use counted_links::{CountedLinks, OpenLinks};
 use journal_file::FileStore;
 use key_files::{memory_or, read_ring};
 use leveled_runtime::Leveled;
 use locked_node::{LockedNode, Subscription, words_for};
 use log::{Log, info};
+use metered_store::MeteredStore;
 use node_core::{Config, NodeCore};
+use node_meters::Meters;
 use node_settings::{Failure, RunSettings};
 use peer_core::{Keeping, Manner};
 use peer_threads::{Bell, Ending, Pace, serve_at_pace};
 use status_words::{Node, Opened};
-use std::alloc::AllocError;
+use std::alloc::{AllocError, Global};
 use std::fs::File;
 use std::io::Write;
 use std::marker::Brand;
@@ -49,6 +53,10 @@ struct Service<'a, N> {
     pace: Pace,
     /// Where it tells how far it is.
     status: Option<TcpListener>,
+    /// Where it answers requests for metrics.
+    metrics: Option<TcpListener>,
+    /// What its threads count.
+    meters: &'a Meters,
 }
 
 /// Runs a validator until it ends. Answers the exit status 0.
@@ -70,7 +78,8 @@ pub(crate) fn run<
         rt,
         level: settings.level,
     };
-    let core = validator_of(rt, &settings)?;
+    let meters = Meters::new();
+    let core = validator_of(rt, &settings, &meters)?;
     info!(&logged;
         "validator {} is at height {}, with {} decisions in its journal",
         settings.me,
@@ -80,15 +89,18 @@ pub(crate) fn run<
     let Ok(opened) = words_for(rt.alloc(), &core) else {
         return Err(Failure::OutOfMemory);
     };
-    let service = service_of(&logged, &settings)?;
-    serve_core::<FileStore, Brand, W, Leveled<'_, R>>(&logged, core, opened, service, out)
+    let service = service_of(&logged, &settings, &meters)?;
+    serve_core::<MeteredStore<'_, FileStore, R>, Brand, W, Leveled<'_, R>>(
+        &logged, core, opened, service, out,
+    )
 }
 
-/// The validator of these settings, which comes back over the journal in its file.
-fn validator_of<R: Files<File = File> + AllocGlobal>(
-    rt: &R,
+/// The validator of these settings, which comes back over the journal in its file. The syncs of the file are counted.
+fn validator_of<'a, R: Files<File = File> + Clock + AllocGlobal>(
+    rt: &'a R,
     settings: &RunSettings<'_>,
-) -> Result<NodeCore<FileStore>, Failure>
+    meters: &'a Meters,
+) -> Result<NodeCore<MeteredStore<'a, FileStore, R>>, Failure>
     requires { IsLawfulRun settings.now }
     ensures { IfOk result (λ core. IsOpenedInFile settings.now.powers settings.now.me core) }
 {
@@ -98,14 +110,32 @@ fn validator_of<R: Files<File = File> + AllocGlobal>(
     };
     let me = settings.me;
     let ring = read_ring(rt, settings.keys, Party::Validator(me), powers.count())?;
-    let store = FileStore::open(rt, settings.journal).map_err(unopened)?;
-    open_core(alloc, Config { me, powers }, ring, store)
+    let file = FileStore::open(rt, settings.journal).map_err(unopened)?;
+    let store = MeteredStore::new(file, meters, rt);
+    open_metered(alloc, Config { me, powers }, ring, store)
+}
+
+/// The validator that comes back over the journal in a file whose syncs are counted.
+fn open_metered<'a, R: Clock>(
+    alloc: Global,
+    config: Config,
+    ring: KeyRing,
+    store: MeteredStore<'a, FileStore, R>,
+) -> Result<NodeCore<MeteredStore<'a, FileStore, R>>, Failure>
+    requires owner { ring.me ≡ Validator config.me }
+    requires count { ring.count ≡ length config.powers }
+    requires me { config.me < length config.powers }
+    requires unasked { IsSome store.store.found }
+    ensures { IfOk result (λ core. IsOpenedInFile config.powers config.me core) }
+{
+    open_core(alloc, config, ring, store)
 }
 
 /// Listens on the own address, and makes ready what serving takes.
 fn service_of<'a, R: Log + Net<Stream = TcpStream, Listener = TcpListener> + AllocGlobal>(
     rt: &'a R,
     settings: &RunSettings<'a>,
+    meters: &'a Meters,
 ) -> Result<Service<'a, R>, Failure>
     requires { IsLawfulRun settings.now }
 {
@@ -113,13 +143,16 @@ fn service_of<'a, R: Log + Net<Stream = TcpStream, Listener = TcpListener> + All
     let links = TcpLinks::bind(alloc, rt, &settings.peers, settings.me as usize).map_err(
         |error| memory_or(&error, Failure::CannotListen),
     )?;
-    let status = status_of(rt, settings)?;
+    let status = listener_at(rt, settings.status)?;
+    let metrics = listener_at(rt, settings.metrics)?;
     let Ok(plan) = Plan::new(alloc, settings.start, settings.delta) else {
         return Err(Failure::OutOfMemory);
     };
     Ok(Service {
         links,
         status,
+        metrics,
+        meters,
         pace: Pace {
             plan,
             manner: manner_of(settings),
@@ -151,12 +184,12 @@ fn keeping_of(keeping: node_settings::Keeping) -> Keeping
     }
 }
 
-/// Listens where the validator is to tell how far it is, if anywhere.
-fn status_of<N: Net<Stream = TcpStream, Listener = TcpListener>>(
+/// Listens at this address, if there is one.
+fn listener_at<N: Net<Stream = TcpStream, Listener = TcpListener>>(
     net: &N,
-    settings: &RunSettings<'_>,
+    address: Option<&str>,
 ) -> Result<Option<TcpListener>, Failure> {
-    match settings.status {
+    match address {
         Some(address) => match listen(net, address) {
             Ok(listener) => Ok(Some(listener)),
             Err(error) => Err(memory_or(&error, Failure::CannotListen)),
@@ -222,7 +255,7 @@ fn serve_beside<
     )
 }
 
-/// Serves in one thread, and tells in another how far it is.
+/// Serves in one thread, and reports beside it how far it is.
 fn serve_and_tell<
     S: Store + Send + Drop,
     J: Node + Send + Sync,
@@ -244,23 +277,67 @@ fn serve_and_tell<
         links,
         pace,
         status,
+        metrics,
+        meters,
     } = service;
     let open = OpenLinks::new();
     let counted = CountedLinks { links, open: &open };
     let (ended, ()) = thread::join(
         rt,
         || {
-            let ended = serve_at_pace(rt, rt.alloc(), node, counted, clock, pace, bell);
+            let ended = serve_at_pace(rt, rt.alloc(), node, counted, clock, pace, bell, meters);
             bell.end(rt);
             ended
         },
-        || {
-            if let Some(listener) = &status {
-                tell_until_end(rt, rt.alloc(), node, listener, &open, bell);
-            }
-        },
+        || report_beside(
+            rt,
+            node,
+            Reported {
+                status,
+                metrics,
+                meters,
+                open: &open,
+            },
+            clock,
+            bell,
+        ),
     );
     ended
+}
+
+/// What is reported, and where.
+#[derive(Drop)]
+struct Reported<'a> {
+    status: Option<TcpListener>,
+    metrics: Option<TcpListener>,
+    meters: &'a Meters,
+    open: &'a OpenLinks,
+}
+
+/// Reports how far the validator is, and where it has an address for metrics answers requests for them in one more thread.
+fn report_beside<
+    S: Store + Send + Drop,
+    J: Node + Send + Sync,
+    R: Log + Threads + Wait + Clock + AllocGlobal + Sync,
+>(rt: &R, node: &LockedNode<S, J>, reported: Reported<'_>, clock: &HostClock, bell: &Bell) {
+    let Reported {
+        status,
+        metrics,
+        meters,
+        open,
+    } = reported;
+    let report_status = || {
+        if let Some(listener) = &status {
+            tell_until_end(rt, rt.alloc(), node, listener, open, bell);
+        }
+    };
+    let Some(listener) = &metrics else {
+        report_status();
+        return;
+    };
+    thread::join(rt, report_status, || {
+        report_until_end(rt, rt.alloc(), node, meters, listener, clock, bell);
+    });
 }
 
 /// The exit status after serving and printing.

@@ -1,9 +1,9 @@
 -- The subcommands as the parser of words takes them.
 use Rattle.std.proofs.Common.{◌≡◌, true, refl}
-use Rattle.node_settings.specs.Commands.{run_app, send_app, keys_app, journal_app}
+use Rattle.node_settings.specs.Commands.{run_rules, run_app, send_app, keys_app, journal_app}
 
 pub run_is_plain : run_app.top.is_plain ≡ true
-unfolding run_app
+unfolding run_rules
 run_is_plain = refl
 
 pub send_is_plain : send_app.top.is_plain ≡ true

@@ -1,5 +1,7 @@
 -- The command line that the program takes.
 use Rattle.std.specs.Prelude.{Bool, true, false, List, [], ◌∷◌, Some, codes, fold}
+use Rattle.std.specs.List.{list_any}
+use Rattle.std.specs.Str.{bytes_eq}
 use Rattle.clap.specs.Walk.{Rule, Text}
 use Rattle.clap.specs.Simple.{App, new_rule, new_app, with_rule, with_subcommand}
 use Rattle.clap.specs.declared.builder.action.ArgAction.TheVariants.{SetTrue}
@@ -27,11 +29,19 @@ positional name = record (new_rule name) { required = true; value_names = 1 }
 abbrev pub with_rules : App → List Rule → App
 with_rules app rules = fold with_rule app rules
 
-unfoldable pub run_app : App
-run_app = with_rules (new_app (codes "run"))
-    (option (codes "id") true ∷ option (codes "powers") true ∷ option (codes "keys") true ∷ option (codes "journal") true ∷ option (codes "peers") true
+unfoldable pub run_rules : List Rule
+run_rules =
+    option (codes "id") true ∷ option (codes "powers") true ∷ option (codes "keys") true ∷ option (codes "journal") true ∷ option (codes "peers") true
     ∷ option (codes "start") true ∷ option (codes "delta") true ∷ option (codes "idle") false ∷ option (codes "rest") false ∷ option (codes "links") false
-    ∷ option (codes "redial") false ∷ option (codes "stop") false ∷ option (codes "log") false ∷ option (codes "status") false ∷ [])
+    ∷ option (codes "redial") false ∷ option (codes "stop") false ∷ option (codes "log") false ∷ option (codes "status") false
+    ∷ option (codes "metrics") false ∷ option (codes "config") false ∷ []
+
+abbrev pub run_app : App
+run_app = with_rules (new_app (codes "run")) run_rules
+
+-- whether one of them has this name
+abbrev pub is_run_option : Text → Bool
+is_run_option name = list_any (λ (rule : Rule). bytes_eq rule.id name) run_rules
 
 unfoldable pub send_app : App
 send_app = with_rules (new_app (codes "send"))

@@ -13,8 +13,9 @@ use Rattle.node_settings.specs.declared.failure.KeysTrouble.{KeysTrouble}
 use Rattle.node_settings.specs.declared.failure.KeysTrouble.TheVariants as in_keys
 use Rattle.node_settings.specs.declared.failure.JournalTrouble.{JournalTrouble}
 use Rattle.node_settings.specs.declared.failure.JournalTrouble.TheVariants as in_journal
+use Rattle.node_settings.specs.declared.failure.ConfigTrouble.TheVariants as in_config
 use Rattle.node_settings.specs.declared.failure.Failure.{Failure}
-use Rattle.node_settings.specs.declared.failure.Failure.TheVariants.{Usage, Keys, Journal, CannotListen, CannotConnect, Halted, OutOfMemory, Line}
+use Rattle.node_settings.specs.declared.failure.Failure.TheVariants.{Usage, Keys, Journal, Config, CannotListen, CannotConnect, Halted, OutOfMemory, Line}
 
 abbrev pub settings_number : SettingsFault → ℕ
 settings_number words.Usage = 1
@@ -38,6 +39,7 @@ abbrev pub status_of : Failure → ℕ
 status_of Usage = 2
 status_of (Keys trouble) = 3
 status_of (Journal trouble) = 4
+status_of (Config trouble) = 2
 status_of CannotListen = 5
 status_of CannotConnect = 5
 status_of Halted = 6
@@ -49,6 +51,9 @@ abbrev pub line_of : Failure → List ℕ
 line_of Usage = codes "tmnode: usage"
 line_of (Keys trouble) = codes "tmnode: keys " ++ decimal (keys_number trouble)
 line_of (Journal trouble) = codes "tmnode: journal " ++ decimal (journal_number trouble)
+line_of (Config in_config.Unreadable) = codes "tmnode: config 0"
+line_of (Config (in_config.NotToml line)) = codes "tmnode: config 1 line " ++ decimal line
+line_of (Config in_config.NotAnOption) = codes "tmnode: config 2"
 line_of CannotListen = codes "tmnode: cannot listen"
 line_of CannotConnect = codes "tmnode: cannot connect"
 line_of Halted = codes "tmnode: halted"

@@ -42,9 +42,10 @@ pub record Told : Type 0 where
   pub stop : Option ℕ
   pub level : LevelFilter
   pub status : Option Text
+  pub metrics : Option Text
 
 abbrev pub telling_words : Telling → Told
-telling_words t = record { stop = t.stop; level = t.level; status = option_map (λ address. address.now) t.status }
+telling_words t = record { stop = t.stop; level = t.level; status = option_map (λ address. address.now) t.status; metrics = option_map (λ address. address.now) t.metrics }
 
 pub record Run : Type 0 where
   pub seat : Seat
@@ -59,7 +60,7 @@ run_words s = record {
   names = record { keys = s.keys.now; journal = s.journal.now };
   times = record { start = s.start; delta = s.delta; idle = s.idle; rest = s.rest };
   links = record { keeping = s.keeping; redial = s.redial };
-  told = record { stop = s.stop; level = s.level; status = option_map (λ address. address.now) s.status };
+  told = record { stop = s.stop; level = s.level; status = option_map (λ address. address.now) s.status; metrics = option_map (λ address. address.now) s.metrics };
 }
 
 -- ---- what the words of each option make of them
@@ -123,7 +124,7 @@ unfoldable pub telling_of : List Row → Result Told SettingsFault
 telling_of rows = do
   stop ← number_or_none 1 (2 ^ 64 - 1) (codes "stop") rows
   level ← level_of rows
-  Ok (record { stop = stop; level = level; status = first_of (codes "status") rows })
+  Ok (record { stop = stop; level = level; status = first_of (codes "status") rows; metrics = first_of (codes "metrics") rows })
 
 unfoldable pub run_of : List Row → Result Run SettingsFault
 run_of rows = do

@@ -1,8 +1,10 @@
 //! The command line of the program, for the parser of words.
 
 ghost use Rattle.std.specs.Prelude.{◌≡◌, IfOk, map};
+ghost use Rattle.std.specs.List.{list_any};
+ghost use Rattle.std.specs.Str.{bytes_eq};
 ghost use Rattle.clap.specs.Words.{app_of};
-ghost use Rattle.node_settings.specs.Commands.{rule_for, rule_for_flag, with_rules, run_app, send_app, keys_app, journal_app, top_app, node_app};
+ghost use Rattle.node_settings.specs.Commands.{rule_for, rule_for_flag, with_rules, run_app, send_app, keys_app, journal_app, top_app, node_app, is_run_option};
 
 use clap::{Arg, ArgAction, Command};
 use std::alloc::{AllocError, Global};
@@ -27,7 +29,7 @@ struct Flag {
     help: &'static str,
 }
 
-static RUN: [WordOption; 14] = [
+static RUN: [WordOption; 16] = [
     WordOption {
         name: "id",
         is_required: true,
@@ -111,6 +113,18 @@ static RUN: [WordOption; 14] = [
         is_required: false,
         value: "ADDR",
         help: "Tell who connects to this address how far the validator is",
+    },
+    WordOption {
+        name: "metrics",
+        is_required: false,
+        value: "ADDR",
+        help: "Answer requests for metrics and health by HTTP at this address",
+    },
+    WordOption {
+        name: "config",
+        is_required: false,
+        value: "FILE",
+        help: "Take what isn't given here from this file, which has a line OPTION = VALUE for each",
     },
 ];
 
@@ -208,6 +222,21 @@ static JOURNAL_FLAGS: [Flag; 3] = [
     },
 ];
 
+/// Returns whether an option of `run` has this name.
+#[tactic(auto, unfolding(crate::specs::Commands::run_rules))]
+pub fn is_run_option(name: &str) -> bool
+    ensures { result ≡ is_run_option name.now }
+{
+    is_among(RUN.as_slice(), name)
+}
+
+/// Returns whether an option has this name.
+fn is_among(options: &[WordOption], name: &str) -> bool
+    ensures { result ≡ list_any (λ option. bytes_eq option.name.now name.now) options.now }
+{
+    options.iter().any(|option| option.name == name)
+}
+
 /// The command with these options added in turn.
 fn with_options<'a>(
     alloc: Global,
@@ -245,7 +274,7 @@ fn with_flags<'a>(
     Ok(command)
 }
 
-#[tactic(auto, unfolding(crate::specs::Commands::run_app))]
+#[tactic(auto, unfolding(crate::specs::Commands::run_rules))]
 fn run_command<'a>(alloc: Global) -> Result<Command<'a>, AllocError>
     ensures { IfOk result (λ made. app_of made ≡ run_app) }
 {

@@ -54,6 +54,18 @@ impl JournalTrouble {
     }
 }
 
+/// Why a configuration file gives no words.
+#[derive(Clone, Copy, Debug, PartialEq, Eq)]
+pub enum ConfigTrouble {
+    /// 0: the file can't be opened, or be read to its end, or is no UTF-8.
+    Unreadable,
+    /// 1: it isn't TOML, from this line on, of which the first is 1.
+    NotToml(u64),
+    /// 2: an entry is named like no option of `run`, or like `config`; or its value is no text, no whole number from 0 on, and
+    /// no list of these.
+    NotAnOption,
+}
+
 /// Why the program ends early. It is shown as the line on standard error, without its line feed.
 #[derive(Clone, Copy, Debug, PartialEq, Eq)]
 pub enum Failure {
@@ -61,6 +73,8 @@ pub enum Failure {
     Usage,
     Keys(KeysTrouble),
     Journal(JournalTrouble),
+    /// The configuration file gives no words.
+    Config(ConfigTrouble),
     /// The own address can't be listened on.
     CannotListen,
     /// The validator's address can't be connected to, or the connection ends before a reply.
@@ -79,7 +93,7 @@ impl Failure {
         ensures { result ≡ status_of self }
     {
         match self {
-            Failure::Usage => 2,
+            Failure::Usage | Failure::Config(_) => 2,
             Failure::Keys(_) => 3,
             Failure::Journal(_) => 4,
             Failure::CannotListen | Failure::CannotConnect => 5,
@@ -98,6 +112,11 @@ impl fmt::Display for Failure {
             Failure::Usage => f.write_str("tmnode: usage"),
             Failure::Keys(trouble) => write!(f, "tmnode: keys {}", trouble.number()),
             Failure::Journal(trouble) => write!(f, "tmnode: journal {}", trouble.number()),
+            Failure::Config(ConfigTrouble::Unreadable) => f.write_str("tmnode: config 0"),
+            Failure::Config(ConfigTrouble::NotToml(line)) => {
+                write!(f, "tmnode: config 1 line {line}")
+            }
+            Failure::Config(ConfigTrouble::NotAnOption) => f.write_str("tmnode: config 2"),
             Failure::CannotListen => f.write_str("tmnode: cannot listen"),
             Failure::CannotConnect => f.write_str("tmnode: cannot connect"),
             Failure::Halted => f.write_str("tmnode: halted"),

@@ -101,6 +101,8 @@ pub struct RunSettings<'a> {
     pub level: LevelFilter,
     /// The address at which it tells how far it is.
     pub status: Option<&'a str>,
+    /// Where it reports its metrics over HTTP, if anywhere.
+    pub metrics: Option<&'a str>,
 }
 
 /// What a client sends.

@@ -2,7 +2,8 @@
 //! standard error and its exit status.
 //!
 //! - `tmnode run --id I --powers P,P,.. --keys FILE --journal FILE --peers ADDR,ADDR,.. --start MS --delta MS
-//!   [--idle MS] [--rest MS] [--links open|guarded] [--redial MS] [--stop K] [--log LEVEL] [--status ADDR]`
+//!   [--idle MS] [--rest MS] [--links open|guarded] [--redial MS] [--stop K] [--log LEVEL] [--status ADDR]
+//!   [--metrics ADDR] [--config FILE]`
 //!   is a validator: number I of those with these powers and addresses.
 //! - `tmnode send --id C --validators N --keys FILE --to ADDR,ADDR,.. --number M [--session S]` with one of `--data HEX`,
 //!   `--close` and `--file FILE` sends transactions of one session of client C.
@@ -25,7 +26,8 @@ mod sending;
 mod status_line;
 
 pub use answer::Answer;
-pub use failure::{Failure, JournalTrouble, KeysTrouble};
+pub use command::is_run_option;
+pub use failure::{ConfigTrouble, Failure, JournalTrouble, KeysTrouble};
 pub use invocation::{
     Invocation, Keeping, KeysSettings, Page, RunSettings, SendSettings, Sending, SettingsFault,
     settings,

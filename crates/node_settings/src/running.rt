@@ -55,6 +55,7 @@ struct Telling<'a> {
     stop: Option<u64>,
     level: LevelFilter,
     status: Option<&'a str>,
+    metrics: Option<&'a str>,
 }
 
 impl<'a> RunSettings<'a> {
@@ -80,6 +81,7 @@ impl<'a> RunSettings<'a> {
             stop,
             level,
             status,
+            metrics,
         } = Telling::read(found)?;
         Ok(RunSettings {
             me,
@@ -96,6 +98,7 @@ impl<'a> RunSettings<'a> {
             stop,
             level,
             status,
+            metrics,
         })
     }
 }
@@ -197,10 +200,12 @@ impl<'a> Telling<'a> {
         let stop = number_or_none(found, "stop", 1, u64::MAX)?;
         let level = level_of(found)?;
         let status = word_of(found, "status");
+        let metrics = word_of(found, "metrics");
         Ok(Telling {
             stop,
             level,
             status,
+            metrics,
         })
     }
 }

@@ -8,3 +8,4 @@ pub mod Sendings
 pub mod Duties
 pub mod Choosing
 pub mod Grounds
+pub mod Counting

@@ -39,7 +39,7 @@ pub struct PeerLinks {
     most_accepted: usize,
     /// How many links of clients have a place.
     most_clients: usize,
-    links: Vec<PeerLink>,
+    pub(crate) links: Vec<PeerLink>,
     /// How many frames were new to the node.
     news: u64,
     /// Whether some link may have to be closed, greeted or named.

@@ -25,6 +25,8 @@ pub(crate) struct Desk {
     /// How many frames were dropped since that was logged last, and when it was.
     dropped: u64,
     logged: u64,
+    /// How many frames were dropped at all, those that repair what may be lost and replies too.
+    lost: u64,
 }
 
 impl Desk {
@@ -35,6 +37,7 @@ impl Desk {
             outlets,
             dropped: 0,
             logged: 0,
+            lost: 0,
         }
     }
 
@@ -44,9 +47,20 @@ impl Desk {
         for frame in frames {
             let dropped = self.release_frame(rt, frame, now);
             self.dropped = self.dropped.saturating_add(dropped);
+            self.lose(dropped);
         }
         self.log_dropped(rt, now);
         self.schedule(rt, timeouts, now);
+    }
+
+    /// Counts frames that were dropped.
+    fn lose(&mut self, count: u64) {
+        self.lost = self.lost.saturating_add(count);
+    }
+
+    /// How many frames were dropped at all.
+    pub(crate) fn lost(&self) -> u64 {
+        self.lost
     }
 
     /// Logs how many frames were dropped, at most once a second.
@@ -80,7 +94,7 @@ impl Desk {
     }
 
     /// Queues a reply for its link.
-    pub(crate) fn reply<R: Wait + Log>(&self, rt: &R, alloc: Global, link: LinkId, reply: Reply)
+    pub(crate) fn reply<R: Wait + Log>(&mut self, rt: &R, alloc: Global, link: LinkId, reply: Reply)
         requires { IsReply reply }
     {
         let queued = match Bytes::copy_from_slice(alloc, &spell_reply(reply)) {
@@ -88,6 +102,7 @@ impl Desk {
             Err(_) => false,
         };
         if !queued {
+            self.lose(1);
             warn!(rt; "a reply is dropped, since its link has no room");
         }
     }
@@ -97,7 +112,8 @@ impl Desk {
         for _ in rt.forever() {
             match self.core.next_duty(now)? {
                 Duty::Send(sending) => {
-                    let _ = self.outlets.send(rt, &sending);
+                    let dropped = self.outlets.send(rt, &sending);
+                    self.lose(dropped);
                 }
                 Duty::Close(link, closing) => {
                     warn!(rt; "link {}: closed: {closing}", link.0);

@@ -51,14 +51,17 @@ impl<S: Store + Drop, J: Node, C: Clock> Shared<'_, S, J, C> {
         }
     }
 
-    /// After any call of the node queues what it released, rings the bell where it has moved to another height, and lets all end
-    /// where it has halted.
+    /// After any call of the node counts a refusal, queues what it released, rings the bell where it has moved to another height, and
+    /// lets all end where it has halted.
     fn heed<R: Wait + time::Clock + Log>(
         &self,
         rt: &R,
         answer: Result<(), Refusal>,
         status: Status,
     ) {
+        if let Err(refusal) = answer {
+            self.meters.refused(refusal);
+        }
         if may_release(answer) {
             self.release(rt, status.height);
         }
@@ -75,6 +78,7 @@ impl<S: Store + Drop, J: Node, C: Clock> Shared<'_, S, J, C> {
         let released = self.node.take_released(rt);
         desk.release(rt, released, now);
         if is_new {
+            self.meters.decided(now);
             self.bell.ring(rt);
         }
     }
@@ -129,11 +133,14 @@ impl<S: Store + Drop, J: Node, C: Clock> Shared<'_, S, J, C> {
         self.heed(rt, done.answer(), done.status());
     }
 
-    /// Fires a timeout. One that was refused memory is scheduled again.
+    /// Fires a timeout, and counts it where the node takes it. One that was refused memory is scheduled again.
     fn fire<R: Wait + time::Clock + Log>(&self, rt: &R, seat: &mut Seat<J>, timeout: Timeout) {
         let done = self.node.fire_timeout(rt, seat, timeout);
         let answer = done.answer();
         self.heed(rt, answer, done.status());
+        if answer.is_ok() {
+            self.meters.fired_timeout();
+        }
         if answer == Err(Refusal::OutOfMemory) {
             let now = self.clock.now_ms(rt);
             self.desk.lock(rt).core.refused_memory(timeout, now);

@@ -74,6 +74,7 @@ impl<S: Store + Drop, J: Node, C: Clock> Shared<'_, S, J, C> {
         let mut piece = [0u8; PIECE_BYTES];
         match half.recv(rt, &mut piece) {
             Received::Piece(count) => {
+                self.meters.received_bytes(count);
                 self.hear(rt, link);
                 frames.feed(&piece[..count])?;
             }
@@ -102,6 +103,7 @@ impl<S: Store + Drop, J: Node, C: Clock> Shared<'_, S, J, C> {
             let Some(frame) = frames.next_frame()? else {
                 break;
             };
+            self.meters.received_frame();
             self.take_in(rt, seat, link, frame);
         }
         Ok(())

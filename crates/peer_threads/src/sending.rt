@@ -44,6 +44,7 @@ impl<S: Store + Drop, J: Node, C: Clock> Shared<'_, S, J, C> {
             let Ok(frame) = queue.take(rt) else {
                 break;
             };
+            self.meters.sent_frame();
             if let Err(unsent) = self.send_with_next(
                 rt, link, &queue, &mut batch, &frame, &mut half,
             ) {
@@ -72,6 +73,7 @@ impl<S: Store + Drop, J: Node, C: Clock> Shared<'_, S, J, C> {
             let Ok(next) = queue.try_take(rt) else {
                 break;
             };
+            self.meters.sent_frame();
             if !batch.add(&next) {
                 self.send_all(rt, link, half, batch.bytes())?;
                 return self.send_all(rt, link, half, &next);
@@ -96,6 +98,7 @@ impl<S: Store + Drop, J: Node, C: Clock> Shared<'_, S, J, C> {
             }
             match half.send(rt, rest) {
                 Sent::Taken(count) => {
+                    self.meters.sent_bytes(count);
                     rest = &rest[count..];
                     since = self.clock.now_ms(rt);
                 }

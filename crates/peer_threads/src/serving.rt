@@ -9,6 +9,7 @@ use crate::shared::{Ending, Shared};
 use edge_frames::LinkId;
 use locked_node::LockedNode;
 use log::{Log, info, warn};
+use node_meters::Meters;
 use peer_core::{Manner, OpenFault, PeerCore};
 use peer_links::{Clock, Dialed, Dialer, Link, Links, Next, Peer, Way};
 use status_words::{Node, Seat};
@@ -61,10 +62,12 @@ pub fn serve<
         manner: Manner::PLAIN,
         stop,
     };
-    serve_at_pace(rt, alloc, node, links, clock, pace, &Bell::new())
+    let (bell, meters) = (Bell::new(), Meters::new());
+    serve_at_pace(rt, alloc, node, links, clock, pace, &bell, &meters)
 }
 
-/// Serves peers as [`serve`] does, in a manner of its own. The bell is rung where the node has moved to another height.
+/// Serves peers as [`serve`] does, in a manner of its own. The bell is rung where the node has moved to another height, and the meters
+/// count what happens.
 pub fn serve_at_pace<
     S: Store + Drop + Send,
     J: Node + Send + Sync,
@@ -79,8 +82,10 @@ pub fn serve_at_pace<
     clock: &C,
     pace: Pace,
     bell: &Bell,
+    meters: &Meters,
 ) -> Ending {
     let now = clock.now_ms(rt);
+    meters.decided(now);
     let Pace { plan, manner, stop } = pace;
     let core = PeerCore::new(alloc, links.me(), links.validators(), manner, plan, now);
     let desk = Desk::new(core, Outlets::new(alloc));
@@ -89,6 +94,7 @@ pub fn serve_at_pace<
         node,
         clock,
         bell,
+        meters,
         stop,
         desk: Mutex::new(desk),
         ending: Mutex::new(None),

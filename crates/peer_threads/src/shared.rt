@@ -4,6 +4,7 @@ use crate::bell::Bell;
 use crate::desk::Desk;
 use locked_node::LockedNode;
 use log::Log;
+use node_meters::Meters;
 use peer_links::Clock;
 use status_words::{Node, Seat};
 use std::alloc::Global;
@@ -32,6 +33,8 @@ pub(crate) struct Shared<'a, S: Store + Drop, J: Node, C: Clock> {
     pub(crate) clock: &'a C,
     /// Who follows the node's list is woken by it.
     pub(crate) bell: &'a Bell,
+    /// What the threads count.
+    pub(crate) meters: &'a Meters,
     /// How many delivered items are enough.
     pub(crate) stop: Option<u64>,
     pub(crate) desk: Mutex<Desk>,

@@ -53,8 +53,16 @@ fn follows<J: Node, R: Abort + Wait>(
     }
     assert_eq!(rt; node.status(&mut first), ONE);
     assert_eq!(rt; node.status(&mut second), ONE);
+    is_at_its_beginning(rt, node);
     releases(rt, node, &mut first);
     Ok(())
+}
+
+/// It is in the first step of round 0, and no transaction waits.
+fn is_at_its_beginning<J: Node, R: Abort + Wait>(rt: &R, node: &LockedNode<MemoryStore, J>) {
+    let gauges = node.gauges(rt);
+    assert!(rt; gauges.round == 0 && gauges.step == Step::Propose);
+    assert!(rt; gauges.queued == 0);
 }
 
 fn takes<J: Node, R: Abort + Wait>(

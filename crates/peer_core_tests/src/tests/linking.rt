@@ -145,3 +145,20 @@ fn try_a_link_of_no_use_is_closed(rt: &impl Abort, edge: &mut PeerCore) -> Resul
     assert_eq!(rt; duties(edge, 0).closed, 1);
     Ok(())
 }
+
+/// Three links of validators, of which one ends, one of a client and one of nobody who has shown.
+#[test]
+fn links_are_counted(rt: HostRuntime) -> Result<(), Fail> {
+    let mut edge = edge_of(rt.alloc(), GUARDED)?;
+    try_links_are_counted(&rt, &mut edge)
+}
+
+fn try_links_are_counted(rt: &impl Abort, edge: &mut PeerCore) -> Result<(), Fail> {
+    dial_all(edge)?;
+    edge.ended(LinkId(2));
+    edge.opened(LinkId(7), Way::Accepted, 0)?;
+    let counts = edge.link_counts();
+    assert!(rt; (counts.validators, counts.clients, counts.strangers) == (2, 0, 1));
+    assert!(rt; edge.kept() == 0);
+    Ok(())
+}

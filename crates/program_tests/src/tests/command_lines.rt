@@ -45,10 +45,10 @@ fn shown_run(alloc: Global, run: &RunSettings<'_>) -> Result<String, AllocError>
         run.stop,
         run.level
     )?;
-    match run.status {
-        Some(address) => format!(in alloc; "{text} {address}"),
-        None => Ok(text),
+    for address in [run.status, run.metrics].iter().flatten() {
+        text = format!(in alloc; "{text} {address}")?;
     }
+    Ok(text)
 }
 
 fn shown_op(alloc: Global, op: &Op) -> Result<String, AllocError> {
@@ -126,6 +126,12 @@ fn run_lines(rt: HostRuntime) -> Result<(), Fail> {
         alloc,
         "tmnode run --status s:1 --id 0 --powers 1,1 --keys k --journal j --peers a,b --start 2 --delta 2 --log wArn",
         "0 of 2, power 2 a b, k j, 2 2 1 0, Open 1000, None WARN s:1",
+    )?;
+    assert_asked(
+        &rt,
+        alloc,
+        "tmnode run --config c --metrics m:1 --id 0 --powers 1,1 --keys k --journal j --peers a,b --start 2 --delta 2",
+        "0 of 2, power 2 a b, k j, 2 2 1 0, Open 1000, None INFO m:1",
     )
 }
 

@@ -1,8 +1,11 @@
 //! How the program ends.
 
 use authenticators::KeysFault;
+use config_file::ConfigFault;
 use messages::Reply;
-use node_settings::{Answer, Failure, JournalTrouble, KeysTrouble, SettingsFault, StatusLine};
+use node_settings::{
+    Answer, ConfigTrouble, Failure, JournalTrouble, KeysTrouble, SettingsFault, StatusLine,
+};
 use std::alloc::Global;
 use std::process::Abort;
 use std::test::Fail;
@@ -26,6 +29,27 @@ fn assert_end(
 fn each_failure(rt: HostRuntime) -> Result<(), Fail> {
     let alloc = rt.alloc();
     assert_end(&rt, alloc, SettingsFault::Usage.into(), "tmnode: usage", 2)?;
+    assert_end(
+        &rt,
+        alloc,
+        Failure::Config(ConfigTrouble::Unreadable),
+        "tmnode: config 0",
+        2,
+    )?;
+    assert_end(
+        &rt,
+        alloc,
+        ConfigFault::NotToml(17).into(),
+        "tmnode: config 1 line 17",
+        2,
+    )?;
+    assert_end(
+        &rt,
+        alloc,
+        ConfigFault::NotAnOption.into(),
+        "tmnode: config 2",
+        2,
+    )?;
     assert_end(
         &rt,
         alloc,

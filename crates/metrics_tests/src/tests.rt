@@ -1,0 +1,6 @@
+//! What is counted, and what is reported of it.
+
+mod meters;
+mod pages;
+mod requests;
+mod visits;

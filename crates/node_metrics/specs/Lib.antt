@@ -1,0 +1,5 @@
+pub mod Metrics
+pub mod Text
+pub mod Json
+pub mod Requests
+pub mod Responses
