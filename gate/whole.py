@@ -4,11 +4,12 @@
 usage: gate/whole.py [--anew]
 
 Its stages run in turn, each of which says 'N passed, M failed' on its last line: what the scripts take of the kit; the files'
-layout; what must not compile; `rt ci`, which proves and tests each crate and runs each program; the wrong bodies; the schedules, by the program as
-both compilers made it; one of them with each write of the validator's journal failing; random ones; whole clusters in a simulator, from a
-hundred seeds; and what `tmnode` says of failures and what a cluster of it outlives, as processes. What must not compile is tried beside
-`rt ci`, and the wrong bodies beside all that comes behind them, so that no processor waits; their lines come among the others'. Then come the processor seconds of each
-crate, and a last line that counts everything. Where the layout or `rt ci` fails, nothing behind it is tried.
+layout; `rt ci`, which proves and tests each crate and runs each program; what must not compile; the wrong bodies; the schedules, by the
+program as both compilers made it; the pictures of all; each with a growth refused now and then; one of them with each write of the validator's
+journal failing; random ones; whole clusters in a simulator, from a hundred seeds; and what `tmnode` says of failures and what a cluster of it
+outlives, as processes. What must not compile and the wrong bodies are tried beside all that comes behind them, so that no processor
+waits; their lines come among the others'. Then come the processor seconds of each crate, and a last line that counts everything. Where
+the layout or `rt ci` fails, nothing behind it is tried.
 
 What this machine proved before of the same files, and what it told of the same edits, isn't done again; with --anew all is. Every
 test, program and schedule runs each time. The proved programs are left in bin/.
@@ -31,11 +32,13 @@ TOP = os.path.dirname(os.path.dirname(os.path.realpath(__file__)))
 STAGES = {
     "the kit's parts": ["gate/kit.py"],
     "layout": ["gate/layout.py"],
-    "what must not compile": ["nice", "-n", "10", "must-not-compile/run.sh"],
     "proofs, tests and programs": ["rt", "ci"],
+    "what must not compile": ["nice", "-n", "10", "gate/must_not_compile.py", "--built"],
     "wrong bodies": ["nice", "-n", "10", "gate/wrong_bodies.py", "--built"],
     "schedules, as LLVM builds the program": ["schedules/check.sh", "--with", "crates/tmsim/out/tmsim"],
     "schedules, as Rattle's compiler builds it": ["schedules/check.sh", "--with", "crates/tmsim/out/tmsim.by-rattle"],
+    "pictures of schedules": ["schedules/charts.py", "--with", "crates/tmsim/out/tmsim"],
+    "refused growths": ["schedules/each_refusal.py", "--runs", "8000", "--with", "crates/tmsim/out/tmsim"],
     "a stop at each write": ["schedules/each_stop.py", "--with", "crates/tmsim/out/tmsim"],
     "random schedules": ["schedules/random_runs.py", "--count", "200", "--with", "crates/tmsim/out/tmsim"],
     "clusters in a simulator": ["test/clusters.py", "--seeds", "1..100", "--minutes", "10", "--with", "crates/tmcluster/out/tmcluster"],

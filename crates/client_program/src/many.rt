@@ -8,6 +8,7 @@ use crate::connection::Connection;
 use crate::sending::connect;
 use messages::Reply;
 use node_settings::{Answer, Failure};
+use protocol::{Refusal, SubmitFault};
 use std::io::Write;
 use std::net::{Net, TcpStream};
 use std::sync::{Mutex, Wait};
@@ -21,16 +22,14 @@ const MOST_SENT: usize = 64;
 /// How long a client waits until it sends again what a full queue refused, in milliseconds.
 const PAUSE_MS: u64 = 5;
 
-/// The code of a transaction that is not queued, and the inner number where that is since the client's queue is full.
-const NOT_QUEUED: u8 = 13;
+/// The refusal of a transaction whose client has a full queue at the validator.
+const QUEUE_FULL: Refusal = Refusal::Submit(SubmitFault::QueueFull);
 
-const QUEUE_FULL: u8 = 6;
-
-/// Whether the validator's queue for the client is full.
+/// Returns whether the validator's queue for the client is full.
 fn is_full(reply: Reply) -> bool
     ensures { result ≡ is_full reply }
 {
-    reply.code == NOT_QUEUED && reply.inner == QUEUE_FULL
+    reply.code == QUEUE_FULL.number() && reply.inner == QUEUE_FULL.inner()
 }
 
 /// What was told of the transactions, by all validators.
