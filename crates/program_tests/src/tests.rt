@@ -1,5 +1,5 @@
 mod command_lines;
 mod config_files;
+mod drawn_keys;
 mod failures;
-mod key_files;
 mod running;
