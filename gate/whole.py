@@ -5,7 +5,7 @@ usage: gate/whole.py [--anew]
 
 Its stages run in turn, each of which says 'N passed, M failed' on its last line: what the scripts take of the kit; the files'
 layout; `rt ci`, which proves and tests each crate and runs each program; what must not compile; the wrong bodies; the schedules, by the
-program as both compilers made it; the pictures of all; each with a growth refused now and then; one of them with each write of the validator's
+program as both compilers made it; the pictures of all; one of them with each write of the validator's
 journal failing; random ones; whole clusters in a simulator, from a hundred seeds; and what `tmnode` says of failures and what a cluster of it
 outlives, as processes. What must not compile and the wrong bodies are tried beside all that comes behind them, so that no processor
 waits; their lines come among the others'. Then come the processor seconds of each crate, and a last line that counts everything. Where
@@ -38,7 +38,6 @@ STAGES = {
     "schedules, as LLVM builds the program": ["schedules/check.sh", "--with", "crates/tmsim/out/tmsim"],
     "schedules, as Rattle's compiler builds it": ["schedules/check.sh", "--with", "crates/tmsim/out/tmsim.by-rattle"],
     "pictures of schedules": ["schedules/charts.py", "--with", "crates/tmsim/out/tmsim"],
-    "refused growths": ["schedules/each_refusal.py", "--runs", "8000", "--with", "crates/tmsim/out/tmsim"],
     "a stop at each write": ["schedules/each_stop.py", "--with", "crates/tmsim/out/tmsim"],
     "random schedules": ["schedules/random_runs.py", "--count", "200", "--with", "crates/tmsim/out/tmsim"],
     "clusters in a simulator": ["test/clusters.py", "--seeds", "1..100", "--minutes", "10", "--with", "crates/tmcluster/out/tmcluster"],
@@ -54,7 +53,7 @@ BESIDE = ("what must not compile", "wrong bodies")
 # The stages that keep what they did.
 KEEP = ("proofs, tests and programs", "wrong bodies")
 # About what a whole run takes where nothing is kept, in processor seconds; its table says what it took.
-USUAL = 29_000
+USUAL = 30_000
 # The part of a crate's time that a check belongs to.
 PARTS = ("proof", "tests", "edits")
 TICKS = os.sysconf("SC_CLK_TCK")
