@@ -1,5 +1,9 @@
 //! Meters that threads share.
 
+ghost use Rattle.std.specs.Prelude.{◌≡◌, ◌+◌};
+ghost use Rattle.protocol.specs.Answers.{numbers_of};
+ghost use Rattle.node_meters.specs.Steps.{step_of};
+
 use crate::sample::{Links, Refused, Sample, Syncs, Traffic};
 use protocol::{Refusal, Step};
 use std::array;
@@ -109,8 +113,7 @@ impl Meters {
 
     /// Counts a call of the node that was refused.
     pub fn refused(&self, refusal: Refusal) {
-        let place = usize::from(refusal.number().saturating_sub(1));
-        if let Some(meter) = self.refusals.get(place) {
+        if let Some(meter) = self.refusals.get(place_of(refusal)) {
             meter.add(1);
         }
     }
@@ -129,11 +132,7 @@ impl Meters {
     /// Notes where in its height the node is.
     pub fn set_step(&self, round: u32, step: Step) {
         self.round.set(u64::from(round));
-        self.step.set(match step {
-            Step::Propose => 0,
-            Step::Prevote => 1,
-            Step::Precommit => 2,
-        });
+        self.step.set(number_of(step));
     }
 
     /// Notes how many transactions wait to be proposed.
@@ -157,7 +156,7 @@ impl Meters {
     pub fn sample(&self) -> Sample {
         Sample {
             round: u32::try_from(self.round.get()).unwrap_or(u32::MAX),
-            step: self.step(),
+            step: step_of(self.step.get()),
             queued: self.queued.get(),
             kept: self.kept.get(),
             links: self.links(),
@@ -172,14 +171,6 @@ impl Meters {
                 count: self.refusals.get(place).map_or(0, Meter::get),
             }),
             decided: self.decided.get(),
-        }
-    }
-
-    fn step(&self) -> Step {
-        match self.step.get() {
-            0 => Step::Propose,
-            1 => Step::Prevote,
-            _ => Step::Precommit,
         }
     }
 
@@ -200,4 +191,33 @@ impl Meters {
             frames_dropped: self.frames_dropped.get(),
         }
     }
+}
+
+/// Returns the number that a step is kept as.
+fn number_of(step: Step) -> u64
+    ensures { step_of result ≡ step }
+{
+    match step {
+        Step::Propose => 0,
+        Step::Prevote => 1,
+        Step::Precommit => 2,
+    }
+}
+
+/// Returns the step that is kept as a number.
+fn step_of(number: u64) -> Step
+    ensures { result ≡ step_of number }
+{
+    match number {
+        0 => Step::Propose,
+        1 => Step::Prevote,
+        _ => Step::Precommit,
+    }
+}
+
+/// Returns the place of a refusal's meter: one below its number.
+fn place_of(refusal: Refusal) -> usize
+    ensures { result + 1 ≡ (numbers_of refusal).0 }
+{
+    usize::from(refusal.number() - 1)
 }
