@@ -4,6 +4,7 @@ use locked_node::LockedNode;
 use log::{Log, warn};
 use node_meters::Meters;
 use node_metrics::{RecentRate, Report, Server, Turn};
+use node_settings::VERSION;
 use peer_links::Clock;
 use peer_threads::Bell;
 use status_words::{Node, Seat};
@@ -13,9 +14,6 @@ use std::sync::Wait;
 use std::time::Duration;
 use std::{io, thread, time};
 use vote_journal::Store;
-
-/// The version that is reported.
-const VERSION: &str = "0.1.0";
 
 /// How long it waits where nobody is there, in milliseconds.
 const TURN_MS: u64 = 20;

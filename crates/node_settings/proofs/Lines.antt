@@ -7,7 +7,7 @@ use Rattle.clap.specs.declared.error.ErrorKind.{ErrorKind}
 use Rattle.clap.specs.Walk.{nothing_held}
 use Rattle.clap.specs.Simple.{argument_words}
 use Rattle.clap.proofs.OnLiterals.{clap_on_literals}
-use Rattle.node_settings.specs.Commands.{run_rules, send_app, keys_app, journal_app, node_app}
+use Rattle.node_settings.specs.Commands.{run_rules, send_rules, send_flags, keys_rules, journal_rules, journal_flags, node_app}
 use Rattle.node_settings.specs.Words.{Gives}
 use Rattle.node_settings.specs.Settings.{Asked, asked_by, by_faults, entered_of, settings_of}
 use Rattle.node_settings.specs.declared.invocation.SettingsFault.{SettingsFault}
@@ -15,11 +15,11 @@ use Rattle.node_settings.specs.declared.invocation.SettingsFault.TheVariants.{Us
 use Rattle.node_settings.proofs.Agreeing.{Agrees, built_agrees}
 
 node_is_simple : is_simple node_app ≡ true
-unfolding clap_on_literals run_rules send_app keys_app journal_app
+unfolding clap_on_literals run_rules send_rules send_flags keys_rules journal_rules journal_flags
 node_is_simple = refl
 
 node_is_free : is_simple_and_free node_app ≡ true
-unfolding clap_on_literals run_rules send_app keys_app journal_app
+unfolding clap_on_literals run_rules send_rules send_flags keys_rules journal_rules journal_flags
 node_is_free = refl
 
 faults_agree : (words : List Text) → Agrees (fault_of node_app words)

@@ -43,18 +43,31 @@ run_app = with_rules (new_app (codes "run")) run_rules
 abbrev pub is_run_option : Text → Bool
 is_run_option name = list_any (λ (rule : Rule). bytes_eq rule.id name) run_rules
 
-unfoldable pub send_app : App
-send_app = with_rules (new_app (codes "send"))
-    (option (codes "id") true ∷ option (codes "validators") true ∷ option (codes "keys") true ∷ option (codes "to") true ∷ option (codes "number") true
-    ∷ option (codes "session") false ∷ option (codes "data") false ∷ option (codes "file") false ∷ flag (codes "close") ∷ [])
+unfoldable pub send_rules : List Rule
+send_rules =
+    option (codes "id") true ∷ option (codes "validators") true ∷ option (codes "keys") true ∷ option (codes "to") true ∷ option (codes "number") true
+    ∷ option (codes "session") false ∷ option (codes "data") false ∷ option (codes "file") false ∷ []
 
-unfoldable pub keys_app : App
-keys_app = with_rules (new_app (codes "keys"))
-    (option (codes "validators") true ∷ option (codes "clients") true ∷ option (codes "out") true ∷ [])
+unfoldable pub send_flags : List Rule
+send_flags = flag (codes "close") ∷ []
 
-unfoldable pub journal_app : App
-journal_app = with_rules (new_app (codes "journal"))
-    (positional (codes "file") ∷ option (codes "height") false ∷ flag (codes "follow") ∷ flag (codes "json") ∷ flag (codes "list") ∷ [])
+abbrev pub send_app : App
+send_app = with_rules (with_rules (new_app (codes "send")) send_rules) send_flags
+
+unfoldable pub keys_rules : List Rule
+keys_rules = option (codes "validators") true ∷ option (codes "clients") true ∷ option (codes "out") true ∷ []
+
+abbrev pub keys_app : App
+keys_app = with_rules (new_app (codes "keys")) keys_rules
+
+unfoldable pub journal_rules : List Rule
+journal_rules = option (codes "height") false ∷ []
+
+unfoldable pub journal_flags : List Rule
+journal_flags = flag (codes "follow") ∷ flag (codes "json") ∷ flag (codes "list") ∷ []
+
+abbrev pub journal_app : App
+journal_app = with_rules (with_rules (with_rule (new_app (codes "journal")) (positional (codes "file"))) journal_rules) journal_flags
 
 -- the program with `--help` and `--version`, and no word `help`
 abbrev pub top_app : App

@@ -1,16 +1,16 @@
 //! The command line of the program, for the parser of words.
 
-ghost use Rattle.std.specs.Prelude.{◌≡◌, IfOk, map};
+ghost use Rattle.std.specs.Prelude.{◌≡◌, false, IfOk, map, codes};
 ghost use Rattle.std.specs.List.{list_any};
 ghost use Rattle.std.specs.Str.{bytes_eq};
-ghost use Rattle.clap.specs.Words.{app_of};
-ghost use Rattle.node_settings.specs.Commands.{rule_for, rule_for_flag, with_rules, run_app, send_app, keys_app, journal_app, top_app, node_app, is_run_option};
+ghost use Rattle.clap.specs.Words.{app_of, rule_of};
+ghost use Rattle.node_settings.specs.Commands.{rule_for, run_rules, send_rules, keys_rules, journal_rules, rule_for_flag, send_flags, journal_flags, positional, with_rules, run_app, send_app, keys_app, journal_app, top_app, node_app, is_run_option};
 
 use clap::{Arg, ArgAction, Command};
 use std::alloc::{AllocError, Global};
 
-/// The version that `--version` tells.
-const VERSION: &str = "0.1.0";
+/// The version of the program, which `--version` prints.
+pub const VERSION: &str = "0.1.0";
 
 /// An option that takes a word.
 #[derive(Clone, Copy)]
@@ -22,11 +22,38 @@ struct WordOption {
     help: &'static str,
 }
 
+impl WordOption {
+    /// The option as the parser of words takes it.
+    fn arg<'a>(self, alloc: Global) -> Arg<'a>
+        ensures rule { rule_of result ≡ rule_for self }
+        ensures local { result.global ≡ false }
+    {
+        Arg::new(alloc, self.name)
+            .long(self.name)
+            .value_name(self.value)
+            .help(self.help)
+            .required(self.is_required)
+    }
+}
+
 /// An option that takes no word.
 #[derive(Clone, Copy)]
 struct Flag {
     name: &'static str,
     help: &'static str,
+}
+
+impl Flag {
+    /// The flag as the parser of words takes it.
+    fn arg<'a>(self, alloc: Global) -> Arg<'a>
+        ensures rule { rule_of result ≡ rule_for_flag self }
+        ensures local { result.global ≡ false }
+    {
+        Arg::new(alloc, self.name)
+            .long(self.name)
+            .action(ArgAction::SetTrue)
+            .help(self.help)
+    }
 }
 
 static RUN: [WordOption; 16] = [
@@ -179,6 +206,11 @@ static SEND: [WordOption; 8] = [
     },
 ];
 
+static SEND_FLAGS: [Flag; 1] = [Flag {
+    name: "close",
+    help: "Send the session's last transaction",
+}];
+
 static KEYS: [WordOption; 3] = [
     WordOption {
         name: "validators",
@@ -222,12 +254,59 @@ static JOURNAL_FLAGS: [Flag; 3] = [
     },
 ];
 
-/// Returns whether an option of `run` has this name.
+/// The options of `run`.
 #[tactic(auto, unfolding(crate::specs::Commands::run_rules))]
+fn run_options() -> &'static [WordOption]
+    ensures { map rule_for result.now ≡ run_rules }
+{
+    RUN.as_slice()
+}
+
+/// The options of `send`.
+#[tactic(auto, unfolding(crate::specs::Commands::send_rules))]
+fn send_options() -> &'static [WordOption]
+    ensures { map rule_for result.now ≡ send_rules }
+{
+    SEND.as_slice()
+}
+
+/// The options of `keys`.
+#[tactic(auto, unfolding(crate::specs::Commands::keys_rules))]
+fn keys_options() -> &'static [WordOption]
+    ensures { map rule_for result.now ≡ keys_rules }
+{
+    KEYS.as_slice()
+}
+
+/// The options of `journal`.
+#[tactic(auto, unfolding(crate::specs::Commands::journal_rules))]
+fn journal_options() -> &'static [WordOption]
+    ensures { map rule_for result.now ≡ journal_rules }
+{
+    JOURNAL.as_slice()
+}
+
+/// The flags of `send`.
+#[tactic(auto, unfolding(crate::specs::Commands::send_flags))]
+fn send_flags() -> &'static [Flag]
+    ensures { map rule_for_flag result.now ≡ send_flags }
+{
+    SEND_FLAGS.as_slice()
+}
+
+/// The flags of `journal`.
+#[tactic(auto, unfolding(crate::specs::Commands::journal_flags))]
+fn journal_flags() -> &'static [Flag]
+    ensures { map rule_for_flag result.now ≡ journal_flags }
+{
+    JOURNAL_FLAGS.as_slice()
+}
+
+/// Returns whether an option of `run` has this name.
 pub fn is_run_option(name: &str) -> bool
     ensures { result ≡ is_run_option name.now }
 {
-    is_among(RUN.as_slice(), name)
+    is_among(run_options(), name)
 }
 
 /// Returns whether an option has this name.
@@ -246,12 +325,7 @@ fn with_options<'a>(
     ensures { IfOk result (λ made. app_of made ≡ with_rules (app_of command.entry) (map rule_for options.now)) }
 {
     for option in options {
-        let arg = Arg::new(alloc, option.name)
-            .long(option.name)
-            .value_name(option.value)
-            .help(option.help)
-            .required(option.is_required);
-        command = command.arg(arg)?;
+        command = command.arg(option.arg(alloc))?;
     }
     Ok(command)
 }
@@ -265,54 +339,51 @@ fn with_flags<'a>(
     ensures { IfOk result (λ made. app_of made ≡ with_rules (app_of command.entry) (map rule_for_flag flags.now)) }
 {
     for flag in flags {
-        let arg = Arg::new(alloc, flag.name)
-            .long(flag.name)
-            .action(ArgAction::SetTrue)
-            .help(flag.help);
-        command = command.arg(arg)?;
+        command = command.arg(flag.arg(alloc))?;
     }
     Ok(command)
 }
 
-#[tactic(auto, unfolding(crate::specs::Commands::run_rules))]
 fn run_command<'a>(alloc: Global) -> Result<Command<'a>, AllocError>
     ensures { IfOk result (λ made. app_of made ≡ run_app) }
 {
     let command = Command::new(alloc, "run").about("Runs one validator");
-    with_options(alloc, command, RUN.as_slice())
+    with_options(alloc, command, run_options())
 }
 
-#[tactic(auto, unfolding(crate::specs::Commands::send_app))]
 fn send_command<'a>(alloc: Global) -> Result<Command<'a>, AllocError>
     ensures { IfOk result (λ made. app_of made ≡ send_app) }
 {
     let command = Command::new(alloc, "send").about("Sends transactions of a client");
-    let close = Arg::new(alloc, "close")
-        .long("close")
-        .help("Send the session's last transaction")
-        .action(ArgAction::SetTrue);
-    with_options(alloc, command, SEND.as_slice())?.arg(close)
+    let command = with_options(alloc, command, send_options())?;
+    with_flags(alloc, command, send_flags())
 }
 
-#[tactic(auto, unfolding(crate::specs::Commands::keys_app))]
 fn keys_command<'a>(alloc: Global) -> Result<Command<'a>, AllocError>
     ensures { IfOk result (λ made. app_of made ≡ keys_app) }
 {
     let command = Command::new(alloc, "keys").about("Makes the key file of every party");
-    with_options(alloc, command, KEYS.as_slice())
+    with_options(alloc, command, keys_options())
 }
 
-#[tactic(auto, unfolding(crate::specs::Commands::journal_app))]
+/// The argument of `journal` that is its file's name.
+fn journal_file<'a>(alloc: Global) -> Arg<'a>
+    ensures rule { rule_of result ≡ positional (codes "file") }
+    ensures local { result.global ≡ false }
+{
+    Arg::new(alloc, "file")
+        .value_name("FILE")
+        .help("The journal, which may be in use")
+        .required(true)
+}
+
 fn journal_command<'a>(alloc: Global) -> Result<Command<'a>, AllocError>
     ensures { IfOk result (λ made. app_of made ≡ journal_app) }
 {
     let command = Command::new(alloc, "journal").about("Prints what a validator's journal holds");
-    let file = Arg::new(alloc, "file")
-        .value_name("FILE")
-        .help("The journal, which may be in use")
-        .required(true);
-    let command = with_options(alloc, command.arg(file)?, JOURNAL.as_slice())?;
-    with_flags(alloc, command, JOURNAL_FLAGS.as_slice())
+    let command = command.arg(journal_file(alloc))?;
+    let command = with_options(alloc, command, journal_options())?;
+    with_flags(alloc, command, journal_flags())
 }
 
 /// The command of the program itself.

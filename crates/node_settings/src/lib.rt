@@ -26,7 +26,7 @@ mod sending;
 mod status_line;
 
 pub use answer::Answer;
-pub use command::is_run_option;
+pub use command::{VERSION, is_run_option};
 pub use failure::{ConfigTrouble, Failure, JournalTrouble, KeysTrouble};
 pub use invocation::{
     Invocation, Keeping, KeysSettings, Page, RunSettings, SendSettings, Sending, SettingsFault,

@@ -2,7 +2,9 @@
 
 ghost use Rattle.std.specs.Prelude.{◌≡◌, ◌≤◌, length, map, IfOk};
 ghost use Rattle.std.specs.List.{slice_split};
-ghost use Rattle.node_settings.specs.Words.{Gives, is_comma, power_in, every_number, powers_of, bytes_of};
+ghost use Rattle.std.specs.Result.{result_ok};
+ghost use Rattle.hex.specs.Hex.{decode_of};
+ghost use Rattle.node_settings.specs.Words.{Gives, or_usage, is_comma, power_in, every_number, powers_of, bytes_of};
 
 use crate::invocation::SettingsFault;
 use crate::options::number_between;
@@ -40,8 +42,16 @@ pub fn powers_of(alloc: Global, list: &str) -> Result<Powers, SettingsFault>
 {
     let words = words_of(alloc, list)?;
     let numbers = numbers_of(alloc, &words)?;
-    match Powers::new(numbers) {
-        Ok(powers) => Ok(powers),
+    Powers::new(numbers).ok().ok_or(SettingsFault::Usage)
+}
+
+/// The bytes that hexadecimal digits of either case are.
+fn decoded(alloc: Global, digits: &str) -> Result<Vec<u8>, SettingsFault>
+    ensures { Gives (λ bytes. bytes.items) result (or_usage (result_ok (decode_of digits.now))) }
+{
+    match hex::decode(alloc, digits.as_bytes()) {
+        Ok(bytes) => Ok(bytes),
+        Err(FromHexError::OutOfMemory) => Err(SettingsFault::OutOfMemory),
         Err(_) => Err(SettingsFault::Usage),
     }
 }
@@ -52,9 +62,10 @@ pub fn bytes_of(alloc: Global, digits: &str) -> Result<Seq<u8>, SettingsFault>
     ensures asked { Gives (λ bytes. bytes) result (bytes_of digits.now) }
     ensures lawful { IfOk result (λ bytes. length bytes ≤ 1024) }
 {
-    match hex::decode(alloc, digits.as_bytes()) {
-        Ok(bytes) if bytes.len() <= MOST_DATA => Ok(Seq::from_vec(bytes)),
-        Err(FromHexError::OutOfMemory) => Err(SettingsFault::OutOfMemory),
-        _ => Err(SettingsFault::Usage),
+    let bytes = decoded(alloc, digits)?;
+    if bytes.len() <= MOST_DATA {
+        Ok(Seq::from_vec(bytes))
+    } else {
+        Err(SettingsFault::Usage)
     }
 }

@@ -120,5 +120,5 @@ pub fn validators_of(found: &ArgMatches<'_>) -> Result<u16, SettingsFault>
 pub fn is_flagged(found: &ArgMatches<'_>, name: &str) -> bool
     ensures { result ≡ is_flagged name.now (rows_of (found_of found.now)) }
 {
-    word_of(found, name).is_some_and(|word| word == "true")
+    matches!(word_of(found, name), Some("true"))
 }

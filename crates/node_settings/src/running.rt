@@ -216,7 +216,7 @@ fn level_of(found: &ArgMatches<'_>) -> Result<LevelFilter, SettingsFault>
     ensures { result ≡ level_of (rows_of (found_of found.now)) }
 {
     match word_of(found, "log") {
-        Some(name) => name.parse().map_err(|_| SettingsFault::Usage),
+        Some(name) => name.parse().ok().ok_or(SettingsFault::Usage),
         None => Ok(LevelFilter::Info),
     }
 }

@@ -110,10 +110,13 @@ fn sending_of<'a>(
     ensures asked { Gives sent_words result (sent_of (option_map (λ word. word.now) digits.entry) close (option_map (λ word. word.now) file.entry)) }
     ensures lawful { IfOk result IsLawfulSending }
 {
-    match file {
-        None => Ok(Sending::One(op_of(alloc, digits, close)?)),
-        Some(file) if digits.is_none() && !close => Ok(Sending::Lines(file)),
-        Some(_) => Err(SettingsFault::Usage),
+    let Some(file) = file else {
+        return Ok(Sending::One(op_of(alloc, digits, close)?));
+    };
+    if digits.is_none() && !close {
+        Ok(Sending::Lines(file))
+    } else {
+        Err(SettingsFault::Usage)
     }
 }
 
@@ -122,9 +125,9 @@ fn op_of(alloc: Global, digits: Option<&str>, close: bool) -> Result<Op, Setting
     ensures asked { Gives (λ op. op) result (op_of (option_map (λ word. word.now) digits.entry) close) }
     ensures lawful { IfOk result IsOp }
 {
-    match digits {
-        None if close => Ok(Op::Close),
-        Some(digits) if !close => Ok(Op::Bytes(bytes_of(alloc, digits)?)),
+    match (digits, close) {
+        (None, true) => Ok(Op::Close),
+        (Some(digits), false) => Ok(Op::Bytes(bytes_of(alloc, digits)?)),
         _ => Err(SettingsFault::Usage),
     }
 }
