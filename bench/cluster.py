@@ -1,231 +1,149 @@
 #!/usr/bin/env python3
-"""Measures four validators on this machine: what bench/cluster.sh prints.
+"""Measures clusters of validators on this machine: what bench/cluster.sh prints.
 
-usage: bench/cluster.py [--with PROGRAM] [--seconds S] [--idle S] [--clients N] [--waiting M]
+usage: bench/cluster.py [--with PROGRAM] [--validators N,..] [--data BYTES,..] [--clients N [--window W]] [--seconds S] [--memory]
+                        [--links KEEPING] [--beside etcd] [--rest [--idle S]]
 
-PROGRAM is a built tmnode, bin/tmnode if none is named. S are the seconds under load and at idle, 10 and 60 if left out; N are
-the clients, 64 if left out, and M is how many transactions of each wait, 60 and at most 64. What a validator does under load
-is told where the machine has `perf`. Journals are on the disk of TMPDIR.
+PROGRAM is a built tmnode, bin/tmnode if none is named. A table has a line for each number of validators (4 if none is given), each
+length of a transaction (64) and each load: N clients each of which has W transactions that aren't listed yet, 1 if none is given;
+without --clients a lone client with one, 64 with one, and 256 with 16. S are the seconds of each line, 10 if left out. Journals
+and lists are on the disk of TMPDIR, with --memory in /dev/shm. KEEPING is guarded, as it also is if left out, or open.
+
+With --beside etcd there are lines for three nodes of etcd too, in the same place, where etcd and wrk are installed.
+--rest measures, in the place of all that, what four validators take for S seconds (60) to which nobody sends anything.
 """
 import argparse
-import multiprocessing
 import os
-import re
-import shutil
-import signal
 import statistics
-import subprocess
 import sys
 import tempfile
-import threading
 import time
 
-TOP = os.path.dirname(os.path.dirname(os.path.realpath(__file__)))
-sys.path.insert(0, f"{TOP}/test")
-import validators  # noqa: E402
+sys.dont_write_bytecode = True
+import beside
+from loads import TOP, Load, Running, build_sender, end_when_told, sync_time
 
-# How many processes send, and how many bytes a transaction has.
-SENDERS, BYTES = 4, 64
-TICKS = os.sysconf("SC_CLK_TCK")
-# How many transactions a second there are at most to be sent.
-MOST_A_SECOND = 96_000
-
-
-class Clients:
-    """Some clients that send each transaction to all validators, and follow validator 0's list."""
-
-    def __init__(self, cluster, clients, each):
-        self.links = [validators.dial(it) for it in cluster.addresses]
-        for link in self.links:
-            link.settimeout(None)
-            threading.Thread(target=self.forget_replies, args=(link,), daemon=True).start()
-        self.frames = {it: self.frames_of(cluster, it, each) for it in clients}
-        self.sent, self.listed = dict.fromkeys(clients, 0), dict.fromkeys(clients, 0)
-        self.times, self.waits, self.rest = {}, [], ""
-        self.list = open(cluster.list_of(0), encoding="utf-8")
-        self.list.seek(0, os.SEEK_END)
-
-    @staticmethod
-    def frames_of(cluster, client, each):
-        keys = cluster.tag_keys_of(client)
-        return [validators.transaction_frame(client, it + 1, b"x" * BYTES, keys) for it in range(each)]
-
-    @staticmethod
-    def forget_replies(link):
-        while link.recv(1 << 16):
-            time.sleep(0.002)
-
-    def next_of(self, client, most):
-        """Returns the frames of the client's next transactions, so many at most."""
-        first = self.sent[client]
-        frames = self.frames[client][first : first + most]
-        if frames:
-            self.sent[client] += len(frames)
-            self.times[client, self.sent[client]] = time.monotonic()
-        return b"".join(frames)
-
-    def send(self, window):
-        """Sends of each client as many as may wait."""
-        piece = b"".join(self.next_of(it, window + self.listed[it] - self.sent[it]) for it in self.sent)
-        for link in self.links if piece else ():
-            link.sendall(piece)
-
-    def follow(self):
-        """Reads the lines that are new, and returns how many of them are these clients'."""
-        *lines, self.rest = (self.rest + self.list.read()).split("\n")
-        now, count = time.monotonic(), 0
-        for line in lines:
-            _, client, number, _ = line.split(" ", 3)
-            if (client := int(client)) in self.listed:
-                self.listed[client], count = int(number), count + 1
-                began = self.times.pop((client, int(number)), None)
-                if began is not None:
-                    self.waits.append(now - began)
-        return count
-
-    def run(self, seconds, window):
-        """Keeps so many transactions of each client waiting, and returns how many were delivered."""
-        ends, count = time.monotonic() + seconds, 0
-        while time.monotonic() < ends:
-            self.send(window)
-            time.sleep(0.001)
-            count += self.follow()
-        return count
+LOADS = ((1, 1), (64, 1), (256, 16))
+# A load more where etcd is beside, whose clients wait for each put.
+BESIDE = (256, 1)
+COLUMNS = (
+    "cluster", "bytes", "clients x window", "delivered a second", "heights a second", "p50, ms", "p99, ms", "processor of each",
+    "processor µs for each transaction", "journal bytes for each", "processor of the sender",
+)
+# The manners of which the figures at rest are told.
+MANNERS = (
+    ("an empty height after 100 ms", {}),
+    ("an empty height after 500 ms (--idle 500)", {"start": 1000, "delta": 500, "idle": 500}),
+    ("empty heights at once (--idle 0)", {"idle": 0}),
+    ("a height is held open (--rest 60000)", {"rest": 60_000}),
+)
 
 
-def send_for(cluster, clients, given, barrier, told):
-    """Sends for these clients, in a process of its own."""
-    own = Clients(cluster, clients, MOST_A_SECOND * given.seconds // given.clients)
-    barrier.wait()
-    began = time.process_time()
-    count = own.run(given.seconds, given.waiting)
-    told.put((count, own.waits, (time.process_time() - began) / given.seconds))
+def line_of(cells):
+    return f"| {' | '.join(map(str, cells))} |"
 
 
-def processor_seconds(process):
-    fields = validators.read(f"/proc/{process.pid}/stat").rpartition(")")[2].split()
-    return sum(map(int, fields[11:13])) / TICKS
+def begin_table(columns):
+    print(line_of(columns), line_of(["---"] * len(columns)), sep="\n", flush=True)
 
 
-class Spent:
-    """What validators spend meanwhile."""
-
-    def __init__(self, cluster):
-        self.cluster, self.began, self.first = cluster, time.monotonic(), self.now(cluster)
-
-    @staticmethod
-    def now(cluster):
-        return [(processor_seconds(it), os.path.getsize(cluster.path(f"v{me}.journal"))) for me, it in sorted(cluster.running.items())]
-
-    def told(self):
-        took, pairs = time.monotonic() - self.began, [*zip(self.first, self.now(self.cluster))]
-        share = [(after[0] - before[0]) / took for before, after in pairs]
-        grown = [(after[1] - before[1]) for before, after in pairs]
-        return f"{', '.join(f'{it:.2f}' for it in share)} of a processor; journals grow by {max(grown):,} bytes", max(grown)
+def spread(shares):
+    """Returns the least and the most of some shares of a processor, or both at once where they are close."""
+    least, most = (f"{it(shares):.2f}" for it in (min, max))
+    return least if least == most else f"{least} to {most}"
 
 
-class Profile:
-    """What a validator's processor time goes into meanwhile, by samples."""
-
-    def __init__(self, process, file):
-        self.file, self.perf = file, None
-        if shutil.which("perf"):
-            words = ["perf", "record", "-e", "cpu-clock", "-F", "499", "-o", file, "-p", str(process.pid)]
-            self.perf = subprocess.Popen(words, stdout=subprocess.DEVNULL, stderr=subprocess.DEVNULL)
-
-    def told(self):
-        """Returns the shares of hashing and of the system, and the dearest functions."""
-        if not self.perf:
-            return "no `perf` is here to tell what a validator does"
-        self.perf.send_signal(signal.SIGINT)
-        self.perf.wait()
-        words = ["perf", "report", "-i", self.file, "--stdio", "-q", "--sort", "symbol"]
-        report = subprocess.run(words, capture_output=True, text=True, check=False).stdout
-        rows = [(float(it[1]), it[2], it[3]) for it in re.finditer(r"(?m)^ *([\d.]+)% +\[(.)\] +(.*?)(?: +- +-)? *$", report)]
-        if not rows:
-            return "`perf` takes no samples here"
-        hashing = sum(it[0] for it in rows if "sha2::" in it[2])
-        system = sum(it[0] for it in rows if it[1] == "k")
-        rest = [f"{it[2]} {it[0]:.0f}" for it in rows if it[1] != "k" and "sha2::" not in it[2]]
-        dearest = ", ".join(rest[:6])
-        return f"of validator 0's time {hashing:.0f} % is hashing, {system:.0f} % the system's; the dearest of the rest: {dearest}"
+def cells_of(name, load, seen):
+    """Returns a line's cells. What a cluster doesn't have is `-`."""
+    heights = "-" if seen.heights is None else f"{seen.heights:.0f}"
+    journal = "-" if seen.journal is None else f"{seen.journal:,.0f}"
+    times = f"{seen.middle * 1e3:.2f}", f"{seen.late * 1e3:.2f}"
+    given = load.bytes, f"{load.clients} x {load.window}"
+    taken = spread(seen.shares), f"{seen.processor() * 1e6:,.0f}", journal, f"{seen.sender:.2f}"
+    return [name, *given, f"{seen.delivered:,.0f}", heights, *times, *taken]
 
 
-def sync_time(folder):
-    """Returns how long the disk takes to save and sync 600 bytes, the middle of some times, in seconds."""
-    took = []
-    with open(f"{folder}/synced", "ab", buffering=0) as it:
-        for _ in range(200):
-            began = time.monotonic()
-            it.write(b"x" * 600)
-            os.fdatasync(it.fileno())
-            took.append(time.monotonic() - began)
-    return statistics.median(took)
+def told(name, load, seen):
+    """Prints a line, and returns what else there is to be said of it."""
+    print(line_of(cells_of(name, load, seen)), flush=True)
+    return [f"{name}, {load.bytes} bytes, {load.clients} x {load.window}: {it}" for it in seen.notes]
 
 
-def told_of_waits(waits):
-    if not waits:
-        return "none has its line"
-    waits = sorted(waits)
-    middle, late = waits[len(waits) // 2], waits[len(waits) * 99 // 100]
-    return f"{middle * 1e3:.2f} ms from sending to its line, the middle of {len(waits)}; {late * 1e3:.2f} ms the 99th of a hundred"
+def measure(given, parent, sender):
+    """Prints the lines of our clusters, and returns what else there is to be said of them."""
+    notes = []
+    for count in given.validators:
+        for load in given.loads:
+            with Running(given.program, parent, count, load.clients, links=given.links) as running:
+                seen = running.figures(sender, load, given.seconds)
+            notes += told(f"{count} validators", load, seen)
+    return notes
 
 
-def measure(cluster, given):
-    cluster.begin(given.clients + 1)
-    print(f"a save and sync of 600 bytes takes {sync_time(cluster.folder) * 1e3:.2f} ms", flush=True)
-    for me in range(4):
-        cluster.start(me)
-    time.sleep(2)
-    print(f"one transaction at a time: {told_of_waits(one_at_a_time(Clients(cluster, [given.clients], 100)))}", flush=True)
-    under_load(cluster, given)
-    time.sleep(3)
-    spent, heights = Spent(cluster), cluster.decisions_of(0)
-    time.sleep(given.idle)
-    print(f"idle for {given.idle} s: {spent.told()[0]}; {(cluster.decisions_of(0) - heights) / given.idle:.0f} heights a second")
+def measure_etcd(given, parent):
+    """Prints the lines of etcd, and returns what else there is to be said of them."""
+    if lacking := beside.lacking():
+        return [lacking]
+    notes = []
+    for api in beside.APIS:
+        for load in dict.fromkeys(it._replace(window=1) for it in given.loads):
+            with beside.Etcd(parent) as etcd:
+                seen = etcd.figures(api, load, given.seconds)
+            notes += told(f"3 of etcd, {api}", load, seen)
+    return notes
 
 
-def under_load(cluster, given):
-    barrier, told = multiprocessing.Barrier(SENDERS + 1), multiprocessing.Queue()
-    for it in range(SENDERS):
-        clients = range(it, given.clients, SENDERS)
-        multiprocessing.Process(target=send_for, args=(cluster, clients, given, barrier, told), daemon=True).start()
-    barrier.wait()
-    spent, heights, profile = Spent(cluster), cluster.decisions_of(0), Profile(cluster.running[0], cluster.path("perf.data"))
-    each = [told.get() for _ in range(SENDERS)]
-    count, waits, (text, grown) = sum(it[0] for it in each), [wait for it in each for wait in it[1]], spent.told()
-    heights = cluster.decisions_of(0) - heights
-    print(f"{given.clients} clients with {given.waiting} waiting: {count / given.seconds:,.0f} transactions and {heights / given.seconds:.0f} heights a second")
-    print(f"  {told_of_waits(waits)}")
-    print(f"  the validators take {text}, {grown / max(1, count):.0f} for each transaction; who sends takes {sum(it[2] for it in each):.2f}")
-    print(f"  {profile.told()}", flush=True)
+def print_loads(given, parent):
+    sender = build_sender(parent)
+    begin_table(COLUMNS)
+    notes = measure(given, parent, sender) + (measure_etcd(given, parent) if given.beside else [])
+    for it in notes:
+        print(f"- {it}")
 
 
-def one_at_a_time(clients):
-    """Returns how long each of some transactions takes that comes alone."""
-    for _ in range(100):
-        clients.send(1)
-        while not clients.follow():
-            time.sleep(0.0001)
-        time.sleep(0.005)
-    return clients.waits
+def print_rest(given, parent):
+    """Prints what four validators take to which nobody sends anything."""
+    begin_table(("four validators at rest", "heights a second", "processor of each", "journal bytes a second of each"))
+    for name, how in MANNERS:
+        with Running(given.program, parent, 4, 1, links=given.links, **how) as running:
+            time.sleep(2)
+            spent = running.spent()
+            time.sleep(given.idle)
+            took, shares, sizes = spent.since()
+            grown = statistics.mean(new - old for old, new in sizes) / took
+            print(line_of([name, f"{running.heights(sizes) / took:.1f}", spread(shares), f"{grown:,.0f}"]), flush=True)
+
+
+def numbers(text):
+    return [int(it) for it in text.split(",")]
+
+
+def words():
+    asked = argparse.ArgumentParser(description=__doc__.splitlines()[0])
+    asked.add_argument("--with", dest="program", default=f"{TOP}/bin/tmnode", help="a built tmnode")
+    asked.add_argument("--validators", type=numbers, default=[4], help="how many, with commas between them")
+    asked.add_argument("--data", type=numbers, default=[64], help="bytes of a transaction, with commas between them")
+    asked.add_argument("--clients", type=int, help="one load of so many clients")
+    asked.add_argument("--window", type=int, default=1, help="how many transactions of each wait, at most 64")
+    asked.add_argument("--seconds", type=int, default=10, help="how long each load lasts")
+    asked.add_argument("--memory", action="store_true", help="journals in /dev/shm")
+    asked.add_argument("--links", choices=("guarded", "open"), default="guarded")
+    asked.add_argument("--beside", choices=("etcd",), help="lines of three nodes of etcd too")
+    asked.add_argument("--rest", action="store_true", help="what is taken without any load")
+    asked.add_argument("--idle", type=int, default=60, help="for how many seconds that is measured")
+    return asked
 
 
 def main():
-    words = argparse.ArgumentParser(description=__doc__.splitlines()[0])
-    words.add_argument("--with", dest="program", default=f"{TOP}/bin/tmnode")
-    words.add_argument("--seconds", type=int, default=10)
-    words.add_argument("--idle", type=int, default=60)
-    words.add_argument("--clients", type=int, default=64)
-    words.add_argument("--waiting", type=int, default=60)
-    given = words.parse_args()
-    folder = tempfile.mkdtemp(prefix="cluster.")
-    cluster = validators.Cluster(os.path.realpath(given.program), folder)
-    try:
-        measure(cluster, given)
-    finally:
-        cluster.end()
-        shutil.rmtree(folder)
+    given = words().parse_args()
+    end_when_told()
+    usual = sorted([*LOADS, BESIDE]) if given.beside else LOADS
+    loads = usual if given.clients is None else ((given.clients, given.window),)
+    given.loads = [Load(*load, size) for size in given.data for load in loads]
+    with tempfile.TemporaryDirectory(prefix="cluster.", dir="/dev/shm" if given.memory else None) as parent:
+        synced = f"a save and sync of 600 bytes takes {sync_time(parent) * 1e3:.2f} ms in {os.path.dirname(parent)}"
+        print(f"{os.cpu_count()} processors, load {os.getloadavg()[0]:.1f} before; {synced}\n", flush=True)
+        (print_rest if given.rest else print_loads)(given, parent)
 
 
 if __name__ == "__main__":

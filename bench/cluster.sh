@@ -1,8 +1,11 @@
 #!/usr/bin/env bash
-# What four validators on this machine deliver: transactions of 64 bytes a second from 64 clients that send to all of them,
-# how long one takes from its sending to its line, also where it comes alone, the processor time of each validator and what of
-# it is hashing, the bytes of its journal, what a sync takes, and what an idle minute takes.
+# What clusters of validators on this machine deliver, how late, and what that takes: a table with a line for each number of
+# validators, length of a transaction and load. With --beside etcd it has lines of three nodes of etcd too; --rest measures in its
+# place what validators take that get nothing. With --with PROGRAM that tmnode is taken; without it the proved one in bin/, which is
+# brought up to date first.
+# usage: bench/cluster.sh [--with PROGRAM] [--validators N,..] [--data BYTES,..] [--clients N [--window W]] [--seconds S] [--memory]
+#                         [--links KEEPING] [--beside etcd] [--rest [--idle S]]
 set -euo pipefail
-cd "$(dirname "${BASH_SOURCE[0]}")/.."
-./build.sh >&2
-exec bench/cluster.py "$@"
+top=$(dirname "${BASH_SOURCE[0]}")/..
+case " $* " in *" --with"* | *" --help "* | *" -h "*) ;; *) "$top/build.sh" >&2 ;; esac
+exec "$top/bench/cluster.py" "$@"
