@@ -9,10 +9,12 @@ ghost use Rattle.frame_admission.specs.Gate.{GateLaw};
 
 mod admission;
 mod own_frames;
+mod tagger;
 mod tags;
 
 pub use admission::admit;
 pub use own_frames::{bytes_of, frame_for, frame_of_body, own_tags};
+pub use tagger::{InTurn, Tagger};
 pub use tags::is_genuine;
 
 /// What the gate refuses, a node in any state refuses for the same cause; and against a message that is let in there

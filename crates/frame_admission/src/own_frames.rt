@@ -7,6 +7,7 @@ ghost use Rattle.protocol.specs.Tags.{Setting};
 ghost use Rattle.protocol.specs.Messages.{Body as Spelled, OfVote, precommit, sender_of, tagged};
 ghost use Rattle.protocol.specs.Rings.{IsRingOf};
 
+use crate::tagger::{InTurn, Tagger};
 use authenticators::{KeyRing, Party, tag_all};
 use messages::{Body, Step, Vote, frame_of, spell_body};
 use std::alloc::{AllocError, Global};
@@ -22,18 +23,23 @@ pub fn frame_for(alloc: Global, ring: &KeyRing, body: &Body) -> Result<Vec<u8>, 
     ensures { (c : Setting) (p : ℕ) → IsRingOf c p ring.now → IfOk result (λ frame. frame.items ≡ frame_spelling (tagged c body.now)) }
 {
     let bytes = bytes_of(alloc, body)?;
-    frame_of_body(alloc, ring, &bytes)
+    frame_of_body(alloc, &InTurn, ring, &bytes)
 }
 
 /// The frame of an own body that is spelled already, with a right tag for each of up to 128 validators.
 ///
 /// The body is hashed once for each tag, and copied once into the frame. It is refused for want of memory alone.
-pub fn frame_of_body(alloc: Global, ring: &KeyRing, body: &[u8]) -> Result<Vec<u8>, AllocError>
+pub fn frame_of_body<T: Tagger>(
+    alloc: Global,
+    tagger: &T,
+    ring: &KeyRing,
+    body: &[u8],
+) -> Result<Vec<u8>, AllocError>
     requires few { ring.now.count ≤ 128 }
     requires short { length body.now ≤ 1044479 }
     ensures { (c : Setting) (p : ℕ) (b : Spelled) → IsRingOf c p ring.now → sender_of b ≡ ring.now.me → body.now ≡ body_spelling b → IfOk result (λ frame. frame.items ≡ frame_spelling (tagged c b)) }
 {
-    let tags = tag_all(alloc, ring, body)?;
+    let tags = tagger.tags(alloc, ring, body)?;
     frame_of(alloc, body, &tags)
 }
 

@@ -20,6 +20,7 @@ use crate::history::History;
 use crate::meeting::is_segment;
 use crate::place::{Place, count_from};
 use crate::subscription::{SubscribeFault, Subscription};
+use frame_admission::{InTurn, Tagger};
 use node_core::NodeCore;
 use protocol::{MOST_CLIENTS, Refusal, Step, Timeout};
 use status_words::{Node, Publisher, Seat, Status, Words};
@@ -212,8 +213,19 @@ impl<S: Store + Drop, J: Node> State<S, J> {
         ensures same { self.new ≡ record self.old { core = self.new.core; calls = self.new.calls } }
         ensures locked { IsLocked self.new }
     {
+        self.step_with(&InTurn, event)
+    }
+
+    /// As `step`, where the tags of what is released are made by another one.
+    pub fn step_with<'a, T: Tagger>(&mut self, tagger: &T, event: Event<'a>) -> Stepped<'a>
+        ensures event { result.event ≡ heard event.entry }
+        ensures does { Does (heard event.entry) result.answer self.old.core self.new.core }
+        ensures calls { self.new.calls ≡ calls_after (heard event.entry) result.answer self.new.core.fired self.old.calls }
+        ensures same { self.new ≡ record self.old { core = self.new.core; calls = self.new.calls } }
+        ensures locked { IsLocked self.new }
+    {
         let before = self.core.decisions().len();
-        let answer = ask_core(&mut self.core, event);
+        let answer = ask_core(&mut self.core, tagger, event);
         let told = Told {
             event,
             answer,

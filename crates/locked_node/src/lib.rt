@@ -16,6 +16,6 @@ pub use event::Event;
 pub use feeding::Stop;
 pub use laws::{certificates_law, count_law, subscribers_law};
 pub use lent::{Ahead, Done, Gauges, Met, Offered, State, Stepped};
-pub use node::{LockedNode, Released, words_for};
+pub use node::{HeldNode, LockedNode, Released, words_for};
 pub use place::Uncopied;
 pub use subscription::{SubscribeFault, Subscription};

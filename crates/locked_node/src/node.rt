@@ -15,11 +15,12 @@ use crate::event::Event;
 use crate::lent::{Done, Gauges, Met, State};
 use crate::place::count_from;
 use crate::subscription::{SubscribeFault, Subscription};
+use frame_admission::{InTurn, Tagger};
 use node_core::NodeCore;
 use protocol::Timeout;
 use status_words::{Node, Opened, Seat, Status, Words};
 use std::alloc::{AllocError, Global};
-use std::sync::{Mutex, Wait};
+use std::sync::{Mutex, MutexGuard, Wait};
 use subscriber_ring::Delivered;
 use vote_journal::Store;
 
@@ -39,6 +40,13 @@ pub fn words_for<S: Store + Drop>(alloc: Global, core: &NodeCore<S>) -> Result<O
         delivered: count_from(0, core.decisions(), 0),
     };
     Opened::new(alloc, status)
+}
+
+/// A node whose lock is held: of what it is asked nothing of another thread comes between.
+#[derive(Drop)]
+pub struct HeldNode<'a, S: Store + Drop, J: Node> {
+    words: &'a Words<J>,
+    state: MutexGuard<'a, State<S, J>>,
 }
 
 /// What a node let go since it was last asked.
@@ -121,18 +129,21 @@ impl<S: Store + Drop, J: Node> LockedNode<S, J> {
         self.act(rt, seat, Event::Resend)
     }
 
-    /// One event under the lock: the core is asked, the rings are offered what was delivered, and the
-    /// status is published.
+    /// One event under the lock.
     fn act<'a, R: Wait>(&self, rt: &R, seat: &mut Seat<J>, event: Event<'a>) -> Done<'a>
         ensures event { result.event ≡ heard event.entry }
         ensures seen { seat.new ≡ with_both seat.old result.height result.delivered }
         ensures later { (seat.old.height ≤ result.height) × (seat.old.delivered ≤ result.delivered) }
     {
-        let mut guard = self.state.lock(rt);
-        let state = &mut *guard;
-        let stepped = state.step(event);
-        let offered = state.offer_all(rt, stepped);
-        state.publish(&self.words, offered, seat)
+        self.hold(rt).call(rt, &InTurn, seat, event)
+    }
+
+    /// Waits for the lock, and holds it.
+    pub fn hold<R: Wait>(&self, rt: &R) -> HeldNode<'_, S, J> {
+        HeldNode {
+            words: &self.words,
+            state: self.state.lock(rt),
+        }
     }
 
     /// Takes the frames that were released since the last call, in order.
@@ -198,5 +209,26 @@ impl<S: Store + Drop, J: Node> LockedNode<S, J> {
         ensures later { (seat.old.height ≤ result.height) × (seat.old.delivered ≤ result.delivered) }
     {
         self.words.status(seat)
+    }
+}
+
+impl<S: Store + Drop, J: Node> HeldNode<'_, S, J> {
+    /// One event: the core is asked, the rings are offered what was delivered, and the status is published. The tags of what is
+    /// released are made as the caller says.
+    pub fn call<'a, T: Tagger, R: Wait>(
+        &mut self,
+        rt: &R,
+        tagger: &T,
+        seat: &mut Seat<J>,
+        event: Event<'a>,
+    ) -> Done<'a>
+        ensures event { result.event ≡ heard event.entry }
+        ensures seen { seat.new ≡ with_both seat.old result.height result.delivered }
+        ensures later { (seat.old.height ≤ result.height) × (seat.old.delivered ≤ result.delivered) }
+    {
+        let state = &mut *self.state;
+        let stepped = state.step_with(tagger, event);
+        let offered = state.offer_all(rt, stepped);
+        state.publish(self.words, offered, seat)
     }
 }

@@ -1,6 +1,6 @@
 //! Frames out of bytes that come in pieces of any length, as a socket gives them.
 
-ghost use Rattle.std.specs.Prelude.{◌≡◌, ◌≤◌, length, take, OnOk, IfErr, Err, MatchResult, MatchOption};
+ghost use Rattle.std.specs.Prelude.{◌≡◌, ◌≤◌, ◌++◌, ◌⊎◌, length, take, OnOk, IfErr, Err, MatchResult, MatchOption};
 ghost use Rattle.std.specs.Borrow.{sem};
 ghost use Rattle.transactions.specs.declared.fault.Fault.TheVariants.{Truncated, TooLong, OutOfMemory};
 ghost use Rattle.messages.specs.Framing.{content_of};
@@ -133,6 +133,13 @@ impl FrameReader {
         }
     }
 
+    /// Returns the frames that stand whole in the reader, which stay there.
+    pub fn whole_frames(&self) -> WholeFrames<'_>
+        ensures { result ≡ self.now.rest }
+    {
+        WholeFrames { rest: self.rest() }
+    }
+
     /// Whether the stream may end here: nothing is left.
     ///
     /// Faults: `TooLong` (2) once `next_frame` has answered it, else `Truncated` (1) where a part of a
@@ -147,5 +154,38 @@ impl FrameReader {
             return Err(Fault::Truncated);
         }
         Ok(())
+    }
+}
+
+/// The frames that stand whole in a reader, in order: for who looks at several before it takes any. Contracts see the bytes that are not
+/// looked at yet.
+#[derive(Debug, Drop)]
+pub struct WholeFrames<'a> {
+    rest: &'a [u8],
+}
+
+impl<'a> Model for WholeFrames<'a> {
+    ghost use Rattle.std.specs.Prelude.{List, ℕ};
+
+    ghost Value = { List ℕ };
+
+    ghost view = { λ w. w.rest.now };
+}
+
+impl<'a> WholeFrames<'a> {
+    /// Returns the next frame, as `next_frame` will give it, or nothing where none is whole or its length is above the limit.
+    pub fn next_whole(&mut self) -> Option<&'a [u8]>
+        ensures { MatchOption result
+            ((self.new ≡ self.old) × ((content_of self.old ≡ Err Truncated) ⊎ (content_of self.old ≡ Err TooLong)))
+            (λ frame. IsFrame frame.now × (self.old ≡ frame.now ++ self.new)) }
+    {
+        match front_len(self.rest) {
+            Ok(Some(len)) => {
+                let (frame, rest) = self.rest.split_at(len);
+                self.rest = rest;
+                Some(frame)
+            }
+            Ok(None) | Err(_) => None,
+        }
     }
 }

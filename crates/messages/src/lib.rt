@@ -34,7 +34,7 @@ mod writing;
 pub use body::{
     Ask, Body, Bundle, Message, Precommit, Proposal, Step, Vote, same_proposal, same_vote,
 };
-pub use frame_reader::FrameReader;
+pub use frame_reader::{FrameReader, WholeFrames};
 pub use framing::{body_in, frame_of, read, spell};
 pub use laws::pieces_law;
 pub use limits::{LONGEST_CONTENT, MOST_PRECOMMITS};

@@ -14,7 +14,7 @@ ghost use Rattle.protocol.specs.Answers.{Answers};
 ghost use Rattle.node_core.specs.Calls.{IsDone, IsBroken, IsLeftBy, IsTaken, IsUnfired, IsUnchanged, TellsJournal, input_cut};
 
 use crate::node::NodeCore;
-use frame_admission::{admit, frame_for};
+use frame_admission::{InTurn, Tagger, admit, frame_for};
 use messages::{Ask, Body, FrameReader};
 use protocol::{Refusal, Timeout};
 use round_machine::{Rule, holds_timeout, timeout_refusal};
@@ -31,10 +31,22 @@ impl<S: Store + Drop> NodeCore<S> {
         ensures journal { TellsJournal result self.old.journal self.new.journal }
         ensures quiet { OnOk result (enabled self.new.machine.powers self.new.machine.state ≡ None) }
     {
+        self.handle_with(&InTurn, frame)
+    }
+
+    /// As `handle`, where the tags of what is released are made by another one.
+    pub fn handle_with<T: Tagger>(&mut self, tagger: &T, frame: &[u8]) -> Result<(), Refusal>
+        ensures answer { (n : Node) → Stands n self.old → Answers self.old.journal.failed (answer (setting_of self.old) self.old.machine.me n frame.now) result }
+        ensures done { (n : Node) → Stands n self.old → IsDone n (Given frame.now) result self.old self.new }
+        ensures broken { result ≡ Err Refusal.JournalFailed → (n : Node) → Stands n self.old → IsBroken n (Given frame.now) self.old self.new }
+        ensures refused { IfErr result (λ r. (r ≡ Refusal.OutOfMemory) ⊎ (r ≡ Refusal.JournalFailed) ⊎ IsUnchanged self.old self.new) }
+        ensures journal { TellsJournal result self.old.journal self.new.journal }
+        ensures quiet { OnOk result (enabled self.new.machine.powers self.new.machine.state ≡ None) }
+    {
         self.begin()?;
         let message = admit(self.alloc, &self.ring, frame)?;
         self.take(message)?;
-        self.fire_all()
+        self.fire_all(tagger)
     }
 
     /// Takes in the next frame of a stream, where it stands whole in this reader: whether it does. Then the call is as `handle` of
@@ -63,16 +75,32 @@ impl<S: Store + Drop> NodeCore<S> {
         ensures journal { TellsJournal result self.old.journal self.new.journal }
         ensures quiet { OnOk result (enabled self.new.machine.powers self.new.machine.state ≡ None) }
     {
+        self.fire_timeout_with(&InTurn, timeout)
+    }
+
+    /// As `fire_timeout`, where the tags of what is released are made by another one.
+    pub fn fire_timeout_with<T: Tagger>(
+        &mut self,
+        tagger: &T,
+        timeout: Timeout,
+    ) -> Result<(), Refusal>
+        ensures answer { Answers self.old.journal.failed (timeout_answer self.old.machine.state timeout) result }
+        ensures done { (n : Node) → Stands n self.old → IsDone n (Due timeout) result self.old self.new }
+        ensures broken { result ≡ Err Refusal.JournalFailed → (n : Node) → Stands n self.old → IsBroken n (Due timeout) self.old self.new }
+        ensures refused { IfErr result (λ r. (r ≡ Refusal.OutOfMemory) ⊎ (r ≡ Refusal.JournalFailed) ⊎ IsUnchanged self.old self.new) }
+        ensures journal { TellsJournal result self.old.journal self.new.journal }
+        ensures quiet { OnOk result (enabled self.new.machine.powers self.new.machine.state ≡ None) }
+    {
         self.begin()?;
         if let Some(refusal) = timeout_refusal(&self.state, timeout) {
             return Err(refusal);
         }
-        self.fire_due(timeout)?;
-        self.fire_all()
+        self.fire_due(tagger, timeout)?;
+        self.fire_all(tagger)
     }
 
     /// Fires the timeout's own rule, where it holds.
-    fn fire_due(&mut self, timeout: Timeout) -> Result<(), Refusal>
+    fn fire_due<T: Tagger>(&mut self, tagger: &T, timeout: Timeout) -> Result<(), Refusal>
         requires running { self.old.journal.failed ≡ false }
         ensures ok { OnOk result ((n : Node) → Stands n self.old → IsTaken n (Due timeout) self.old self.new) }
         ensures broken { result ≡ Err Refusal.JournalFailed → (n : Node) → Stands n self.old → IsLeftBy (setting_of self.old) self.old.machine.me n (input_cut (Due timeout)) self.new.journal.bytes }
@@ -80,7 +108,7 @@ impl<S: Store + Drop> NodeCore<S> {
         ensures err { IfErr result (λ r. IsUnfired r self.old self.new) }
     {
         if holds_timeout(&self.state, timeout) {
-            self.fire(Rule::TimedOut(timeout))
+            self.fire(tagger, Rule::TimedOut(timeout))
         } else {
             Ok(())
         }
@@ -95,8 +123,20 @@ impl<S: Store + Drop> NodeCore<S> {
         ensures journal { TellsJournal result self.old.journal self.new.journal }
         ensures quiet { OnOk result (enabled self.new.machine.powers self.new.machine.state ≡ None) }
     {
+        self.settle_with(&InTurn)
+    }
+
+    /// As `settle`, where the tags of what is released are made by another one.
+    pub fn settle_with<T: Tagger>(&mut self, tagger: &T) -> Result<(), Refusal>
+        ensures answer { Answers self.old.journal.failed None result }
+        ensures done { (n : Node) → Stands n self.old → IsDone n Settle result self.old self.new }
+        ensures broken { result ≡ Err Refusal.JournalFailed → (n : Node) → Stands n self.old → IsBroken n Settle self.old self.new }
+        ensures refused { IfErr result (λ r. (r ≡ Refusal.OutOfMemory) ⊎ (r ≡ Refusal.JournalFailed) ⊎ IsUnchanged self.old self.new) }
+        ensures journal { TellsJournal result self.old.journal self.new.journal }
+        ensures quiet { OnOk result (enabled self.new.machine.powers self.new.machine.state ≡ None) }
+    {
         self.begin()?;
-        self.fire_all()
+        self.fire_all(tagger)
     }
 
     /// A call begins, of which no rule has fired. A node that has halted refuses it.

@@ -14,7 +14,7 @@ ghost use Rattle.node_core.specs.Saving.{IsWritten, IsUnwritten};
 
 use crate::journal::{NodeJournal, Unfired};
 use crate::node::NodeCore;
-use frame_admission::{bytes_of, frame_of_body};
+use frame_admission::{Tagger, bytes_of, frame_of_body};
 use messages::Body;
 use protocol::{OwnMessage, Record, Timeout};
 use round_states::{Plan, Said, State};
@@ -53,14 +53,14 @@ pub(crate) struct Fired {
 
 impl<S: Store + Drop> NodeCore<S> {
     /// Spells what a plan says, once.
-    pub(crate) fn spelled(&self, plan: &Plan) -> Result<Spelled, AllocError>
+    pub(crate) fn spelled<T: Tagger>(&self, tagger: &T, plan: &Plan) -> Result<Spelled, AllocError>
         requires place { IsOfPlace self.now.machine plan.now.change (says plan.now) }
         ensures record { IfOk result (λ w. IfSome (says plan.now) (λ r. IsRecord self.now.machine.me r → w.record.items ≡ record_spelling self.now.machine.me r)) }
         ensures frame { IfOk result (λ w. bytes_in w.frame ≡ map (frame_by self.now) (option_to_list (released_by self.now.machine.me (says plan.now)))) }
         ensures body { OnOk result (IfSome (released_by self.now.machine.me (says plan.now)) IsBody) }
     {
         match (self.state.message_of(plan)?, &plan.entry) {
-            (Some(body), Some(Record::Own(message))) => self.spelled_own(message, &body),
+            (Some(body), Some(Record::Own(message))) => self.spelled_own(tagger, message, &body),
             (Some(_), _) => unreachable!(),
             (None, entry) => Ok(Spelled {
                 record: self.spelled_record(entry)?,
@@ -72,7 +72,12 @@ impl<S: Store + Drop> NodeCore<S> {
 
 impl<S: Store + Drop> NodeCore<S> {
     /// Spells an own message by its body.
-    fn spelled_own(&self, message: &OwnMessage, body: &Body) -> Result<Spelled, AllocError>
+    fn spelled_own<T: Tagger>(
+        &self,
+        tagger: &T,
+        message: &OwnMessage,
+        body: &Body,
+    ) -> Result<Spelled, AllocError>
         requires body { body.now ≡ body_of self.now.machine.me message.now.height message.now.round (act_of message.now.act) }
         requires fits { IsBody body.now }
         ensures record { let r = record_of (Record.Own message.now) in IfOk result (λ w. IsRecord self.now.machine.me r → w.record.items ≡ record_spelling self.now.machine.me r) }
@@ -81,7 +86,7 @@ impl<S: Store + Drop> NodeCore<S> {
         let bytes = bytes_of(self.alloc, body)?;
         let record = spell_own(self.alloc, message, &bytes)?;
         let frame = OwnFrame {
-            bytes: frame_of_body(self.alloc, &self.ring, &bytes)?,
+            bytes: frame_of_body(self.alloc, tagger, &self.ring, &bytes)?,
         };
         Ok(Spelled {
             record,

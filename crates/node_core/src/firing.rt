@@ -16,7 +16,7 @@ ghost use Rattle.node_core.specs.Firing.{IsHanded, IsFit, IsReady, IsRoundHanded
 
 use crate::carrying::{Fired, Spelled, carry_out, released};
 use crate::node::NodeCore;
-use frame_admission::own_tags;
+use frame_admission::{Tagger, own_tags};
 use height_catchup::Decisions;
 use mempool::Mempool;
 use messages::Body;
@@ -35,7 +35,7 @@ struct Ready {
 
 impl<S: Store + Drop> NodeCore<S> {
     /// Fires the first enabled rule, again and again, until none is enabled, or one can't fire for memory or the journal.
-    pub(crate) fn fire_all(&mut self) -> Result<(), Refusal>
+    pub(crate) fn fire_all<T: Tagger>(&mut self, tagger: &T) -> Result<(), Refusal>
         requires running { self.old.journal.failed ≡ false }
         ensures answer { IfErr result (λ r. (r ≡ Refusal.OutOfMemory) ⊎ (r ≡ Refusal.JournalFailed)) }
         ensures journal { TellsJournal result self.old.journal self.new.journal }
@@ -45,7 +45,7 @@ impl<S: Store + Drop> NodeCore<S> {
     {
         self.fired = 0;
         while let Some(rule) = self.enabled() {
-            self.fire(rule)?;
+            self.fire(tagger, rule)?;
             self.fired = self.fired.saturating_add(1);
         }
         Ok(())
@@ -62,7 +62,7 @@ impl<S: Store + Drop> NodeCore<S> {
     }
 
     /// Fires a rule that holds.
-    pub(crate) fn fire(&mut self, rule: Rule) -> Result<(), Refusal>
+    pub(crate) fn fire<T: Tagger>(&mut self, tagger: &T, rule: Rule) -> Result<(), Refusal>
         ghost g: { Context }
         requires running { self.old.journal.failed ≡ false }
         requires context { g ≡ context_of self.old }
@@ -78,7 +78,7 @@ impl<S: Store + Drop> NodeCore<S> {
         let Ready {
             plan,
             spelled: Spelled { record, frame },
-        } = self.prepare(rule)?;
+        } = self.prepare(tagger, rule)?;
         make_room(
             &mut self.outgoing,
             &mut self.scheduled,
@@ -99,7 +99,7 @@ impl<S: Store + Drop> NodeCore<S> {
     }
 
     /// Plans a rule that holds, and spells what it says. Nothing changes yet.
-    fn prepare(&self, rule: Rule) -> Result<Ready, AllocError>
+    fn prepare<T: Tagger>(&self, tagger: &T, rule: Rule) -> Result<Ready, AllocError>
         ghost g: { Context }
         requires context { g ≡ context_of self.now }
         requires placed { IsPlaced self.now.machine.state rule }
@@ -108,7 +108,7 @@ impl<S: Store + Drop> NodeCore<S> {
     {
         let input = self.input(rule)?;
         let plan = plan(&self.state, rule, input)?;
-        let spelled = self.spelled(&plan)?;
+        let spelled = self.spelled(tagger, &plan)?;
         Ok(Ready { plan, spelled })
     }
 

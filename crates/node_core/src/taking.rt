@@ -20,7 +20,7 @@ ghost use Rattle.node_core.specs.Calls.{IsReceived, IsLeft, IsRefused, IsUnfired
 use crate::carrying::{Fired, Spelled, carry_out};
 use crate::firing::{make_room, note, push_one};
 use crate::node::NodeCore;
-use frame_admission::frame_for;
+use frame_admission::{InTurn, frame_for};
 use height_catchup::{certified, judge};
 use messages::{Ask, Body, Bundle, Message, Proposal, Vote};
 use protocol::{MOST_HEIGHT, Refusal};
@@ -178,7 +178,7 @@ impl<S: Store + Drop> NodeCore<S> {
     {
         let certificate = certified(self.alloc, bundle, &self.ring)?;
         let plan = plan_by_bundle(&self.state, certificate)?;
-        let Spelled { record, frame: _ } = self.spelled(&plan)?;
+        let Spelled { record, frame: _ } = self.spelled(&InTurn, &plan)?;
         make_room(
             &mut self.outgoing,
             &mut self.scheduled,

@@ -101,6 +101,11 @@ impl Meters {
         self.frames_sent.add(1);
     }
 
+    /// Counts frames that wait behind another one in a link's queue, to be written with it.
+    pub fn sent_beside(&self, count: u64) {
+        self.frames_sent.add(count);
+    }
+
     /// Notes how many frames had no room in a link's queue, of all so far.
     pub fn set_dropped(&self, count: u64) {
         self.frames_dropped.set(count);

@@ -7,7 +7,7 @@ use Rattle.peer_links.specs.declared.link.Sent.TheVariants.{Taken, Idle as NoneT
 
 -- a piece has from 1 to 4,096 bytes
 abbrev pub IsPiece : Received → Type 0
-IsPiece (Piece n) = (1 ≤ n) × (n ≤ 4096)
+IsPiece (Piece n) = (1 ≤ n) × (n ≤ 16384)
 IsPiece Idle = Unit {0}
 IsPiece Ended = Unit {0}
 IsPiece Failed = Unit {0}

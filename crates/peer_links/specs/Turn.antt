@@ -5,7 +5,7 @@ use Rattle.peer_links.specs.declared.memory_link.Turn.TheVariants.{Gave, Over, W
 
 -- from 1 to 4,096 bytes are in the buffer, if any are
 abbrev pub IsTurn : Turn → Type 0
-IsTurn (Gave n) = (1 ≤ n) × (n ≤ 4096)
+IsTurn (Gave n) = (1 ≤ n) × (n ≤ 16384)
 IsTurn Over = Unit {0}
 IsTurn Waited = Unit {0}
 IsTurn Silent = Unit {0}

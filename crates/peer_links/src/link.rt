@@ -8,12 +8,12 @@ use std::sync::Wait;
 use std::time;
 
 /// How many bytes a link gives at a time at most.
-pub const PIECE_BYTES: usize = 4_096;
+pub const PIECE_BYTES: usize = 16_384;
 
 /// What a link gave.
 #[derive(Clone, Copy, Debug, PartialEq, Eq)]
 pub enum Received {
-    /// So many bytes, from 1 to 4,096, stand at the front of the buffer.
+    /// So many bytes, from 1 to 16,384, stand at the front of the buffer.
     Piece(usize),
     /// Nothing has come yet. The link waited for it for a moment.
     Idle,

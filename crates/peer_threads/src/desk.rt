@@ -1,16 +1,13 @@
 //! The edge and its queues, as they stand under one lock.
 
-ghost use Rattle.messages.specs.Replies.{IsReply};
-
+use crate::answers::Replies;
 use crate::outlets::Outlets;
 use bytes::Bytes;
 use edge_frames::LinkId;
 use locked_node::Released;
 use log::{Log, info, warn};
-use messages::{Reply, spell_reply};
 use peer_core::{Duty, PeerCore, Rank};
 use protocol::Timeout;
-use std::alloc::Global;
 use std::sync::Wait;
 
 /// How long nothing more is logged of frames that are dropped, in milliseconds.
@@ -93,18 +90,22 @@ impl Desk {
         }
     }
 
-    /// Queues a reply for its link.
-    pub(crate) fn reply<R: Wait + Log>(&mut self, rt: &R, alloc: Global, link: LinkId, reply: Reply)
-        requires { IsReply reply }
-    {
-        let queued = match Bytes::copy_from_slice(alloc, &spell_reply(reply)) {
-            Ok(frame) => self.outlets.offer(rt, link, &frame, Rank::Fresh),
+    /// Queues replies for their link, which go out by one write, and returns how many.
+    pub(crate) fn reply<R: Wait + Log>(&mut self, rt: &R, link: LinkId, replies: Replies) -> u64 {
+        let count = replies.count();
+        if count == 0 {
+            return 0;
+        }
+        let queued = match replies.into_frames() {
+            Ok(frames) => self.outlets.offer(rt, link, &frames, Rank::Fresh),
             Err(_) => false,
         };
-        if !queued {
-            self.lose(1);
-            warn!(rt; "a reply is dropped, since its link has no room");
+        if queued {
+            return count;
         }
+        self.lose(count);
+        warn!(rt; "{count} replies are dropped, since their link has no room");
+        0
     }
 
     /// Does what is to be done with queues alone, and returns the next duty that takes the node, if there is one.

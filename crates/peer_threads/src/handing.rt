@@ -1,14 +1,19 @@
 //! The calls of the node, and what comes of them.
 
+use crate::answers::{Answers, MOST_AT_ONCE, Replies};
 use crate::shared::{Ending, Shared};
+use crate::tagging::SideBySide;
 use bytes::Bytes;
 use edge_frames::LinkId;
+use locked_node::{Done, Event};
 use log::Log;
+use messages::{FrameReader, WholeFrames};
 use peer_core::{Duty, Kind, halts, heading_of, may_release};
 use peer_links::Clock;
 use protocol::{Refusal, Timeout};
 use status_words::{Node, Seat, Status};
 use std::sync::Wait;
+use std::thread::Threads;
 use std::time;
 use vote_journal::Store;
 
@@ -18,37 +23,132 @@ fn is_ask(frame: &[u8]) -> bool {
 }
 
 impl<S: Store + Drop, J: Node, C: Clock> Shared<'_, S, J, C> {
-    /// Hands in a whole frame that came on a link, replies where it is a transaction's, and does what is then to be done.
-    pub(crate) fn take_in<R: Wait + time::Clock + Log>(
+    /// Hands in the frames that stand whole in front of a link's reader, as many as go in together, and does what is then to be
+    /// done. Returns how many there were.
+    pub(crate) fn take_in<R: Threads + Wait + time::Clock + Log + Sync>(
         &self,
         rt: &R,
         seat: &mut Seat<J>,
         link: LinkId,
-        frame: &[u8],
-    ) {
-        self.hand_in(rt, seat, link, frame);
-        self.follow(rt, seat);
+        frames: &mut FrameReader,
+    ) -> usize {
+        let count = self.expect_ask(rt, link, frames.whole_frames());
+        if count > 0 {
+            let mut answers = Answers::new();
+            self.hand_in_together(rt, seat, frames.whole_frames(), count, &mut answers);
+            self.heed_all(rt, &answers);
+            self.note_all(rt, link, frames, &answers);
+            self.follow(rt, seat);
+        }
+        count
     }
 
-    /// Hands in a frame, and replies where it is a transaction's.
-    fn hand_in<R: Wait + time::Clock + Log>(
+    /// Returns how many frames go in together: at most 64, and none behind an ask, which the edge is told of before, as it expects one
+    /// bundle at a time.
+    fn expect_ask<R: Wait>(&self, rt: &R, link: LinkId, mut frames: WholeFrames<'_>) -> usize {
+        for count in 0..MOST_AT_ONCE {
+            let Some(frame) = frames.next_whole() else {
+                return count;
+            };
+            if is_ask(frame) {
+                self.desk.lock(rt).core.expect(link, frame);
+                return count + 1;
+            }
+        }
+        MOST_AT_ONCE
+    }
+
+    /// Hands in so many frames, one behind the other, while the node's lock is held.
+    fn hand_in_together<R: Threads + Wait + time::Clock + Log + Sync>(
+        &self,
+        rt: &R,
+        seat: &mut Seat<J>,
+        mut frames: WholeFrames<'_>,
+        count: usize,
+        answers: &mut Answers,
+    ) {
+        let tagger = SideBySide::new(rt);
+        let mut node = self.node.hold(rt);
+        for _ in 0..count {
+            let Some(frame) = frames.next_whole() else {
+                break;
+            };
+            answers.add(&node.call(rt, &tagger, seat, Event::Frame(frame)));
+        }
+    }
+
+    /// Asks the node what the event says.
+    fn call<'e, R: Threads + Wait + Sync>(
+        &self,
+        rt: &R,
+        seat: &mut Seat<J>,
+        event: Event<'e>,
+    ) -> Done<'e> {
+        let tagger = SideBySide::new(rt);
+        self.node.hold(rt).call(rt, &tagger, seat, event)
+    }
+
+    /// Counts the refusals among these answers, and does what is to be done after them.
+    fn heed_all<R: Wait + time::Clock + Log>(&self, rt: &R, answers: &Answers) {
+        for answered in answers.as_slice() {
+            if let Err(refusal) = answered.answer {
+                self.meters.refused(refusal);
+            }
+        }
+        if let Some(height) = answers.height_of_released() {
+            self.release(rt, height);
+        }
+        if answers.tell_halt() {
+            self.end(rt, Ending::Halted);
+        }
+    }
+
+    /// Does beside the node what is to be done with the frames that were answered so, takes them from the reader, and queues the
+    /// replies together.
+    fn note_all<R: Wait + time::Clock + Log>(
+        &self,
+        rt: &R,
+        link: LinkId,
+        frames: &mut FrameReader,
+        answers: &Answers,
+    ) {
+        let now = self.clock.now_ms(rt);
+        let mut replies = Replies::new(self.alloc);
+        let mut desk = self.desk.lock(rt);
+        for answered in answers.as_slice() {
+            let Ok(Some(frame)) = frames.next_frame() else {
+                break;
+            };
+            self.meters.received_frame();
+            let reply = desk
+                .core
+                .answered(link, frame, answered.answer, answered.height, now);
+            if let Some(reply) = reply {
+                replies.add(reply);
+            }
+        }
+        let sent = desk.reply(rt, link, replies);
+        self.meters.sent_beside(sent.saturating_sub(1));
+    }
+
+    /// Hands in a frame that came before its height.
+    fn hand_in_early<R: Threads + Wait + time::Clock + Log + Sync>(
         &self,
         rt: &R,
         seat: &mut Seat<J>,
         link: LinkId,
-        frame: &[u8],
+        frame: &Bytes,
     ) {
-        if is_ask(frame) {
-            self.desk.lock(rt).core.expect(link, frame);
-        }
-        let done = self.node.handle(rt, seat, frame);
+        let done = self.call(rt, seat, Event::Frame(frame));
         let (answer, status) = (done.answer(), done.status());
         self.heed(rt, answer, status);
         let now = self.clock.now_ms(rt);
-        let mut desk = self.desk.lock(rt);
-        if let Some(reply) = desk.core.answered(link, frame, answer, status.height, now) {
-            desk.reply(rt, self.alloc, link, reply);
-        }
+        // (no transaction is kept, so that nothing is to be replied)
+        let _ = self
+            .desk
+            .lock(rt)
+            .core
+            .answered(link, frame, answer, status.height, now);
     }
 
     /// After any call of the node counts a refusal, queues what it released, rings the bell where it has moved to another height, and
@@ -84,7 +184,11 @@ impl<S: Store + Drop, J: Node, C: Clock> Shared<'_, S, J, C> {
     }
 
     /// Does what is to be done until nothing is left.
-    pub(crate) fn follow<R: Wait + time::Clock + Log>(&self, rt: &R, seat: &mut Seat<J>) {
+    pub(crate) fn follow<R: Threads + Wait + time::Clock + Log + Sync>(
+        &self,
+        rt: &R,
+        seat: &mut Seat<J>,
+    ) {
         for _ in rt.forever() {
             let now = self.clock.now_ms(rt);
             let duty = self.desk.lock(rt).next_call(rt, now);
@@ -99,7 +203,12 @@ impl<S: Store + Drop, J: Node, C: Clock> Shared<'_, S, J, C> {
     }
 
     /// Does what takes the node.
-    fn perform<R: Wait + time::Clock + Log>(&self, rt: &R, seat: &mut Seat<J>, duty: Duty) {
+    fn perform<R: Threads + Wait + time::Clock + Log + Sync>(
+        &self,
+        rt: &R,
+        seat: &mut Seat<J>,
+        duty: Duty,
+    ) {
         match duty {
             Duty::HandIn(link, frame) => self.hand_in_early(rt, seat, link, &frame),
             Duty::Ask => {
@@ -116,26 +225,24 @@ impl<S: Store + Drop, J: Node, C: Clock> Shared<'_, S, J, C> {
         }
     }
 
-    /// Hands in a frame that came before its height.
-    fn hand_in_early<R: Wait + time::Clock + Log>(
+    /// Fires rules until none is enabled.
+    pub(crate) fn settle<R: Threads + Wait + time::Clock + Log + Sync>(
         &self,
         rt: &R,
         seat: &mut Seat<J>,
-        link: LinkId,
-        frame: &Bytes,
     ) {
-        self.hand_in(rt, seat, link, frame);
-    }
-
-    /// Fires rules until none is enabled.
-    pub(crate) fn settle<R: Wait + time::Clock + Log>(&self, rt: &R, seat: &mut Seat<J>) {
-        let done = self.node.settle(rt, seat);
+        let done = self.call(rt, seat, Event::Settle);
         self.heed(rt, done.answer(), done.status());
     }
 
     /// Fires a timeout, and counts it where the node takes it. One that was refused memory is scheduled again.
-    fn fire<R: Wait + time::Clock + Log>(&self, rt: &R, seat: &mut Seat<J>, timeout: Timeout) {
-        let done = self.node.fire_timeout(rt, seat, timeout);
+    fn fire<R: Threads + Wait + time::Clock + Log + Sync>(
+        &self,
+        rt: &R,
+        seat: &mut Seat<J>,
+        timeout: Timeout,
+    ) {
+        let done = self.call(rt, seat, Event::Timeout(timeout));
         let answer = done.answer();
         self.heed(rt, answer, done.status());
         if answer.is_ok() {

@@ -8,6 +8,7 @@
 //! thread gets on, and so that anything is decided, is claimed by no contract.
 #![tactic(auto)]
 
+mod answers;
 mod batch;
 mod bell;
 mod desk;
@@ -17,6 +18,7 @@ mod reading;
 mod sending;
 mod serving;
 mod shared;
+mod tagging;
 mod timing;
 
 pub use bell::Bell;

@@ -7,6 +7,7 @@ use messages::FrameReader;
 use peer_links::{Clock, Link, PIECE_BYTES, Received};
 use status_words::{Node, Seat};
 use std::sync::Wait;
+use std::thread::Threads;
 use std::time;
 use thiserror::Error;
 use transactions::Fault;
@@ -36,7 +37,7 @@ impl From<Fault> for Over {
 
 impl<S: Store + Drop, J: Node, C: Clock> Shared<'_, S, J, C> {
     /// Reads a link until it is over or all ends, and hands in each whole frame.
-    pub(crate) fn read_link<L: Link + Drop, R: Wait + time::Clock + Log>(
+    pub(crate) fn read_link<L: Link + Drop, R: Threads + Wait + time::Clock + Log + Sync>(
         &self,
         rt: &R,
         link: LinkId,
@@ -44,11 +45,19 @@ impl<S: Store + Drop, J: Node, C: Clock> Shared<'_, S, J, C> {
     ) {
         let mut seat = self.node.seat(rt);
         let mut frames = FrameReader::new(self.alloc);
+        let mut piece = [0u8; PIECE_BYTES];
         for _ in rt.forever() {
             if self.is_over(rt, link) {
                 break;
             }
-            if let Err(over) = self.read_piece(rt, &mut seat, &mut frames, link, &mut half) {
+            if let Err(over) = self.read_piece(
+                rt,
+                &mut seat,
+                link,
+                &mut half,
+                &mut piece,
+                &mut frames,
+            ) {
                 warn!(rt; "link {}: closed: {over}", link.0);
                 break;
             }
@@ -63,16 +72,16 @@ impl<S: Store + Drop, J: Node, C: Clock> Shared<'_, S, J, C> {
     }
 
     /// Reads a piece, and hands in the frames that it makes whole.
-    fn read_piece<L: Link, R: Wait + time::Clock + Log>(
+    fn read_piece<L: Link, R: Threads + Wait + time::Clock + Log + Sync>(
         &self,
         rt: &R,
         seat: &mut Seat<J>,
-        frames: &mut FrameReader,
         link: LinkId,
         half: &mut L,
+        piece: &mut [u8; PIECE_BYTES],
+        frames: &mut FrameReader,
     ) -> Result<(), Over> {
-        let mut piece = [0u8; PIECE_BYTES];
-        match half.recv(rt, &mut piece) {
+        match half.recv(rt, piece) {
             Received::Piece(count) => {
                 self.meters.received_bytes(count);
                 self.hear(rt, link);
@@ -92,7 +101,7 @@ impl<S: Store + Drop, J: Node, C: Clock> Shared<'_, S, J, C> {
     }
 
     /// Hands in each frame that is whole.
-    fn hand_in_whole<R: Wait + time::Clock + Log>(
+    fn hand_in_whole<R: Threads + Wait + time::Clock + Log + Sync>(
         &self,
         rt: &R,
         seat: &mut Seat<J>,
@@ -100,12 +109,12 @@ impl<S: Store + Drop, J: Node, C: Clock> Shared<'_, S, J, C> {
         link: LinkId,
     ) -> Result<(), Over> {
         for _ in rt.forever() {
-            let Some(frame) = frames.next_frame()? else {
+            if self.take_in(rt, seat, link, frames) == 0 {
                 break;
-            };
-            self.meters.received_frame();
-            self.take_in(rt, seat, link, frame);
+            }
         }
+        // (what is left is no whole frame, or has a length above the limit)
+        frames.next_frame()?;
         Ok(())
     }
 }

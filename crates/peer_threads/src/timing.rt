@@ -9,6 +9,7 @@ use peer_core::LinkCounts;
 use peer_links::Clock;
 use status_words::Node;
 use std::sync::Wait;
+use std::thread::Threads;
 use std::time;
 use vote_journal::Store;
 
@@ -38,7 +39,7 @@ fn links_of(counts: LinkCounts) -> Links
 
 impl<S: Store + Drop, J: Node, C: Clock> Shared<'_, S, J, C> {
     /// Does what is due at its time, until all ends.
-    pub(crate) fn run_timer<R: Wait + time::Clock + Log>(&self, rt: &R) {
+    pub(crate) fn run_timer<R: Threads + Wait + time::Clock + Log + Sync>(&self, rt: &R) {
         let mut seat = self.node.seat(rt);
         let mut due = 0;
         for _ in rt.forever() {

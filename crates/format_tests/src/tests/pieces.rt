@@ -95,6 +95,29 @@ fn cut_at_each_place(rt: HostRuntime) {
     );
 }
 
+/// Two frames, and the beginning of a third.
+const TWO_AND_A_PART: [u8; 13] = [0, 0, 0, 1, 0x7f, 0, 0, 0, 2, 7, 8, 0, 0];
+
+/// Whether the frames that stand whole in a reader can be looked at, twice too, before they are given.
+fn are_looked_at_first(alloc: Global) -> Result<bool, Fault> {
+    let (first, second) = (&TWO_AND_A_PART[..5], &TWO_AND_A_PART[5..11]);
+    let mut reader = FrameReader::new(alloc);
+    reader.feed(&TWO_AND_A_PART)?;
+    let mut seen = true;
+    for _ in 0..2 {
+        let mut whole = reader.whole_frames();
+        seen = seen && whole.next_whole() == Some(first);
+        seen = seen && whole.next_whole() == Some(second);
+        seen = seen && whole.next_whole().is_none();
+    }
+    Ok(seen && gives(&mut reader, first) && gives(&mut reader, second) && gives_none(&mut reader))
+}
+
+#[test]
+fn looked_at_before_they_are_given(rt: HostRuntime) {
+    assert_holds(&rt, are_looked_at_first(rt.alloc()));
+}
+
 /// Whether the fault is told of the next frame and of the end, also after a further piece.
 fn is_too_long(reader: &mut FrameReader) -> Result<bool, Fault> {
     let told = matches!(reader.next_frame(), Err(Fault::TooLong));

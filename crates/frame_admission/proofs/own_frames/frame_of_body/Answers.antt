@@ -6,5 +6,5 @@ use Rattle.frame_admission.proofs.own_frames.frame_of_body.Goals as goal
 
 pub returns : goal.returns
 unfolding tagged
-returns c = λ s p b h own spelled. c.frame_of.ensures (tagged s b) spelled
+returns g c = λ s p b h own spelled. c.frame_of.ensures (tagged s b) spelled
     (c.deref.ensures.value ∙ c.in_ok-tags.ensures.tags ∙ ap (tags_of c.args.ring.now) spelled ∙ tags_made s p c.args.ring.now h b own)

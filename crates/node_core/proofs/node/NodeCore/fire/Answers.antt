@@ -56,7 +56,7 @@ spelled g c = let is = ready g c in subst (λ o. IfSome (released_by c.self.insi
 may : (g : given.Over) (c : goal.After-note g) → MayFire (rule_of c.self.inside.state.state c.args.rule) (seen c.self.inside)
 may g c =
     let core : Core = seen c.self.inside in
-    rule_may_fire core c.self.invariant (rw (← c.self.view_is) at c.requires.1.0) c.args.rule (ready g c).fit (rw (← c.self.view_is) at c.requires.1.1.1.1) (spelled g c) (decided g c).spelled
+    rule_may_fire core c.self.invariant (rw (← c.self.view_is) at c.requires.1.1.0) c.args.rule (ready g c).fit (rw (← c.self.view_is) at c.requires.1.1.1.1.1) (spelled g c) (decided g c).spelled
 
 pub returns-clause-ok : goal.returns-clause-ok
 returns-clause-ok g c = rw (← c.self.view_is) (λ n s. fired_once n _ _ _ (made g c) (may g c) s)
@@ -87,12 +87,12 @@ note-requires-clause-height g c =
     let s = core.machine.state in
     let k = rule_of s c.args.rule in
     let is = subst (λ (n : Core). IsReady n c.args.rule c.in_ok-plan.field-0) (sym c.self.view_is) c.in_ok-plan.ensures in
-    rw (c.in_ok-said.ensures.said, pending_decided core.machine.me (says c.in_ok-plan.field-0.plan), is.says, c.make_room.ensures.decisions, c.self.invariant.decided) (decided_height (context_of core) (pick core.queues) s k (rw (← c.self.view_is) at c.requires.1.1.1.1))
+    rw (c.in_ok-said.ensures.said, pending_decided core.machine.me (says c.in_ok-plan.field-0.plan), is.says, c.make_room.ensures.decisions, c.self.invariant.decided) (decided_height (context_of core) (pick core.queues) s k (rw (← c.self.view_is) at c.requires.1.1.1.1.1))
 
 pub returns-in_err-said-clause-journal : goal.returns-in_err-said-clause-journal
 returns-in_err-said-clause-journal g c =
     let p = err_from_is_err_and c.from_residual-in_err-said.result c.from_residual-in_err-said.ensures.1 in
-    let running = rw (← c.self.view_is) at c.requires.1.0 in
+    let running = rw (← c.self.view_is) at c.requires.1.1.0 in
     rw (← c.self.view_is, p.1, p.2) (unfired_tells _ c.in_err-said.field-0.0 c.self.inside.journal c.carry_out.new.journal running c.in_err-said.ensures.unwritten)
 
 pub returns-in_err-said-clause-err : goal.returns-in_err-said-clause-err
@@ -119,4 +119,4 @@ returns-in_err-said-clause-broken g c =
     rw (← c.self.view_is, p.1, p.2) (λ now.
     let failed : of_unfired e ≡ answers.JournalFailed = cc in
     let b = unfired_broken (says c.in_ok-plan.field-0.plan) e core.journal c.carry_out.new.journal c.in_err-said.ensures.unwritten failed in
-    rule_broken core c.self.invariant (rw (← c.self.view_is) at c.requires.1.0) c.args.rule is.fit (rw (← c.self.view_is) at c.requires.1.1.1.1) body c.carry_out.new.journal b.0 (sym is.says ∙ b.1) b.2)
+    rule_broken core c.self.invariant (rw (← c.self.view_is) at c.requires.1.1.0) c.args.rule is.fit (rw (← c.self.view_is) at c.requires.1.1.1.1.1) body c.carry_out.new.journal b.0 (sym is.says ∙ b.1) b.2)

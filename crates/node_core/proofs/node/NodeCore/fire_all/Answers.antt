@@ -41,7 +41,7 @@ loop-rule-preserved g c =
     }
 
 pub fire-requires : goal.fire-requires
-fire-requires g c = λ κs l. (l, (c.loop-rule.invariant.serves.failed ∙ (rw (← c.self.view_is) at c.requires.running), (refl, (c.in-Some.ensures.placed, c.in-Some.ensures.holds))))
+fire-requires g c = λ κs l. (l.0, (l.1, (c.loop-rule.invariant.serves.failed ∙ (rw (← c.self.view_is) at c.requires.running), (refl, (c.in-Some.ensures.placed, c.in-Some.ensures.holds)))))
 
 pub returns-in_err-fire-clause-journal : goal.returns-in_err-fire-clause-journal
 returns-in_err-fire-clause-journal g c =

@@ -15,7 +15,7 @@ use Rattle.node_core.proofs.node.NodeCore.fire_due.Goals as goal
 pub fire-requires : goal.fire-requires
 fire-requires g c = λ κs l.
     let h = sym (c.holds_timeout.ensures (context_of (seen c.self.inside))) ∙ c.if-holds_timeout.true in
-    (l, (c.requires.running, (refl, (tt, subst (λ (x : Core). holds (context_of x) x.machine.state (TimedOut c.args.timeout) ≡ true) c.self.view_is h))))
+    (l.0, (l.1, (c.requires.running, (refl, (tt, subst (λ (x : Core). holds (context_of x) x.machine.state (TimedOut c.args.timeout) ≡ true) c.self.view_is h)))))
 
 pub returns-then-holds_timeout-clause-ok : goal.returns-then-holds_timeout-clause-ok
 returns-then-holds_timeout-clause-ok g c =

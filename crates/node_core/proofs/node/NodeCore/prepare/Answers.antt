@@ -16,7 +16,7 @@ returns g c =
     let s = core.machine.state in
     let k = rule_of s c.args.rule in
     let p = c.in_ok-plan in
-    let context = rw (← c.self.view_is) at c.requires.1.0 in
+    let context = rw (← c.self.view_is) at c.requires.1.1.0 in
     let same = (subst (λ (n : Core). IsHanded n c.args.rule c.in_ok-input.input) (sym c.self.view_is) c.in_ok-input.ensures.handed).same in
     rw (← c.self.view_is) (record {
       fit = rw (← c.self.view_is) at c.in_ok-input.ensures.fit;

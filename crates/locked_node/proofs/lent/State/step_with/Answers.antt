@@ -2,7 +2,7 @@ use Rattle.std.proofs.Common.{◌≤◌, ◌+◌, ◌-◌, ◌^◌, min, length,
 use Rattle.node_core.specs.Core.{delivered_in}
 use Rattle.locked_node.specs.History.{heard, calls_after}
 use Rattle.locked_node.proofs.Stepping.{longer, count_after, locked_after}
-use Rattle.locked_node.proofs.lent.State.step.Goals as goal
+use Rattle.locked_node.proofs.lent.State.step_with.Goals as goal
 
 pub count_from-self-inside-requires : goal.count_from-self-inside-requires
 count_from-self-inside-requires g c = subst₂ (λ k n. length k ≤ length n) (sym c.decisions-before.ensures.decisions) (sym c.decisions.ensures.decisions) (longer _ _ _ _ c.self.invariant.0 c.ask_core-answer.ensures)

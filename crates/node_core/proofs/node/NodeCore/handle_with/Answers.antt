@@ -16,10 +16,10 @@ use Rattle.node_core.proofs.Given.{gate_refused, refused_done, received_taken}
 use Rattle.node_core.proofs.Telling.{tells_itself, tells_from, inadmissible_other}
 use Rattle.node_core.proofs.Stepwise.{stands_counted}
 use Rattle.node_core.proofs.Called.{halted_answers, halted_done, halted_tells, running_answers, run_answer, tells_begun, run_begun, refused_call, refused_left, run_left}
-use Rattle.node_core.proofs.node.NodeCore.handle.Given as given
+use Rattle.node_core.proofs.node.NodeCore.handle_with.Given as given
 use Rattle.node_core.proofs.Broken.{input_broken, run_broken, arrival_left}
 use Rattle.protocol.specs.declared.refusal.Refusal.TheVariants as answers
-use Rattle.node_core.proofs.node.NodeCore.handle.Goals as goal
+use Rattle.node_core.proofs.node.NodeCore.handle_with.Goals as goal
 
 pub returns-in_err-begin-clause-answer : goal.returns-in_err-begin-clause-answer
 returns-in_err-begin-clause-answer g c =

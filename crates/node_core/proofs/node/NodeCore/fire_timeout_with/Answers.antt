@@ -14,7 +14,7 @@ use Rattle.node_core.proofs.Called.{halted_answers, halted_done, halted_tells, r
 use Rattle.node_core.proofs.Broken.{input_broken, run_broken}
 use Rattle.protocol.specs.declared.refusal.Refusal.TheVariants as answers
 use Rattle.node_core.specs.Calls.{IsUnfired}
-use Rattle.node_core.proofs.node.NodeCore.fire_timeout.Goals as goal
+use Rattle.node_core.proofs.node.NodeCore.fire_timeout_with.Goals as goal
 
 pub returns-in_err-begin-clause-answer : goal.returns-in_err-begin-clause-answer
 returns-in_err-begin-clause-answer g c =

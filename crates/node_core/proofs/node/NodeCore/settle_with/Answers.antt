@@ -6,7 +6,7 @@ use Rattle.node_core.proofs.Stepwise.{settled, stands_counted}
 use Rattle.node_core.proofs.Called.{halted_answers, halted_done, halted_tells, running_answers, run_answer, tells_begun, run_begun, run_left}
 use Rattle.node_core.proofs.Broken.{run_broken}
 use Rattle.protocol.specs.declared.refusal.Refusal.TheVariants as answers
-use Rattle.node_core.proofs.node.NodeCore.settle.Goals as goal
+use Rattle.node_core.proofs.node.NodeCore.settle_with.Goals as goal
 
 pub returns-in_err-begin-clause-answer : goal.returns-in_err-begin-clause-answer
 returns-in_err-begin-clause-answer g c =
