@@ -79,6 +79,8 @@ impl Answers {
 pub(crate) struct Replies {
     bytes: Vec<u8>,
     count: u64,
+    /// How many there was no memory for.
+    lost: u64,
 }
 
 impl Replies {
@@ -87,18 +89,24 @@ impl Replies {
         Replies {
             bytes: Vec::new(alloc),
             count: 0,
+            lost: 0,
         }
     }
 
-    /// Adds one, and returns whether there was memory for it.
-    pub(crate) fn add(&mut self, reply: Reply) -> bool
+    /// Adds one, or counts it as lost where there is no memory for it.
+    pub(crate) fn add(&mut self, reply: Reply)
         requires { IsReply reply }
     {
         let is_added = self.bytes.extend_from_slice(&spell_reply(reply)).is_ok();
         if is_added {
             self.count = self.count.saturating_add(1);
+        } else {
+            self.lost = self.lost.saturating_add(1);
         }
-        is_added
+    }
+
+    pub(crate) fn lost(&self) -> u64 {
+        self.lost
     }
 
     pub(crate) fn count(&self) -> u64 {

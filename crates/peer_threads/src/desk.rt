@@ -93,6 +93,7 @@ impl Desk {
     /// Queues replies for their link, which go out by one write, and returns how many.
     pub(crate) fn reply<R: Wait + Log>(&mut self, rt: &R, link: LinkId, replies: Replies) -> u64 {
         let count = replies.count();
+        self.lose(replies.lost());
         if count == 0 {
             return 0;
         }
