@@ -11,7 +11,7 @@ use peer_links::Way;
 const MOST_USELESS: u32 = 1_000;
 
 /// For how many seconds a link of a validator may be silent, as this validator sees them pass.
-const MOST_SILENT: u32 = 10;
+pub(crate) const MOST_SILENT: u32 = 10;
 
 /// How long nothing is sent on a link of a validator until it is sent an ask, in milliseconds: often enough that its other
 /// end doesn't take it for silent.
@@ -165,9 +165,9 @@ impl PeerLink {
         self.silent = self.silent.saturating_add(1);
     }
 
-    /// Returns whether a validator is behind it that has said nothing for ten seconds.
-    pub(crate) fn is_silent(&self) -> bool {
-        self.is_open() && self.validator().is_some() && self.silent >= MOST_SILENT
+    /// Returns whether a validator is behind it that has said nothing for so many seconds.
+    pub(crate) fn is_silent_for(&self, seconds: u32) -> bool {
+        self.is_open() && self.validator().is_some() && self.silent >= seconds
     }
 
     /// Returns whether a validator is behind it that was sent nothing for three seconds.

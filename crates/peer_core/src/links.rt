@@ -5,7 +5,7 @@ ghost use Rattle.peer_core.specs.Choosing.{gets_all, gets_ask, gets_bundle, is_f
 
 use crate::choosing::{best_of, mark_chosen};
 use crate::duty::{Closing, OpenFault};
-use crate::link::{Behind, PeerLink, Shown};
+use crate::link::{Behind, MOST_SILENT, PeerLink, Shown};
 use crate::manner::Keeping;
 use edge_frames::{LinkId, MOST_LINKS};
 use peer_links::Way;
@@ -19,6 +19,12 @@ pub const MOST_CLIENT_LINKS: usize = 64;
 
 /// How many links that one validator dials have a place, where there is room for so many of each.
 const MOST_DIALED_HERE: usize = 2;
+
+/// From how many links on it is not a few that are silent.
+const MANY_SILENT: usize = 8;
+
+/// For how many seconds a link of a validator may be silent where many are, and more than half.
+const MOST_SILENT_TOGETHER: u32 = 60;
 
 impl<T: Drop> From<AllocFailed<T>> for OpenFault {
     fn from(_e: AllocFailed<T>) -> OpenFault {
@@ -413,18 +419,44 @@ impl PeerLinks {
 
     /// Notes that a second passed, and lets the links of validators be closed that are silent. Their next ones take their places.
     pub fn close_silent(&mut self) {
-        let mut any = false;
         for link in self.links.iter_mut() {
             link.tick();
-            if link.is_silent() {
+        }
+        if self.close_silent_for(self.most_silent()) {
+            self.is_stirred = true;
+            self.choose_all();
+        }
+    }
+
+    /// Returns for how many seconds a link of a validator may be silent now. Where more than half are silent, and not just a few,
+    /// all have more to do than they get done, and closing their links would give them more.
+    fn most_silent(&self) -> u32 {
+        let all = self.count_silent_for(0);
+        let silent = self.count_silent_for(MOST_SILENT);
+        if silent >= MANY_SILENT && silent > all / 2 {
+            MOST_SILENT_TOGETHER
+        } else {
+            MOST_SILENT
+        }
+    }
+
+    fn count_silent_for(&self, seconds: u32) -> usize {
+        self.links
+            .iter()
+            .filter(|link| link.is_silent_for(seconds))
+            .count()
+    }
+
+    /// Lets the links of validators be closed that are silent for so many seconds, and returns whether there is one.
+    fn close_silent_for(&mut self, seconds: u32) -> bool {
+        let mut any = false;
+        for link in self.links.iter_mut() {
+            if link.is_silent_for(seconds) {
                 link.close(Closing::Silent);
                 any = true;
             }
         }
-        if any {
-            self.is_stirred = true;
-            self.choose_all();
-        }
+        any
     }
 
     /// Chooses among the links of each validator.

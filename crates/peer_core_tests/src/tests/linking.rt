@@ -7,6 +7,7 @@ use peer_links::Way;
 use protocol::Refusal;
 use std::process::Abort;
 use std::test::Fail;
+use timeouts::Plan;
 
 /// Who is dialed at a time, as one number's digits behind a 1.
 fn dialed(edge: &mut PeerCore, now: u64) -> u32 {
@@ -87,6 +88,28 @@ fn try_a_silent_validator_is_closed(rt: &impl Abort, edge: &mut PeerCore) -> Res
     }
     assert_eq!(rt; duties(edge, 10_000).closed, 2);
     assert!(rt; edge.has_links());
+    Ok(())
+}
+
+/// Where most of many validators are silent they have too much to do, as this one has: their links are given a minute.
+#[test]
+fn many_silent_validators_are_given_time(rt: HostRuntime) -> Result<(), Fail> {
+    let plan = Plan::new(rt.alloc(), 1_000, 0)?;
+    let mut edge = PeerCore::new(rt.alloc(), 0, 16, GUARDED, plan, 0);
+    try_many_silent_validators_are_given_time(&rt, &mut edge)
+}
+
+fn try_many_silent_validators_are_given_time(
+    rt: &impl Abort,
+    edge: &mut PeerCore,
+) -> Result<(), Fail> {
+    for other in 1..=15u16 {
+        edge.opened(LinkId(u32::from(other)), Way::Dialed(other), 0)?;
+    }
+    for second in 1..=59u64 {
+        assert_eq!(rt; duties(edge, second * 1_000).closed, 0);
+    }
+    assert_eq!(rt; duties(edge, 60_000).closed, 15);
     Ok(())
 }
 
