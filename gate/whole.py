@@ -3,11 +3,11 @@
 
 usage: gate/whole.py [--anew]
 
-Its stages run in turn, each of which says 'N passed, M failed' on its last line: what the scripts take of the kit; the files'
-layout; `rt ci`, which proves and tests each crate and runs each program; what must not compile; the wrong bodies; the schedules, by the
-program as both compilers made it; the pictures of all; one of them with each write of the validator's
-journal failing; random ones; whole clusters in a simulator, from a hundred seeds; and what `tmnode` says of failures and what a cluster of it
-outlives, as processes. What must not compile and the wrong bodies are tried beside all that comes behind them, so that no processor
+Its stages run in turn, each of which says 'N passed, M failed' on its last line: what the scripts take of the kit; the files' layout; `rt
+ci`, which proves and tests each crate and runs each program; what must not compile; the wrong bodies; the schedules, by the program as
+both compilers made it; the pictures of all; one of them with each write of the validator's journal failing; random ones; a thousand
+growths of them, each refused; whole clusters in a simulator, from a hundred seeds; and what `tmnode` says of failures and what a cluster
+of it outlives, as processes. What must not compile and the wrong bodies are tried beside all that comes behind them, so that no processor
 waits; their lines come among the others'. Then come the processor seconds of each crate, and a last line that counts everything. Where
 the layout or `rt ci` fails, nothing behind it is tried.
 
@@ -40,6 +40,7 @@ STAGES = {
     "pictures of schedules": ["schedules/charts.py", "--with", "crates/tmsim/out/tmsim"],
     "a stop at each write": ["schedules/each_stop.py", "--with", "crates/tmsim/out/tmsim"],
     "random schedules": ["schedules/random_runs.py", "--count", "200", "--with", "crates/tmsim/out/tmsim"],
+    "growths refused": ["schedules/each_refusal.py", "--runs", "1000", "--with", "crates/tmsim/out/tmsim"],
     "clusters in a simulator": ["test/clusters.py", "--seeds", "1..100", "--minutes", "10", "--with", "crates/tmcluster/out/tmcluster"],
     "the program as processes": ["test/processes.py", "--with", "crates/tmnode/out/tmnode"],
 }
