@@ -1,7 +1,9 @@
 //! The frames that decide heights.
 
 use authenticators::hmac;
-use messages::{Body, Bundle, Precommit, Proposal, Step as VoteStep, Vote, frame_of, spell_body};
+use messages::{
+    Ask, Body, Bundle, Precommit, Proposal, Step as VoteStep, Vote, frame_of, spell_body,
+};
 use std::alloc::Global;
 use std::process::Abort;
 use std::test::Fail;
@@ -83,6 +85,31 @@ pub(super) fn vote(
         content: Some(id(alloc, 1)?),
     });
     frame(rt, alloc, key, &body)
+}
+
+fn own_vote(step: VoteStep, height: u64, content: Option<Id>) -> Body {
+    Body::Vote(Vote {
+        step,
+        height,
+        round: 0,
+        sender: 3,
+        content,
+    })
+}
+
+/// What the validator says of height 0, and then of height 1, where it hears nobody and asks: a prevote of nil, twice.
+pub(super) fn own_bodies(alloc: Global) -> Result<[Body; 5], Fail> {
+    let id = id(alloc, 1)?;
+    Ok([
+        own_vote(VoteStep::Prevote, 0, Some(id)),
+        own_vote(VoteStep::Precommit, 0, Some(id)),
+        own_vote(VoteStep::Prevote, 1, None),
+        Body::Ask(Ask {
+            height: 1,
+            sender: 3,
+        }),
+        own_vote(VoteStep::Prevote, 1, None),
+    ])
 }
 
 /// A precommit of this height, with the tag for validator 3 under a key of this byte.

@@ -8,10 +8,10 @@ ghost use Rattle.node_core.specs.Core.{Stands};
 ghost use Rattle.locked_node.specs.Locked.{count_of};
 
 use super::core_of;
-use super::frames::{bundle, close, next_session, proposal, vote};
+use super::frames::{bundle, close, next_session, own_bodies, proposal, vote};
 use super::taking::{assert_first, next_of};
 use locked_node::{LockedNode, SubscribeFault, Subscription, words_for};
-use messages::Step as VoteStep;
+use messages::{Step as VoteStep, spell_body};
 use node_core::NodeCore;
 use protocol::{Step, Timeout};
 use status_words::{Node, Opened, Seat, Status};
@@ -54,8 +54,7 @@ fn follows<J: Node, R: Abort + Wait>(
     assert_eq!(rt; node.status(&mut first), ONE);
     assert_eq!(rt; node.status(&mut second), ONE);
     is_at_its_beginning(rt, node);
-    releases(rt, node, &mut first);
-    Ok(())
+    releases(rt, alloc, node, &mut first)
 }
 
 /// It is in the first step of round 0, and no transaction waits.
@@ -90,9 +89,10 @@ fn follows_with_a_ring<J: Node, R: Abort + Wait>(
 /// Of a node that decided height 0: two votes, one more after its timeout, an ask, and the last vote again.
 fn releases<J: Node, R: Abort + Wait>(
     rt: &R,
+    alloc: Global,
     node: &LockedNode<MemoryStore, J>,
     seat: &mut Seat<J>,
-) {
+) -> Result<(), Fail> {
     let due = Timeout {
         kind: Step::Propose,
         height: 1,
@@ -104,8 +104,11 @@ fn releases<J: Node, R: Abort + Wait>(
     assert_eq!(rt; node.resend(rt, seat).answer(), Ok(()));
     let frames = node.take_outgoing(rt);
     assert_eq!(rt; frames.len(), 5);
-    assert!(rt; frames[2] == frames[4]);
+    for (frame, body) in frames.iter().zip(own_bodies(alloc)?.iter()) {
+        assert!(rt; frame.len() > 4 && frame[4..].starts_with(&spell_body(alloc, body)?));
+    }
     assert_eq!(rt; node.take_outgoing(rt).len(), 0);
+    Ok(())
 }
 
 fn with_status<J: Node, R: Abort + Wait>(

@@ -1,4 +1,4 @@
-//! Validator 0 of two of equal power, neither of which is a quorum, proposes first.
+//! Validator 0 of four of equal power proposes first.
 
 use super::{journal_of, powers_of, ring_of};
 use node_core::{Config, NodeCore};
@@ -7,15 +7,26 @@ use std::process::Abort;
 use std::test::Fail;
 use vote_journal::MemoryStore;
 
-const KEYS: &[u8] = b"v0 v0 1111111111111111111111111111111111111111111111111111111111111111
-v1 v0 2222222222222222222222222222222222222222222222222222222222222222
-v0 v1 3333333333333333333333333333333333333333333333333333333333333333
+const KEYS: &[u8] = b"v0 v0 0000000000000000000000000000000000000000000000000000000000000000
+v1 v0 1111111111111111111111111111111111111111111111111111111111111111
+v2 v0 2222222222222222222222222222222222222222222222222222222222222222
+v3 v0 3333333333333333333333333333333333333333333333333333333333333333
+v0 v1 4444444444444444444444444444444444444444444444444444444444444444
+v0 v2 4444444444444444444444444444444444444444444444444444444444444444
+v0 v3 4444444444444444444444444444444444444444444444444444444444444444
 ";
+
+/// The body of its proposal of no transactions at height 0 and round 0, without a valid round.
+const PROPOSAL: [u8; 21] = [
+    0x10, 0, 0, 0, 0, 0, 0, 0, 0, 0, 0, 0, 0, 0, 0, 0, 0, 0, 0, 0, 0,
+];
 
 /// Its proposal is saved and released; the sync of its prevote fails, so it halts and doesn't say it.
 fn halts_at_its_prevote(rt: &impl Abort, core: &mut NodeCore<MemoryStore>) {
     assert_eq!(rt; core.settle(), Err(Refusal::JournalFailed));
-    assert_eq!(rt; core.outgoing().len(), 1);
+    let frames = core.outgoing();
+    assert_eq!(rt; frames.len(), 1);
+    assert!(rt; frames[0].len() > 4 && frames[0][4..].starts_with(&PROPOSAL));
     assert!(rt; core.has_halted());
     assert_eq!(rt; core.settle(), Err(Refusal::Halted));
     assert_eq!(rt; core.outgoing().len(), 0);
@@ -24,8 +35,8 @@ fn halts_at_its_prevote(rt: &impl Abort, core: &mut NodeCore<MemoryStore>) {
 /// The store's third sync fails: the first is the opening's, and the second the proposal's.
 #[test]
 fn third_sync_fails(rt: HostRuntime) -> Result<(), Fail> {
-    let powers = powers_of(&rt, vec![in rt.alloc(); 1, 1]?)?;
-    let ring = ring_of(&rt, rt.alloc(), KEYS, 0, 2)?;
+    let powers = powers_of(&rt, vec![in rt.alloc(); 1, 1, 1, 1]?)?;
+    let ring = ring_of(&rt, rt.alloc(), KEYS, 0, 4)?;
     let journal = journal_of(&rt, rt.alloc(), 0, &powers, 7, 0);
     let mut core = NodeCore::new(rt.alloc(), Config { me: 0, powers }, ring, journal);
     halts_at_its_prevote(&rt, &mut core);
