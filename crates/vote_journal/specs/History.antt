@@ -1,8 +1,8 @@
 -- What happens to a journal on a store from its first opening on, stops among it.
-use Rattle.std.specs.Prelude.{◌≡◌, ◌⊎◌, ℕ, Bool, true, false, Option, Some, None, List, [], ◌∷◌, ◌++◌, map, reverse}
+use Rattle.std.specs.Prelude.{◌≡◌, ◌⊎◌, ℕ, Bool, true, false, Option, Some, None, List, [], ◌∷◌, ◌++◌, map, reverse, Result, Ok, Err}
 use Rattle.protocol.specs.Messages.{Record}
 use Rattle.vote_journal.specs.declared.fault.JournalFault.{JournalFault}
-use Rattle.vote_journal.specs.declared.fault.JournalFault.TheVariants.{BadRecord}
+use Rattle.vote_journal.specs.declared.fault.JournalFault.TheVariants.{Failed, OutOfMemory, BadRecord}
 use Rattle.vote_journal.specs.Grammar.{IsRecord}
 use Rattle.vote_journal.specs.Order.{may_follow}
 use Rattle.vote_journal.specs.Layout.{IsWhole}
@@ -17,6 +17,13 @@ pub data Call : Type 0 where
   NotSaved : Record → Call  -- a save that found no memory
   Broken : Record → Call  -- one whose device failed, or a stop within one
   Left : Call  -- a stop between two calls, or a close
+
+-- which of them a save of this record was, by its answer
+abbrev pub save_of : {T : Type 0} → Record → Result T JournalFault → Call
+save_of r (Ok saved) = Saved r
+save_of r (Err Failed) = Broken r
+save_of r (Err OutOfMemory) = NotSaved r
+save_of r (Err BadRecord) = Broken r  -- no save answers this
 
 -- ---- what the calls come to, the newest first, behind an opening that found the first records
 

@@ -6,6 +6,7 @@ ghost use Rattle.vote_journal.specs.Grammar.{record_spelling, IsRecord};
 ghost use Rattle.vote_journal.specs.Layout.{IsWhole};
 ghost use Rattle.vote_journal.specs.Store.{Only, NoMore, Adds, Begun, Grew, Counts, FailsBy};
 ghost use Rattle.vote_journal.specs.Saving.{IsSaveFault, CountsSave, IsBeforeOrAfter, LeavesBeforeOrAfter, WhereSaved};
+ghost use Rattle.vote_journal.specs.History.{Left, Does, save_of};
 
 use crate::fault::JournalFault;
 use crate::store::{Store, StoreFault};
@@ -78,7 +79,7 @@ impl<S: Store + Drop> Journal<S> {
         ensures same { IfOk result (λ saved. saved ≡ record_of entry) }
         ensures saved { IsRecord self.old.me (record_of entry) → OnOk result (S.seen self.new.store ≡ S.seen self.old.store ++ record_spelling self.old.me (record_of entry)) }
         ensures synced { OnOk result (Only (S.seen self.new.store) (S.may_leave self.new.store) × (self.new.failed ≡ false)) }
-        ensures stop { IsRecord self.old.me (record_of entry) → (c : List ℕ) → S.may_leave self.new.store c → Begun (S.seen self.old.store) (record_spelling self.old.me (record_of entry)) c }
+        ensures stop { (c : List ℕ) → S.may_leave self.new.store c → Begun (S.seen self.old.store) spelled.now c }
         // What a stop leaves has the records before, or this one too, and no others.
         ensures whole { WhereSaved self.old.me (S.seen self.old.store) (record_of entry) (λ powers rs. LeavesBeforeOrAfter powers self.old.me (S.may_leave self.new.store) rs (record_of entry)) }
         // So does what stands where the device failed.
@@ -88,6 +89,8 @@ impl<S: Store + Drop> Journal<S> {
             ((S.seen self.new.store ≡ S.seen self.old.store) × NoMore (S.may_leave self.old.store) (S.may_leave self.new.store) × (self.new.failed ≡ false)) }
         // The device's failures are counted, and nothing else is.
         ensures counted { CountsSave result (S.failures self.old.store) (S.failures self.new.store) }
+        // Of these the laws on journals speak.
+        ensures does { (powers : List ℕ) → Does S.seen S.may_leave powers self.old.me (save_of (record_of entry) result) self.old.store self.new.store }
         ensures me { self.new.me ≡ self.old.me }
     {
         match append_synced(&mut self.store, spelled) {
@@ -112,6 +115,7 @@ impl<S: Store + Drop> Journal<S> {
     pub fn close(self) -> S
         ensures store { result ≡ self.store }
         ensures synced { self.failed ≡ false → Only (S.seen result) (S.may_leave result) }
+        ensures does { (powers : List ℕ) → Does S.seen S.may_leave powers self.me Left self.store result }
     {
         let Journal {
             alloc: _,

@@ -9,6 +9,7 @@ ghost use Rattle.vote_journal.specs.Store.{Only, Adds, Begun, Shortened, Grew, C
 ghost use Rattle.vote_journal.specs.Saving.{added, if_wanted, BegunOpening, HasNoJournal, KeepsEach};
 ghost use Rattle.vote_journal.specs.Kept.{Keeps, IsOpened};
 ghost use Rattle.vote_journal.specs.Planning.{IsPlan};
+ghost use Rattle.vote_journal.specs.History.{Opened as HasOpened, NotOpened as WasNotOpened, Does};
 
 use crate::fault::JournalFault;
 use crate::journal::Journal;
@@ -236,6 +237,9 @@ impl<S: Store + Drop> Journal<S> {
         ensures stop { IfErr result (λ e. KeepsEach powers.now me (S.may_leave store) (S.may_leave e.store)) }
         ensures bad { IfErr result (λ e. e.fault ≡ JournalFault.BadRecord → HasNoJournal powers.now me (S.may_leave store)) }
         ensures failed { IfErr result (λ e. e.fault ≡ JournalFault.Failed → Grew (S.failures store) (S.failures e.store)) }
+        // Of these the laws on journals speak.
+        ensures does { IfOk result (λ o. (rs : List AnyRecord) × Does S.seen S.may_leave powers.now me (HasOpened rs) store o.journal.store × Keeps rs o.decisions.items o.own.items) }
+        ensures refused { IfErr result (λ e. Does S.seen S.may_leave powers.now me (WasNotOpened e.fault) store e.store) }
     {
         match prepare(alloc, &mut store, me, powers) {
             Ok(Kept { decisions, own }) => Ok(Opened {

@@ -23,3 +23,9 @@ pub returns-in-Err-Device-clause-broken : goal.returns-in-Err-Device-clause-brok
 returns-in-Err-Device-clause-broken g c = λ _ powers rs w h f.
     saving_leaves powers c.args.self.now.me (g.S.Store.seen c.args.self.now.store) rs (record_of c.args.entry) (g.S.Store.seen c.append_synced.new.store) w h f
     (subst (λ (x : List ℕ). Begun (g.S.Store.seen c.args.self.now.store) x (g.S.Store.seen c.append_synced.new.store)) (c.requires.spelled h) (c.append_synced.ensures.began (c.in-Err-Device.is ∙ ap Err c.in-Err-Device.field-0-is)))
+
+pub returns-in-Ok-clause-does : goal.returns-in-Ok-clause-does
+returns-in-Ok-clause-does g c = λ _. (returns-in-Ok-clause-grown g c, c.in-Ok.ensures.done.1)
+
+pub returns-in-Err-Device-clause-does : goal.returns-in-Err-Device-clause-does
+returns-in-Err-Device-clause-does g c = λ _. returns-in-Err-Device-clause-whole g c
