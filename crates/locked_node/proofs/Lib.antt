@@ -1,3 +1,4 @@
+pub mod Crossing
 mod Walks
 mod Growing
 mod Replaying

@@ -9,7 +9,7 @@ use Rattle.vote_journal.specs.Grammar.{is_rising}
 use Rattle.node_core.specs.Core.{Core, Stands, delivered_in}
 use Rattle.locked_node.specs.Locked.{Locked, IsLocked, count_of}
 
--- The decision is of this height and of its value's id, and its precommits for that id, of its height and round, are of distinct validators, who are a quorum.
+-- The decision is of this height and of its value's id, and its precommits for that id, of its height and round, name distinct senders, who are a quorum.
 pub record IsCertified (powers : List ℕ) (at : ℕ) (b : Bundle) : Type 0 where
   pub height : b.height ≡ at
   pub name : b.id ≡ id b.value

@@ -19,3 +19,4 @@ pub mod Telling
 pub mod Called
 pub mod Reopened
 pub mod Broken
+pub mod Crossing

@@ -12,7 +12,7 @@ use Rattle.protocol.specs.declared.refusal.Refusal.{Refusal as Answer}
 use Rattle.protocol.specs.declared.refusal.Refusal.TheVariants as answers
 use Rattle.vote_journal.specs.Store.{Grew}
 use Rattle.vote_journal.specs.Layout.{IsJournal}
-use Rattle.node_core.specs.Core.{Core, JournalSeen, Stands, IsSame, setting_of, frame_by}
+use Rattle.node_core.specs.Core.{Core, JournalSeen, MayLeave, Stands, IsSame, setting_of, frame_by}
 
 -- A refusal changes nothing, but that no rule was fired by it.
 abbrev pub IsUnchanged : Core → Core → Type 0
@@ -42,6 +42,13 @@ IsLeft powers me journal more bytes = (rs : List Record) × IsJournal powers me 
 -- those of the node's journal, or of one with the record of what was cut
 abbrev pub IsLeftBy : Setting → ℕ → Node → Option Cut → List ℕ → Type 0
 IsLeftBy c p n cut bytes = IsLeft c.powers p n.journal (cut_record c p n cut) bytes
+
+-- So is what stands of a journal, and whatever a stop may leave of it.
+abbrev pub Leaves : List ℕ → ℕ → List Record → List Record → JournalSeen → Type 0
+Leaves powers me journal more seen = IsLeft powers me journal more seen.bytes × ((c : List ℕ) → MayLeave seen c → IsLeft powers me journal more c)
+
+abbrev pub LeavesBy : Setting → ℕ → Node → Option Cut → JournalSeen → Type 0
+LeavesBy c p n cut seen = Leaves c.powers p n.journal (cut_record c p n cut) seen
 
 -- whether it has failed is as it was, and no failure of the device was counted
 pub record Serves (old new : JournalSeen) : Type 0 where
@@ -125,11 +132,11 @@ IsNotTaken (Err answers.OutOfMemory) old new = IsUnchanged old new
 IsNotTaken (Err answers.JournalFailed) old new = new ≡ record old { journal = new.journal; fired = 0 }
 IsNotTaken result old new = ⊥
 
--- The device failed as the input was taken in, which was left undone; or as the next rule was to fire, after so many. What stands in the store has the records so far, and at most the one that was being saved.
+-- The device failed as the input was taken in, which was left undone; or as the next rule was to fire, after so many. What stands in the store, and whatever a stop may leave of it, has the records so far, and at most the one that was being saved.
 abbrev pub IsBroken : Node → Input → Core → Core → Type 0
 IsBroken n input old new =
-    ((new ≡ record old { journal = new.journal; fired = 0 }) × IsLeftBy (setting_of old) old.machine.me n (input_cut input) new.journal.bytes)
-    ⊎ ((times : ℕ) × IsCalled n input times old new × IsLeftBy (setting_of old) old.machine.me (after (setting_of old) old.machine.me n input times) (next_cut (setting_of old) (after (setting_of old) old.machine.me n input times)) new.journal.bytes)
+    ((new ≡ record old { journal = new.journal; fired = 0 }) × LeavesBy (setting_of old) old.machine.me n (input_cut input) new.journal)
+    ⊎ ((times : ℕ) × IsCalled n input times old new × LeavesBy (setting_of old) old.machine.me (after (setting_of old) old.machine.me n input times) (next_cut (setting_of old) (after (setting_of old) old.machine.me n input times)) new.journal)
 
 -- The call did so; or it did not take its input in, and is told so.
 abbrev pub IsDone : Node → Input → Result (Unit {0}) Answer → Core → Core → Type 0

@@ -6,3 +6,4 @@ pub mod Firing
 pub mod Running
 pub mod Opening
 pub mod Next
+pub mod Base

@@ -1,5 +1,5 @@
 -- A node that comes back over its own journal.
-use Rattle.std.specs.Prelude.{ℕ, false, List, []}
+use Rattle.std.specs.Prelude.{ℕ, false, None, List, []}
 use Rattle.authenticators.specs.Ring.{Ring}
 use Rattle.protocol.specs.Messages.{Body, Bundle, Record}
 use Rattle.protocol.specs.declared.records.OwnMessage.{OwnMessage}
@@ -16,7 +16,7 @@ pub record IsRead (powers : List ℕ) (me : ℕ) (bytes : List ℕ) (decisions :
 
 -- the journal that stands over these bytes
 abbrev pub running : ℕ → List ℕ → ℕ → JournalSeen
-running me bytes failures = record { bytes = bytes; me = me; failed = false; failures = failures }
+running me bytes failures = record { bytes = bytes; me = me; failed = false; broken = None; failures = failures }
 
 -- a core of which no rule has fired: nothing waits, and nothing was released or scheduled
 abbrev pub unfired : Machine → Ring → List Bundle → List Body → JournalSeen → Core

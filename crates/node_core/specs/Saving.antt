@@ -4,9 +4,9 @@ use Rattle.protocol.specs.Messages.{Record}
 use Rattle.protocol.specs.declared.refusal.Refusal.{Refusal as Answer}
 use Rattle.protocol.specs.declared.refusal.Refusal.TheVariants as answers
 use Rattle.vote_journal.specs.Layout.{IsWhole}
-use Rattle.vote_journal.specs.Saving.{IsBeforeOrAfter, WhereSaved}
+use Rattle.vote_journal.specs.Saving.{IsBeforeOrAfter, LeavesBeforeOrAfter, WhereSaved}
 use Rattle.vote_journal.specs.Store.{Grew}
-use Rattle.node_core.specs.Core.{JournalSeen}
+use Rattle.node_core.specs.Core.{JournalSeen, MayLeave}
 use Rattle.node_core.specs.Firing.{decision_in, IsNarrow}
 use Rattle.node_core.specs.declared.journal.Unfired.{Unfired}
 use Rattle.node_core.specs.declared.journal.Unfired.TheVariants.{OutOfMemory, JournalFailed}
@@ -18,12 +18,12 @@ pub record HasSaved (r : Record) (old new : JournalSeen) : Type 0 where
   pub failed : new.failed ≡ old.failed
   pub failures : new.failures ≡ old.failures
 
--- it failed, or had failed: then what stands has the records before, or this one too, and no others
+-- it failed, or had failed: then what stands has the records before, or this one too, and no others, and so has whatever a stop may leave
 pub record HasBroken (r : Record) (old new : JournalSeen) : Type 0 where
   pub me : new.me ≡ old.me
   pub failed : new.failed ≡ true
   pub grew : old.failed ≡ false → Grew old.failures new.failures
-  pub left : old.failed ≡ false → WhereSaved old.me old.bytes r (λ powers rs. IsBeforeOrAfter powers old.me new.bytes rs r)
+  pub left : old.failed ≡ false → WhereSaved old.me old.bytes r (λ powers rs. IsBeforeOrAfter powers old.me new.bytes rs r × LeavesBeforeOrAfter powers old.me (MayLeave new) rs r)
   pub narrow : All IsNarrow (decision_in r)
 
 -- the journal has the record, if there is one

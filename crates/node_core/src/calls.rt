@@ -11,7 +11,7 @@ ghost use Rattle.protocol.specs.History.{Settle, Given, Due};
 ghost use Rattle.node_core.specs.Core.{Stands, setting_of, frame_by};
 ghost use Rattle.node_core.specs.Next.{HandlesNext};
 ghost use Rattle.protocol.specs.Answers.{Answers};
-ghost use Rattle.node_core.specs.Calls.{IsDone, IsBroken, IsLeftBy, IsTaken, IsUnfired, IsUnchanged, TellsJournal, input_cut};
+ghost use Rattle.node_core.specs.Calls.{IsDone, IsBroken, LeavesBy, IsTaken, IsUnfired, IsUnchanged, TellsJournal, input_cut};
 
 use crate::node::NodeCore;
 use frame_admission::{InTurn, Tagger, admit, frame_for};
@@ -103,7 +103,7 @@ impl<S: Store + Drop> NodeCore<S> {
     fn fire_due<T: Tagger>(&mut self, tagger: &T, timeout: Timeout) -> Result<(), Refusal>
         requires running { self.old.journal.failed ≡ false }
         ensures ok { OnOk result ((n : Node) → Stands n self.old → IsTaken n (Due timeout) self.old self.new) }
-        ensures broken { result ≡ Err Refusal.JournalFailed → (n : Node) → Stands n self.old → IsLeftBy (setting_of self.old) self.old.machine.me n (input_cut (Due timeout)) self.new.journal.bytes }
+        ensures broken { result ≡ Err Refusal.JournalFailed → (n : Node) → Stands n self.old → LeavesBy (setting_of self.old) self.old.machine.me n (input_cut (Due timeout)) self.new.journal }
         ensures journal { TellsJournal result self.old.journal self.new.journal }
         ensures err { IfErr result (λ r. IsUnfired r self.old self.new) }
     {

@@ -129,7 +129,7 @@ pub(crate) fn carry_out<S: Store + Drop>(
         timeout,
     } = plan;
     state.make_room(&change)?;
-    match journal.save(entry, &spelled) {
+    match journal.save(entry, spelled) {
         Ok(saved) => {
             let said = state.apply(change, saved);
             Ok(Fired { said, timeout })

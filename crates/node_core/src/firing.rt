@@ -10,7 +10,7 @@ ghost use Rattle.protocol.specs.Values.{Item};
 ghost use Rattle.round_machine.specs.Naming.{rule_of, IsPlaced};
 ghost use Rattle.protocol.specs.Arrivals.{firing};
 ghost use Rattle.node_core.specs.Core.{Stands, context_of, setting_of};
-ghost use Rattle.node_core.specs.Calls.{HasFiredOnce, IsLeft, IsUnfired, TellsJournal};
+ghost use Rattle.node_core.specs.Calls.{HasFiredOnce, Leaves, IsUnfired, TellsJournal};
 ghost use Rattle.node_core.specs.Running.{HasRun, IsCutOff};
 ghost use Rattle.node_core.specs.Firing.{IsHanded, IsFit, IsReady, IsRoundHanded, decided_by, said_by, is_empty, IsNarrow};
 
@@ -69,7 +69,7 @@ impl<S: Store + Drop> NodeCore<S> {
         requires placed { IsPlaced self.old.machine.state rule }
         requires holds { holds (context_of self.old) self.old.machine.state (rule_of self.old.machine.state rule) ≡ true }
         ensures ok { OnOk result ((n : Node) → Stands n self.old → HasFiredOnce n (rule_of self.old.machine.state rule) self.old self.new) }
-        ensures broken { result ≡ Err Refusal.JournalFailed → (n : Node) → Stands n self.old → IsLeft self.old.machine.powers self.old.machine.me n.journal (option_to_list (firing (setting_of self.old) self.old.machine.me n (rule_of self.old.machine.state rule)).wrote) self.new.journal.bytes }
+        ensures broken { result ≡ Err Refusal.JournalFailed → (n : Node) → Stands n self.old → Leaves self.old.machine.powers self.old.machine.me n.journal (option_to_list (firing (setting_of self.old) self.old.machine.me n (rule_of self.old.machine.state rule)).wrote) self.new.journal }
         ensures state { OnOk result (self.new.machine.state ≡ fired (context_of self.old) (pick self.old.queues) self.old.machine.state (rule_of self.old.machine.state rule)) }
         ensures fired { self.new.fired ≡ self.old.fired }
         ensures journal { TellsJournal result self.old.journal self.new.journal }

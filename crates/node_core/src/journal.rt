@@ -1,15 +1,17 @@
 //! The journal of a node: what its firings say is saved there first.
 
-ghost use Rattle.std.specs.Prelude.{◌≡◌, ◌<◌, ◌^◌, length, true, false, All, Some, IfOk, IfErr, IfSome, OnOk, OnErr, option_map};
+ghost use Rattle.std.specs.Prelude.{◌≡◌, ◌<◌, ◌^◌, ℕ, List, length, true, false, All, None, Some, IfOk, IfErr, IfSome, OnOk, OnErr, option_map};
 ghost use Rattle.protocol.specs.Records.{record_of};
 ghost use Rattle.vote_journal.specs.Grammar.{record_spelling, IsRecord};
 ghost use Rattle.vote_journal.specs.Store.{Only};
+ghost use Rattle.node_core.specs.Core.{MayLeave};
 ghost use Rattle.node_core.specs.Saving.{HasSaved, IsWritten, IsUnwritten};
 ghost use Rattle.node_core.specs.Firing.{decision_in, IsNarrow};
 
 use protocol::{Record, Refusal};
-use std::alloc::AllocError;
+use std::alloc::{AllocError, Global};
 use std::marker::Model;
+use std::snapshot::Snapshot;
 use vote_journal::{Journal, JournalFault, Saved, Store};
 
 /// Why a plan was not carried out. The state has not changed.
@@ -49,21 +51,32 @@ impl From<Unfired> for Refusal {
 #[derive(Drop)]
 pub(crate) struct NodeJournal<S: Store + Drop> {
     journal: Journal<S>,
+    /// The journal as it was before the save that failed, which only clauses read.
+    before: Snapshot<Journal<S>>,
+    /// What that save was adding.
+    added: Vec<u8>,
 }
 
 impl<S: Store + Drop> Model for NodeJournal<S> {
-    ghost use Rattle.node_core.specs.Core.{JournalSeen};
+    ghost use Rattle.node_core.specs.Core.{JournalSeen, TellsLeft, where_failed};
 
     ghost Value = { JournalSeen };
 
-    ghost view = { λ a. record { bytes = S.seen a.journal.store; me = a.journal.me; failed = a.journal.failed; failures = S.failures a.journal.store } };
+    ghost view = { λ a. record { bytes = S.seen a.journal.store; me = a.journal.me; failed = a.journal.failed; broken = where_failed a.journal.failed (record { stood = S.seen a.before.value.store; added = a.added.items }); failures = S.failures a.journal.store } };
+
+    ghost invariant = { λ a. TellsLeft (S.may_leave a.journal.store) (record { bytes = S.seen a.journal.store; me = a.journal.me; failed = a.journal.failed; broken = where_failed a.journal.failed (record { stood = S.seen a.before.value.store; added = a.added.items }); failures = S.failures a.journal.store }) };
 }
 
 impl<S: Store + Drop> NodeJournal<S> {
-    pub(crate) fn new(journal: Journal<S>) -> NodeJournal<S>
-        ensures { result ≡ record { bytes = S.seen journal.store; me = journal.me; failed = journal.failed; failures = S.failures journal.store } }
+    pub(crate) fn new(alloc: Global, journal: Journal<S>) -> NodeJournal<S>
+        requires { journal.failed ≡ false }
+        ensures { result ≡ record { bytes = S.seen journal.store; me = journal.me; failed = false; broken = None; failures = S.failures journal.store } }
     {
-        NodeJournal { journal }
+        NodeJournal {
+            before: Snapshot::of(&journal),
+            journal,
+            added: Vec::new(alloc),
+        }
     }
 
     /// Whether a save failed for the device.
@@ -78,8 +91,13 @@ impl<S: Store + Drop> NodeJournal<S> {
         ensures bytes { S.seen result ≡ self.bytes }
         ensures failures { S.failures result ≡ self.failures }
         ensures synced { self.failed ≡ false → Only (S.seen result) (S.may_leave result) }
+        ensures left { (c : List ℕ) → S.may_leave result c → MayLeave self c }
     {
-        let NodeJournal { journal } = self;
+        let NodeJournal {
+            journal,
+            before: _,
+            added: _,
+        } = self;
         journal.close()
     }
 
@@ -87,9 +105,9 @@ impl<S: Store + Drop> NodeJournal<S> {
     pub(crate) fn save(
         &mut self,
         entry: Option<Record>,
-        spelled: &[u8],
+        spelled: Vec<u8>,
     ) -> Result<Option<Saved>, Unfired>
-        requires { IfSome (option_map record_of entry) (λ r. IsRecord self.old.me r → spelled.now ≡ record_spelling self.old.me r) }
+        requires { IfSome (option_map record_of entry) (λ r. IsRecord self.old.me r → spelled.items ≡ record_spelling self.old.me r) }
         ensures same { IfOk result (λ saved. saved ≡ option_map record_of entry) }
         ensures wrote { OnOk result (IsWritten (option_map record_of entry) self.old self.new) }
         ensures unwritten { IfErr result (λ e. IsUnwritten e (option_map record_of entry) self.old self.new) }
@@ -104,8 +122,8 @@ impl<S: Store + Drop> NodeJournal<S> {
     }
 
     /// Saves a record.
-    fn save_record(&mut self, entry: Record, spelled: &[u8]) -> Result<Saved, Unfired>
-        requires { IsRecord self.old.me (record_of entry) → spelled.now ≡ record_spelling self.old.me (record_of entry) }
+    fn save_record(&mut self, entry: Record, spelled: Vec<u8>) -> Result<Saved, Unfired>
+        requires { IsRecord self.old.me (record_of entry) → spelled.items ≡ record_spelling self.old.me (record_of entry) }
         ensures same { IfOk result (λ saved. saved ≡ record_of entry) }
         ensures wrote { OnOk result (HasSaved (record_of entry) self.old self.new) }
         ensures unwritten { IfErr result (λ e. IsUnwritten e (Some (record_of entry)) self.old self.new) }
@@ -115,10 +133,15 @@ impl<S: Store + Drop> NodeJournal<S> {
         if self.journal.has_failed() {
             return Err(Unfired::JournalFailed);
         }
-        match self.journal.save(entry, spelled) {
+        let before = Snapshot::of(&self.journal);
+        match self.journal.save(entry, &spelled) {
             Ok(saved) => Ok(saved),
             Err(JournalFault::OutOfMemory) => Err(Unfired::OutOfMemory),
-            Err(JournalFault::Failed) => Err(Unfired::JournalFailed),
+            Err(JournalFault::Failed) => {
+                self.before = before;
+                self.added = spelled;
+                Err(Unfired::JournalFailed)
+            }
             // No save answers this.
             Err(JournalFault::BadRecord) => Err(Unfired::JournalFailed),
         }

@@ -11,6 +11,7 @@
 //! Line numbers are those of algorithm 1 of arXiv 1807.04938.
 #![tactic(auto)]
 
+mod base;
 mod calls;
 mod carrying;
 mod firing;
@@ -19,4 +20,5 @@ mod node;
 mod opening;
 mod taking;
 
+pub use base::{Base, Variables};
 pub use node::{Config, NodeCore};

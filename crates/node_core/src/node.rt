@@ -1,6 +1,6 @@
 //! The core, and what it tells of itself.
 
-ghost use Rattle.std.specs.Prelude.{◌≡◌, ◌<◌, [], true, false, length, map, is_none};
+ghost use Rattle.std.specs.Prelude.{◌≡◌, ◌<◌, ℕ, List, [], None, true, false, length, map, is_none};
 ghost use Rattle.protocol.specs.Values.{fifo};
 ghost use Rattle.protocol.specs.Tags.{Validator};
 ghost use Rattle.protocol.specs.State.{Node};
@@ -12,7 +12,7 @@ ghost use Rattle.round_states.specs.Seen.{delivered_by};
 ghost use Rattle.height_catchup.specs.Kept.{IsInPlace};
 ghost use Rattle.vote_journal.specs.Layout.{IsWhole};
 ghost use Rattle.vote_journal.specs.Store.{Only};
-ghost use Rattle.node_core.specs.Core.{Stands, delivered_in};
+ghost use Rattle.node_core.specs.Core.{Stands, MayLeave, delivered_in};
 
 use crate::journal::NodeJournal;
 use authenticators::KeyRing;
@@ -83,7 +83,7 @@ impl<S: Store + Drop> NodeCore<S> {
         ensures powers { result.machine.powers ≡ config.powers }
         ensures me { result.machine.me ≡ config.me }
         ensures ring { result.ring ≡ ring }
-        ensures journal { result.journal ≡ record { bytes = S.seen journal.store; me = journal.me; failed = false; failures = S.failures journal.store } }
+        ensures journal { result.journal ≡ record { bytes = S.seen journal.store; me = journal.me; failed = false; broken = None; failures = S.failures journal.store } }
         ensures empty { (result.outgoing ≡ []) × (result.scheduled ≡ []) × (result.fired ≡ 0) }
     {
         let Config { me, powers } = config;
@@ -97,7 +97,7 @@ impl<S: Store + Drop> NodeCore<S> {
             mempool: Mempool::new(alloc),
             decisions: Decisions::new(alloc),
             said: Vec::new(alloc),
-            journal: NodeJournal::new(journal),
+            journal: NodeJournal::new(alloc, journal),
             outgoing: Vec::new(alloc),
             scheduled: Vec::new(alloc),
             fired: 0,
@@ -204,11 +204,12 @@ impl<S: Store + Drop> NodeCore<S> {
     }
 
     /// Ends the node, and gives its journal's store, which can be opened again. Unless the node has halted, a stop leaves
-    /// just what the store holds.
+    /// just what the store holds; else that, or what had stood as the save began that failed, or some of what it was adding.
     pub fn close(self) -> S
         ensures bytes { S.seen result ≡ self.journal.bytes }
         ensures failures { S.failures result ≡ self.journal.failures }
         ensures synced { self.journal.failed ≡ false → Only (S.seen result) (S.may_leave result) }
+        ensures left { (c : List ℕ) → S.may_leave result c → MayLeave self.journal c }
     {
         let NodeCore {
             alloc: _,

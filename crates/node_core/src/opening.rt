@@ -149,7 +149,7 @@ impl<S: Store + Drop> NodeCore<S> {
         ensures powers { IfOk result (λ core. core.machine.powers ≡ config.powers) }
         ensures me { IfOk result (λ core. core.machine.me ≡ config.me) }
         ensures ring { IfOk result (λ core. core.ring ≡ ring) }
-        ensures journal { IfOk result (λ core. core.journal ≡ record { bytes = S.seen opened.journal.store; me = opened.journal.me; failed = false; failures = S.failures opened.journal.store }) }
+        ensures journal { IfOk result (λ core. core.journal ≡ record { bytes = S.seen opened.journal.store; me = opened.journal.me; failed = false; broken = None; failures = S.failures opened.journal.store }) }
         ensures empty { IfOk result (λ core. (core.outgoing ≡ []) × (core.scheduled ≡ []) × (core.fired ≡ 0)) }
         ensures back { IfErr result (λ e. e.value ≡ opened) }
     {
@@ -167,8 +167,9 @@ impl<S: Store + Drop> NodeCore<S> {
     /// A node of which no rule has fired. It takes no memory.
     fn over(alloc: Global, ring: KeyRing, restart: Restart, opened: Opened<S>) -> NodeCore<S>
         requires placed { IsInPlace opened.decisions.items }
-        requires sound { IsSound (unfired restart.state ring opened.decisions.items restart.said.items (record { bytes = S.seen opened.journal.store; me = opened.journal.me; failed = opened.journal.failed; failures = S.failures opened.journal.store })) }
-        ensures { result ≡ unfired restart.state ring opened.decisions.items restart.said.items (record { bytes = S.seen opened.journal.store; me = opened.journal.me; failed = opened.journal.failed; failures = S.failures opened.journal.store }) }
+        requires running { opened.journal.failed ≡ false }
+        requires sound { IsSound (unfired restart.state ring opened.decisions.items restart.said.items (record { bytes = S.seen opened.journal.store; me = opened.journal.me; failed = opened.journal.failed; broken = None; failures = S.failures opened.journal.store })) }
+        ensures { result ≡ unfired restart.state ring opened.decisions.items restart.said.items (record { bytes = S.seen opened.journal.store; me = opened.journal.me; failed = opened.journal.failed; broken = None; failures = S.failures opened.journal.store }) }
     {
         let Restart { state, said } = restart;
         let Opened {
@@ -183,7 +184,7 @@ impl<S: Store + Drop> NodeCore<S> {
             mempool: Mempool::new(alloc),
             decisions: Decisions::of(alloc, decisions),
             said,
-            journal: NodeJournal::new(journal),
+            journal: NodeJournal::new(alloc, journal),
             outgoing: Vec::new(alloc),
             scheduled: Vec::new(alloc),
             fired: 0,

@@ -15,7 +15,7 @@ ghost use Rattle.frame_admission.specs.Gate.{gate_causes, state_causes};
 ghost use Rattle.round_machine.specs.Bundling.{Came};
 ghost use Rattle.node_core.specs.Core.{Stands, setting_of, context_of, frame_by};
 ghost use Rattle.protocol.specs.Answers.{IsAnswer};
-ghost use Rattle.node_core.specs.Calls.{IsReceived, IsLeft, IsRefused, IsUnfired, IsBeside, HasFiredOnce, TellsJournal};
+ghost use Rattle.node_core.specs.Calls.{IsReceived, Leaves, IsRefused, IsUnfired, IsBeside, HasFiredOnce, TellsJournal};
 
 use crate::carrying::{Fired, Spelled, carry_out};
 use crate::firing::{make_room, note, push_one};
@@ -37,7 +37,7 @@ impl<S: Store + Drop> NodeCore<S> {
         requires running { self.old.journal.failed ≡ false }
         ensures answer { (n : Node) → Stands n self.old → IsAnswer (first_cause (state_causes (setting_of self.old) self.old.machine.me n message message.body)) result }
         ensures ok { OnOk result ((n : Node) → Stands n self.old → IsReceived n message self.old self.new) }
-        ensures broken { result ≡ Err Refusal.JournalFailed → (n : Node) → Stands n self.old → IsLeft self.old.machine.powers self.old.machine.me n.journal (option_to_list (received (setting_of self.old) self.old.machine.me n message message.body).wrote) self.new.journal.bytes }
+        ensures broken { result ≡ Err Refusal.JournalFailed → (n : Node) → Stands n self.old → Leaves self.old.machine.powers self.old.machine.me n.journal (option_to_list (received (setting_of self.old) self.old.machine.me n message message.body).wrote) self.new.journal }
         ensures fired { self.new.fired ≡ self.old.fired }
         ensures journal { TellsJournal result self.old.journal self.new.journal }
         ensures err { IfErr result (λ r. IsRefused r self.old self.new) }
@@ -145,7 +145,7 @@ impl<S: Store + Drop> NodeCore<S> {
         requires running { self.old.journal.failed ≡ false }
         ensures answer { IsAnswer (first_cause (bundle_causes (setting_of self.old) self.old.machine.me self.old.machine.state bundle)) result }
         ensures ok { OnOk result ((n : Node) → Stands n self.old → HasFiredOnce n (DecideByBundle bundle) self.old self.new) }
-        ensures broken { result ≡ Err Refusal.JournalFailed → (n : Node) → Stands n self.old → IsLeft self.old.machine.powers self.old.machine.me n.journal (option_to_list (firing (setting_of self.old) self.old.machine.me n (DecideByBundle bundle)).wrote) self.new.journal.bytes }
+        ensures broken { result ≡ Err Refusal.JournalFailed → (n : Node) → Stands n self.old → Leaves self.old.machine.powers self.old.machine.me n.journal (option_to_list (firing (setting_of self.old) self.old.machine.me n (DecideByBundle bundle)).wrote) self.new.journal }
         ensures fired { self.new.fired ≡ self.old.fired }
         ensures journal { TellsJournal result self.old.journal self.new.journal }
         ensures err { IfErr result (λ r. IsRefused r self.old self.new) }
@@ -171,7 +171,7 @@ impl<S: Store + Drop> NodeCore<S> {
         requires holds { holds (context_of self.old) self.old.machine.state (DecideByBundle bundle) ≡ true }
         requires spelled { IsBundle bundle }
         ensures ok { OnOk result ((n : Node) → Stands n self.old → HasFiredOnce n (DecideByBundle bundle) self.old self.new) }
-        ensures broken { result ≡ Err Refusal.JournalFailed → (n : Node) → Stands n self.old → IsLeft self.old.machine.powers self.old.machine.me n.journal (option_to_list (firing (setting_of self.old) self.old.machine.me n (DecideByBundle bundle)).wrote) self.new.journal.bytes }
+        ensures broken { result ≡ Err Refusal.JournalFailed → (n : Node) → Stands n self.old → Leaves self.old.machine.powers self.old.machine.me n.journal (option_to_list (firing (setting_of self.old) self.old.machine.me n (DecideByBundle bundle)).wrote) self.new.journal }
         ensures fired { self.new.fired ≡ self.old.fired }
         ensures journal { TellsJournal result self.old.journal self.new.journal }
         ensures err { IfErr result (λ r. IsUnfired r self.old self.new) }

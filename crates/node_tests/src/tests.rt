@@ -8,6 +8,7 @@ ghost use Rattle.std.specs.Prelude.{◌≡◌, [], false, IfOk, length};
 ghost use Rattle.protocol.specs.Tags.{Validator};
 ghost use Rattle.vote_journal.specs.Layout.{IsWhole};
 
+mod base;
 mod memory;
 mod opening;
 mod proposer;

@@ -1,6 +1,6 @@
 //! The threads of a node, from their start to their end.
 
-ghost use denote.Param.Send.{IsSend};
+ghost use denote.Param.Send.{IsSend, IsSync};
 
 use crate::bell::Bell;
 use crate::desk::Desk;
@@ -132,6 +132,10 @@ impl<'n, S: Store + Drop + Send, J: Node + Send + Sync, C: Clock + Sync> Shared<
             |scope|
                 requires links { IsSend L.Link.row }
                 requires dialer { IsSend L.Dialer.row }
+                requires store { IsSend S.row }
+                requires words { IsSend J.row }
+                requires clock { IsSync C.row }
+                requires runtime { IsSync R.row }
             {
                 let timer = scope.spawn(move || self.run_timer(rt));
                 let dialing = scope.spawn(move || self.run_dialer(rt, dialer));

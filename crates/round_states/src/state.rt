@@ -203,6 +203,13 @@ impl State {
         &self.tally
     }
 
+    /// The kept precommits of others with their tags, in order of arrival: of them a certificate is made.
+    pub fn stamps(&self) -> &[Stamp]
+        ensures { result.now ≡ self.now.state.stamps }
+    {
+        &self.stamps
+    }
+
     /// Whether the timeout of prevotes was scheduled in this round: line 34 acts once in a round.
     pub fn are_prevotes_awaited(&self) -> bool
         ensures { result ≡ self.now.state.prevotes_awaited }

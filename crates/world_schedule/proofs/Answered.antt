@@ -1,5 +1,5 @@
 -- A call that keeps a core's contract is a call of the world, answered by the world's cause.
-use Rattle.std.proofs.Common.{Bool, true, false, ◌⊎◌, ◌≡◌, ◌≢◌, ℕ, ◌-◌, ◌^◌, List, option_map, inl, inr, Option, None, Result, Ok, Err, refl, sym, ap, ◌∙◌, subst, subst₂, arith, eq-eqb, append-nil}
+use Rattle.std.proofs.Common.{Bool, true, false, ◌⊎◌, ◌≡◌, ◌≢◌, ℕ, ◌-◌, ◌^◌, option_map, inl, inr, Option, None, Result, Ok, Err, refl, sym, ap, ◌∙◌, subst, subst₂, arith, eq-eqb, append-nil}
 use Rattle.std.specs.Prelude.{min}
 use Rattle.protocol.specs.Tags.{Setting}
 use Rattle.protocol.specs.State.{State, Node}
@@ -7,9 +7,9 @@ use Rattle.protocol.specs.Order.{enabled}
 use Rattle.protocol.specs.Calls.{Halted, NoMemory, JournalFailed, call_number, timeout_answer}
 use Rattle.protocol.specs.World.{Cut, InFiring}
 use Rattle.protocol.specs.History.{Input, Settle, Given, Due, taken, after}
-use Rattle.node_core.specs.Core.{Core, setting_of}
+use Rattle.node_core.specs.Core.{Core, JournalSeen, setting_of}
 use Rattle.protocol.specs.Answers.{Answers, IsRefusal}
-use Rattle.node_core.specs.Calls.{TellsJournal, IsNotTaken, EachIsNamed, IsUnchanged, IsLeft, IsLeftBy, input_cut, next_cut}
+use Rattle.node_core.specs.Calls.{TellsJournal, IsNotTaken, EachIsNamed, IsUnchanged, Leaves, LeavesBy, input_cut, next_cut}
 use Rattle.protocol.specs.Answers.{numbers_of}
 use Rattle.protocol.specs.declared.refusal.Refusal.{Refusal as Answer}
 use Rattle.protocol.specs.declared.refusal.Refusal.TheVariants as answers
@@ -39,26 +39,26 @@ none_fired times counted e z = omega arith
 
 -- ---- what stands in the store
 
-left_alike : (c d : Setting) (p : ℕ) (n : Node) (cut : Option Cut) (bytes : List ℕ) → ActsAlike p d c → d.powers ≡ c.powers → IsLeftBy d p n cut bytes → IsLeftBy c p n cut bytes
-left_alike c d p n cut bytes a powers left = subst₂ (λ ps more. IsLeft ps p n.journal more bytes) powers (a.firing_rules.cuts n cut) left
+left_alike : (c d : Setting) (p : ℕ) (n : Node) (cut : Option Cut) (journal : JournalSeen) → ActsAlike p d c → d.powers ≡ c.powers → LeavesBy d p n cut journal → LeavesBy c p n cut journal
+left_alike c d p n cut journal a powers left = subst₂ (λ ps more. Leaves ps p n.journal more journal) powers (a.firing_rules.cuts n cut) left
 
-next_alike : (c d : Setting) (p : ℕ) (n : Node) (input : Input) (times : ℕ) (bytes : List ℕ) → ActsAlike p d c → d.powers ≡ c.powers → IsLeftBy d p (after d p n input times) (next_cut d (after d p n input times)) bytes → IsLeftBy c p (after c p n input times) (next_cut c (after c p n input times)) bytes
-next_alike c d p n input times bytes a powers left =
-    let there = subst (λ m. IsLeftBy d p m (next_cut d m) bytes) (a.called.calls n input times) left in
+next_alike : (c d : Setting) (p : ℕ) (n : Node) (input : Input) (times : ℕ) (journal : JournalSeen) → ActsAlike p d c → d.powers ≡ c.powers → LeavesBy d p (after d p n input times) (next_cut d (after d p n input times)) journal → LeavesBy c p (after c p n input times) (next_cut c (after c p n input times)) journal
+next_alike c d p n input times journal a powers left =
+    let there = subst (λ m. LeavesBy d p m (next_cut d m) journal) (a.called.calls n input times) left in
     let same : next_cut d (after c p n input times) ≡ next_cut c (after c p n input times) = ap (λ ps. option_map InFiring (enabled ps (after c p n input times).state)) powers in
-    left_alike c d p (after c p n input times) (next_cut c (after c p n input times)) bytes a powers (subst (λ cut. IsLeftBy d p (after c p n input times) cut bytes) same there)
+    left_alike c d p (after c p n input times) (next_cut c (after c p n input times)) journal a powers (subst (λ cut. LeavesBy d p (after c p n input times) cut journal) same there)
 
 -- by the core's own number
-input_left : (c : Setting) (n : Node) (old : Core) → StandsIn c old.machine.me n old → (input : Input) (bytes : List ℕ) → IsLeftBy (setting_of old) old.machine.me n (input_cut input) bytes → IsLeftBy c old.machine.me n (input_cut input) bytes
-input_left c n old s input bytes left =
+input_left : (c : Setting) (n : Node) (old : Core) → StandsIn c old.machine.me n old → (input : Input) (journal : JournalSeen) → LeavesBy (setting_of old) old.machine.me n (input_cut input) journal → LeavesBy c old.machine.me n (input_cut input) journal
+input_left c n old s input journal left =
     let alike = own_law c old.machine.me old s.own in
-    left_alike c (setting_of old) old.machine.me n (input_cut input) bytes (seeing_law old.machine.me (setting_of old) c alike) alike.powers left
+    left_alike c (setting_of old) old.machine.me n (input_cut input) journal (seeing_law old.machine.me (setting_of old) c alike) alike.powers left
 
-next_left : (c : Setting) (n : Node) (old : Core) → StandsIn c old.machine.me n old → (input : Input) (times : ℕ) (bytes : List ℕ) → IsLeftBy (setting_of old) old.machine.me (after (setting_of old) old.machine.me n input times) (next_cut (setting_of old) (after (setting_of old) old.machine.me n input times)) bytes
-    → IsLeftBy c old.machine.me (after c old.machine.me n input times) (next_cut c (after c old.machine.me n input times)) bytes
-next_left c n old s input times bytes left =
+next_left : (c : Setting) (n : Node) (old : Core) → StandsIn c old.machine.me n old → (input : Input) (times : ℕ) (journal : JournalSeen) → LeavesBy (setting_of old) old.machine.me (after (setting_of old) old.machine.me n input times) (next_cut (setting_of old) (after (setting_of old) old.machine.me n input times)) journal
+    → LeavesBy c old.machine.me (after c old.machine.me n input times) (next_cut c (after c old.machine.me n input times)) journal
+next_left c n old s input times journal left =
     let alike = own_law c old.machine.me old s.own in
-    next_alike c (setting_of old) old.machine.me n input times bytes (seeing_law old.machine.me (setting_of old) c alike) alike.powers left
+    next_alike c (setting_of old) old.machine.me n input times journal (seeing_law old.machine.me (setting_of old) c alike) alike.powers left
 
 module _ (c : Setting) (p : ℕ) (n : Node) (old : Core) (s : StandsIn c p n old) (input : Input) (new : Core) where
   own_number : p ≡ old.machine.me
@@ -71,7 +71,7 @@ module _ (c : Setting) (p : ℕ) (n : Node) (old : Core) (s : StandsIn c p n old
   handed_node given times = rw (eq-eqb p p refl) refl
 
   -- a call that was made, however it was answered
-  made_so : (numbers : ℕ × ℕ) (times : ℕ) → (numbers ≡ call_number JournalFailed → LeavesCut c p n input (Handed p input times) new.journal.bytes) → IsCalledIn c p n input times old new → IsAnswered c p n input numbers (Handed p input times) → IsAnsweredIn c p n input numbers old new
+  made_so : (numbers : ℕ × ℕ) (times : ℕ) → (numbers ≡ call_number JournalFailed → LeavesCut c p n input (Handed p input times) new.journal) → IsCalledIn c p n input times old new → IsAnswered c p n input numbers (Handed p input times) → IsAnsweredIn c p n input numbers old new
   made_so numbers times broken k a = record {
     call = Handed p input times;
     answered = a;
@@ -85,7 +85,7 @@ module _ (c : Setting) (p : ℕ) (n : Node) (old : Core) (s : StandsIn c p n old
   made numbers times other k a = made_so numbers times (λ e. absurd (other (ap (λ (x : ℕ × ℕ). x.0) e))) k a
 
   -- one that did nothing
-  not_made : (numbers : ℕ × ℕ) → (numbers ≡ call_number JournalFailed → LeavesCut c p n input (Handed p Settle 0) new.journal.bytes) → StandsIn c p n new → new.outgoing ≡ old.outgoing → new.scheduled ≡ old.scheduled → IsAnswered c p n input numbers (Handed p Settle 0) → IsAnsweredIn c p n input numbers old new
+  not_made : (numbers : ℕ × ℕ) → (numbers ≡ call_number JournalFailed → LeavesCut c p n input (Handed p Settle 0) new.journal) → StandsIn c p n new → new.outgoing ≡ old.outgoing → new.scheduled ≡ old.scheduled → IsAnswered c p n input numbers (Handed p Settle 0) → IsAnsweredIn c p n input numbers old new
   not_made numbers broken stands outgoing scheduled a = record {
     call = Handed p Settle 0;
     answered = a;
@@ -124,18 +124,18 @@ module _ (c : Setting) (p : ℕ) (n : Node) (old : Core) (s : StandsIn c p n old
       other e = let f : 16 ≡ 17 = e in omega (arith, f)
 
   -- the device failed as the input was taken in
-  not_saved : new ≡ record old { journal = new.journal; fired = 0 } → new.journal.failed ≡ true → IsLeftBy (setting_of old) old.machine.me n (input_cut input) new.journal.bytes → IsAnsweredIn c p n input (call_number JournalFailed) old new
+  not_saved : new ≡ record old { journal = new.journal; fired = 0 } → new.journal.failed ≡ true → LeavesBy (setting_of old) old.machine.me n (input_cut input) new.journal → IsAnsweredIn c p n input (call_number JournalFailed) old new
   not_saved e failed left =
-      let here : IsLeftBy c p n (input_cut input) new.journal.bytes = subst (λ q. IsLeftBy c q n (input_cut input) new.journal.bytes) (sym own_number) (input_left c n old own_stands input new.journal.bytes left) in
-      not_made (call_number JournalFailed) (λ _. (input_cut input, inl (refl, refl), subst (λ m. IsLeftBy c p m (input_cut input) new.journal.bytes) (handed_node Settle 0) here))
+      let here : LeavesBy c p n (input_cut input) new.journal = subst (λ q. LeavesBy c q n (input_cut input) new.journal) (sym own_number) (input_left c n old own_stands input new.journal left) in
+      not_made (call_number JournalFailed) (λ _. (input_cut input, inl (refl, refl), subst (λ m. LeavesBy c p m (input_cut input) new.journal) (handed_node Settle 0) here))
       ((kept_law c p).broken n old new s e failed) (ap (λ (k : Core). k.outgoing) e) (ap (λ (k : Core). k.scheduled) e) (ended (call_number JournalFailed) 0 (Handed p Settle 0) (inr refl) none_named (inr refl))
 
   -- as a rule was to fire
-  cut_off : (times : ℕ) → IsCalledIn c p n input times old new → IsLeftBy (setting_of old) old.machine.me (after (setting_of old) old.machine.me n input times) (next_cut (setting_of old) (after (setting_of old) old.machine.me n input times)) new.journal.bytes → IsAnsweredIn c p n input (call_number JournalFailed) old new
+  cut_off : (times : ℕ) → IsCalledIn c p n input times old new → LeavesBy (setting_of old) old.machine.me (after (setting_of old) old.machine.me n input times) (next_cut (setting_of old) (after (setting_of old) old.machine.me n input times)) new.journal → IsAnsweredIn c p n input (call_number JournalFailed) old new
   cut_off times k left =
-      let there = next_left c n old own_stands input times new.journal.bytes left in
-      let here : IsLeftBy c p (after c p n input times) (next_cut c (after c p n input times)) new.journal.bytes = subst (λ q. IsLeftBy c q (after c q n input times) (next_cut c (after c q n input times)) new.journal.bytes) (sym own_number) there in
-      made_so (call_number JournalFailed) times (λ _. (next_cut c (after c p n input times), inr (times, refl, refl), subst (λ m. IsLeftBy c p m (next_cut c (after c p n input times)) new.journal.bytes) (handed_node input times) here))
+      let there = next_left c n old own_stands input times new.journal left in
+      let here : LeavesBy c p (after c p n input times) (next_cut c (after c p n input times)) new.journal = subst (λ q. LeavesBy c q (after c q n input times) (next_cut c (after c q n input times)) new.journal) (sym own_number) there in
+      made_so (call_number JournalFailed) times (λ _. (next_cut c (after c p n input times), inr (times, refl, refl), subst (λ m. LeavesBy c p m (next_cut c (after c p n input times)) new.journal) (handed_node input times) here))
       k (ended (call_number JournalFailed) times (Handed p input times) (inr refl) k.named (inl refl))
 
   went_well : (times : ℕ) → IsCalledIn c p n input times old new → own_cause old n input ≡ None → enabled new.machine.powers new.machine.state ≡ None → IsAnsweredIn c p n input (0, 0) old new

@@ -102,7 +102,7 @@ module _ (c : Setting) (s : Scene) (request : Request) (numbers : ℕ × ℕ) (p
   pub has_met : HasMet c s request new.owes p (seats.Up new) first last
   has_met = record {
     made = made;
-    one = record { event = refl; by = k.met.by; met = k.met.met };
+    one = record { event = refl; by = k.met.by; met = k.met.met; spelled = k.met.spelled };
     starved_is = k.owes;
     up = (
       k.number,

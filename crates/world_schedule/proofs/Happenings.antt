@@ -21,7 +21,7 @@ use Rattle.world_schedule.specs.Making.{Request, Hands, Scene, IsInsisted, IsTur
 use Rattle.world_schedule.specs.Standings.{Holds, Says}
 use Rattle.world_schedule.specs.Validators.{HaveTurned}
 use Rattle.world_schedule.specs.Restarting.{HaveRestarted}
-use Rattle.world_schedule.specs.Events.{Course, Happens, asked_of, comes, passes, unless, brought_by, cause_of, CanHappen}
+use Rattle.world_schedule.specs.Events.{Course, Happens, asked_of, comes, passes, unless, brought_by, CanHappen}
 use Rattle.world_schedule.specs.Worlds.{LeadOn, HaveMet, HaveSent, has_come, IsAt, IsMet, HasActed}
 use Rattle.world_schedule.specs.declared.event.Event.{Event}
 use Rattle.world_schedule.specs.declared.event.Event.TheVariants as events

@@ -23,13 +23,13 @@ use Rattle.world_schedule.proofs.Cores.{core_law, kept_law, found_own, lived_own
 -- ---- steps
 
 -- the node after one more call
-one_later : (c : Setting) (p : ℕ) (calls : List Call) (call : Call) → node_after c p (calls ++ call ∷ []) ≡ moved c p (node_after c p calls) call
+pub one_later : (c : Setting) (p : ℕ) (calls : List Call) (call : Call) → node_after c p (calls ++ call ∷ []) ≡ moved c p (node_after c p calls) call
 one_later c p calls call = lived_append c p (unopened p) calls (call ∷ [])
 
 own_later : (c : Setting) (p : ℕ) (calls : List Call) (input : Input) (times : ℕ) → node_after c p (calls ++ Handed p input times ∷ []) ≡ after c p (node_after c p calls) input times
 own_later c p calls input times = one_later c p calls (Handed p input times) ∙ rw (eq-eqb p p refl) refl
 
-same_node : (c : Setting) (p : ℕ) (n : Node) (call : Call) → IsElsewhere p call → moved c p n call ≡ n
+pub same_node : (c : Setting) (p : ℕ) (n : Node) (call : Call) → IsElsewhere p call → moved c p n call ≡ n
 same_node c p n (Sent client op) e = refl
 same_node c p n (Began client) e = refl
 same_node c p n (Handed q input times) e = rw (ne_eqb p q e) refl

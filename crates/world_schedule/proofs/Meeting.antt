@@ -11,7 +11,7 @@ use Rattle.protocol.specs.World.{Cut}
 use Rattle.protocol.specs.Calls.{Halted, JournalFailed, call_number}
 use Rattle.node_core.specs.Core.{Core, JournalSeen, frame_by}
 use Rattle.protocol.specs.Answers.{Answers}
-use Rattle.node_core.specs.Calls.{IsUnchanged, TellsJournal, IsLeftBy}
+use Rattle.node_core.specs.Calls.{IsUnchanged, TellsJournal, IsLeftBy, LeavesBy}
 use Rattle.protocol.specs.declared.refusal.Refusal.{Refusal as Answer}
 use Rattle.protocol.specs.declared.refusal.Refusal.TheVariants as answers
 use Rattle.vote_journal.specs.Order.{AreLawful}
@@ -35,14 +35,14 @@ own_node c p n input times = rw (eq-eqb p p refl) refl
 
 -- it does nothing
 idle_by : (c : Setting) (p : ℕ) (n : Node) (cut : Option Cut) (request : Request) (old new : Core) (result : Result (Unit {0}) Answer) → (IsIdle p (Broken cut) (call_number Halted) (Handed p Settle 0) (Broken cut) → IsMet c p n (Broken cut) request (call_number Halted) (Handed p Settle 0) (Broken cut))
-    → StandsIn c p n old → old.journal.failed ≡ true → IsLeftBy c p n cut old.journal.bytes → result ≡ Err answers.Halted → IsUnchanged old new → IsMetBy c p n (Broken cut) request (told_numbers result) old.outgoing new
+    → StandsIn c p n old → old.journal.failed ≡ true → LeavesBy c p n cut old.journal → result ≡ Err answers.Halted → IsUnchanged old new → IsMetBy c p n (Broken cut) request (told_numbers result) old.outgoing new
 idle_by c p n cut request old new result met st failed left e same = subst (λ r. IsMetBy c p n (Broken cut) request (told_numbers r) old.outgoing new) (sym e) (record {
   call = Handed p Settle 0;
   new = Broken cut;
   by = refl;
   met = met (record { numbers_are = refl; call_is = refl; stays = refl });
   stands = subst (λ m. StandsIn c p m new) (own_node c p n Settle 0) ((kept_law c p).unchanged n old new st same);
-  health = (ap (λ (k : Core). k.journal.failed) same ∙ failed, subst (λ m. IsLeftBy c p m cut new.journal.bytes) (own_node c p n Settle 0) (subst (IsLeftBy c p n cut) (sym (ap (λ (k : Core). k.journal.bytes) same)) left));
+  health = (ap (λ (k : Core). k.journal.failed) same ∙ failed, subst (λ m. LeavesBy c p m cut new.journal) (own_node c p n Settle 0) (subst (LeavesBy c p n cut) (sym (ap (λ (k : Core). k.journal) same)) left));
   outgoing = ap (λ (k : Core). k.outgoing) same ∙ sym (append-nil old.outgoing);
   spelled = λ b i. absurd i;
 })
@@ -194,7 +194,7 @@ hands_serving c p n input old new result serves runs told a =
             stands = a.stands;
             health = (failed.now, cut.2);
             outgoing = a.outgoing;
-            spelled = subst (λ x. (b : Body) → b ∈ bodies_by c (λ _. n) x → IsBody b) (sym k.2) (left_by c p n k.0 k.1 cut.0 new.journal.bytes (subst (λ x. IsLeftBy c p (moved c p n x) cut.0 new.journal.bytes) k.2 cut.2));
+            spelled = subst (λ x. (b : Body) → b ∈ bodies_by c (λ _. n) x → IsBody b) (sym k.2) (left_by c p n k.0 k.1 cut.0 new.journal.bytes (subst (λ x. IsLeftBy c p (moved c p n x) cut.0 new.journal.bytes) k.2 cut.2.0));
           })
       | inr other ↦ (
           let still : new.journal.failed ≡ false = still_serves result old.journal new.journal other told ∙ serves in record {

@@ -105,7 +105,7 @@ turned_idly c s p request stopped before after sits holds tells same =
     let met : IsMet c p (s.standing.nodes p) (s.health p) (request_of request) (call_number Halted) made.call (Closed k.cut) =
     subst (λ h. IsMet c p (s.standing.nodes p) h (request_of request) (call_number Halted) made.call (Closed k.cut)) (sym health) (idle_met p c (s.standing.nodes p) k.cut request made.call (Closed k.cut) (record { numbers_are = refl; call_is = refl; stays = refl })) in (
       made ∷ [],
-      inl (owes, (record { event = refl; by = refl; met = met }, refl)),
+      inl (owes, (record { event = refl; by = refl; met = met; spelled = λ b i. absurd i }, refl)),
       record {
         by = λ m i. elim i [ inl e ↦ ap (λ (x : Made). validator_of x.call) e | inr none ↦ absurd none ];
         up = sits_at c s next p (seats.Closed stopped) (node_idly c s p (call_number Halted) (Closed k.cut) before after tells same holds p refl) (health_idly c s p (call_number Halted) (Closed k.cut) before after tells same holds p refl ∙ sym health)

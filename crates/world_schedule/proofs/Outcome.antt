@@ -1,5 +1,5 @@
 -- The ends of reports tell one list.
-use Rattle.std.proofs.Common.{◌≡◌, ◌⊎◌, inl, inr, ℕ, List, ◌++◌, sym, ap, ◌∙◌, subst, subst₂, append_assoc}
+use Rattle.std.proofs.Common.{◌≡◌, inl, inr, ℕ, List, ◌++◌, sym, ap, ◌∙◌, subst, subst₂, append_assoc}
 use Rattle.std.proofs.lemmas.List.{map-append}
 use Rattle.protocol.specs.Values.{Item}
 use Rattle.protocol.specs.Tags.{Setting}

@@ -66,9 +66,9 @@ journal_of_core c p n core st serves =
 
 -- ---- a validator ends
 
-left_of : (c : Setting) (p : ℕ) (n : Node) (h : Health) (core : Core) → StandsIn c p n core → HasHealth c p n h core.journal → IsLeftBy c p n (doubt h) core.journal.bytes
+pub left_of : (c : Setting) (p : ℕ) (n : Node) (h : Health) (core : Core) → StandsIn c p n core → HasHealth c p n h core.journal → IsLeftBy c p n (doubt h) core.journal.bytes
 left_of c p n Serving core st serves = (reverse n.journal, journal_of_core c p n core st serves, inl (reverse-reverse n.journal))
-left_of c p n (Broken cut) core st health = health.1
+left_of c p n (Broken cut) core st health = health.1.0
 left_of c p n (Closed cut) core st health = absurd health
 
 left_kept : (c : Setting) (p : ℕ) (n : Node) (cut : Option Cut) (bytes now : List ℕ) → IsLeftBy c p n cut bytes → KeepsRecords c.powers p bytes now → IsLeftBy c p n cut now
@@ -155,7 +155,7 @@ module _ (c : Setting) (s : Scene) (stopped : Stopped) (numbers : ℕ × ℕ) (b
   refusal = idle c s p numbers closed before after k.tells k.messages k.holds
 
   pub refusal_one : IsOne c s before.event p Reopens refusal
-  refusal_one = record { event = refl; by = refl; met = (k.which, refl, refl) }
+  refusal_one = record { event = refl; by = refl; met = (k.which, refl, refl); spelled = λ b i. absurd i }
 
   pub refusal_stopped : IsStopped c (scene_next c s refusal) stopped
   refusal_stopped = stopped_at c s (scene_next c s refusal) stopped (node_idly c s p numbers closed before after k.tells k.messages k.holds p refl) (ap doubt (health_idly c s p numbers closed before after k.tells k.messages k.holds p refl)) k.stopped_is

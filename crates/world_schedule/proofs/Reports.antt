@@ -8,7 +8,7 @@ use Rattle.std.proofs.lemmas.List.{map-append}
 use Rattle.std.proofs.lemmas.Slice.Eq.{bytes_eq-Decides}
 use Rattle.std.proofs.lemmas.Grind.{flat_map-append}
 use Rattle.messages.specs.Grammar.{body_spelling}
-use Rattle.protocol.specs.Values.{Op, Item}
+use Rattle.protocol.specs.Values.{Item}
 use Rattle.protocol.specs.Tags.{Setting}
 use Rattle.protocol.specs.Messages.{◌∈◌, Body, Bundle, Record, Own, Decided as DecidedBy}
 use Rattle.protocol.specs.State.{Node}

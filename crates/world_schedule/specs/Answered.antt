@@ -1,5 +1,5 @@
 -- What a call of a node answers, and what it then did.
-use Rattle.std.specs.Prelude.{◌≡◌, ◌⊎◌, ℕ, ◌++◌, map, Option, Some, None, List, Result, Ok, Err}
+use Rattle.std.specs.Prelude.{◌≡◌, ◌⊎◌, ℕ, ◌++◌, map, Option, Some, None, Result, Ok, Err}
 use Rattle.protocol.specs.Tags.{Setting}
 use Rattle.protocol.specs.State.{Node}
 use Rattle.protocol.specs.Order.{enabled}
@@ -7,8 +7,8 @@ use Rattle.protocol.specs.Refusals.{Refusal, answer, refusal_number}
 use Rattle.protocol.specs.Calls.{Halted, NoMemory, JournalFailed, call_number, timeout_answer}
 use Rattle.protocol.specs.World.{Cut}
 use Rattle.protocol.specs.History.{Input, Settle, Given, Due, taken, after}
-use Rattle.node_core.specs.Core.{Core, setting_of}
-use Rattle.node_core.specs.Calls.{EachIsNamed, TellsJournal, IsUnchanged, IsDone, IsBroken, IsLeftBy}
+use Rattle.node_core.specs.Core.{Core, JournalSeen, setting_of}
+use Rattle.node_core.specs.Calls.{EachIsNamed, TellsJournal, IsUnchanged, IsDone, IsBroken, LeavesBy}
 use Rattle.protocol.specs.Answers.{Answers}
 use Rattle.protocol.specs.declared.refusal.Refusal.{Refusal as Answer}
 use Rattle.protocol.specs.declared.refusal.Refusal.TheVariants as answers
@@ -74,16 +74,16 @@ pub record IsByContract (n : Node) (input : Input) (result : Result (Unit {0}) A
   pub journal : TellsJournal result old.journal new.journal
   pub quiet : result ≡ Ok tt → enabled new.machine.powers new.machine.state ≡ None
 
--- what was cut off, and what stands in the store since
-abbrev pub LeavesCut : Setting → ℕ → Node → Input → Call → List ℕ → Type 0
-LeavesCut c p n input call bytes = (cut : Option Cut) × IsCut c p n input call cut × IsLeftBy c p (moved c p n call) cut bytes
+-- what was cut off, and what stands in the store since, and whatever a stop may leave of it
+abbrev pub LeavesCut : Setting → ℕ → Node → Input → Call → JournalSeen → Type 0
+LeavesCut c p n input call journal = (cut : Option Cut) × IsCut c p n input call cut × LeavesBy c p (moved c p n call) cut journal
 
 -- The call is one of the world, answered so; the core stands for the node after it, and has let its frames and timeouts go. Where the journal failed, it was cut off.
 pub record IsAnsweredIn (c : Setting) (p : ℕ) (n : Node) (input : Input) (numbers : ℕ × ℕ) (old new : Core) : Type 0 where
   pub call : Call
   pub answered : IsAnswered c p n input numbers call
   pub stands : StandsIn c p (moved c p n call) new
-  pub broken : numbers ≡ call_number JournalFailed → LeavesCut c p n input call new.journal.bytes
+  pub broken : numbers ≡ call_number JournalFailed → LeavesCut c p n input call new.journal
   pub outgoing : new.outgoing ≡ old.outgoing ++ map (frame_in c) (bodies_by c (λ _. n) call)
   pub scheduled : new.scheduled ≡ old.scheduled ++ timeouts_by c (λ _. n) call
 

@@ -1,5 +1,5 @@
 -- What happens in a world, as those count it who call its validators' nodes and send for its clients.
-use Rattle.std.specs.Prelude.{ℕ, cond, not, ◌&&◌, Option, List, [], ◌∷◌, ◌++◌, ◌==◌}
+use Rattle.std.specs.Prelude.{ℕ, cond, Option, List, [], ◌∷◌, ◌++◌, ◌==◌}
 use Rattle.protocol.specs.Values.{Op, Item}
 use Rattle.protocol.specs.Tags.{Setting}
 use Rattle.protocol.specs.Messages.{Body, OfAsk}

@@ -1,5 +1,5 @@
 -- What is done to a world, and which calls it comes to.
-use Rattle.std.specs.Prelude.{◌≡◌, ◌⊎◌, ℕ, suc, ◌<◌, ◌^◌, Bool, true, false, cond, not, ◌&&◌, ◌||◌, Option, Some, None, List, [], ◌∷◌, ◌++◌, map, filter, length, nat_lt, option_to_list, ◌==◌}
+use Rattle.std.specs.Prelude.{◌≡◌, ◌⊎◌, ℕ, suc, ◌<◌, ◌^◌, Bool, false, cond, not, ◌&&◌, ◌||◌, Option, Some, None, List, [], ◌∷◌, ◌++◌, map, filter, length, nat_lt, option_to_list, ◌==◌}
 use Rattle.std.specs.List.{list_all, slice_get}
 use Rattle.messages.specs.Framing.{frame_spelling, IsMessage}
 use Rattle.protocol.specs.Tags.{Setting}

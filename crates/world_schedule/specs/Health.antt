@@ -5,7 +5,7 @@ use Rattle.protocol.specs.State.{Node}
 use Rattle.protocol.specs.World.{Cut}
 use Rattle.protocol.specs.History.{Input, Settle, after}
 use Rattle.node_core.specs.Core.{JournalSeen}
-use Rattle.node_core.specs.Calls.{IsLeftBy, input_cut, next_cut}
+use Rattle.node_core.specs.Calls.{LeavesBy, input_cut, next_cut}
 use Rattle.world_schedule.specs.Calls.{Call, Handed}
 
 pub data Health : Type 0 where
@@ -31,5 +31,5 @@ IsCut c p n input call cut = ((call ≡ Handed p Settle 0) × (cut ≡ input_cut
 -- the journal of a core of this node is in this health
 abbrev pub HasHealth : Setting → ℕ → Node → Health → JournalSeen → Type 0
 HasHealth c p n Serving journal = journal.failed ≡ false
-HasHealth c p n (Broken cut) journal = (journal.failed ≡ true) × IsLeftBy c p n cut journal.bytes
+HasHealth c p n (Broken cut) journal = (journal.failed ≡ true) × LeavesBy c p n cut journal
 HasHealth c p n (Closed cut) journal = ⊥

@@ -107,6 +107,7 @@ pub record IsOne (c : Setting) (s : Scene) (k p : ℕ) (request : Request) (m : 
   pub event : m.event ≡ k
   pub by : validator_of m.call ≡ Some p
   pub met : IsMet c p (s.standing.nodes p) (s.health p) request m.answer m.call m.health
+  pub spelled : (b : Body) → b ∈ bodies_by c (λ _. s.standing.nodes p) m.call → IsBody b
 
 -- A request; where memory was refused to it, the validator is settled and it is made once more.
 abbrev pub IsInsisted : Setting → Scene → ℕ → ℕ → Request → List Made → Type 0

@@ -74,6 +74,16 @@ fn take_one<R: Wait>(rt: &R, subscription: &mut Subscription, taken: &mut Vec<De
     }
 }
 
+/// What the two threads tell that hand in frames.
+fn hand_in_both<J: Node + Send + Sync, R: Threads + Wait + Sync>(
+    rt: &R,
+    node: &LockedNode<MemoryStore, J>,
+    even: &[Vec<u8>],
+    odd: &[Vec<u8>],
+) -> (bool, bool) {
+    thread::join(rt, || hand_in(rt, node, even), || hand_in(rt, node, odd))
+}
+
 /// What the three threads tell.
 fn beside<J: Node + Send + Sync, R: Threads + Wait + Sync>(
     rt: &R,
@@ -83,8 +93,11 @@ fn beside<J: Node + Send + Sync, R: Threads + Wait + Sync>(
     subscription: &mut Subscription,
     taken: &mut Vec<Delivered>,
 ) -> ((bool, bool), bool) {
-    let handers = || thread::join(rt, || hand_in(rt, node, even), || hand_in(rt, node, odd));
-    thread::join(rt, handers, || take(rt, node, subscription, taken, 5))
+    thread::join(
+        rt,
+        || hand_in_both(rt, node, even, odd),
+        || take(rt, node, subscription, taken, 5),
+    )
 }
 
 /// Five heights, whose bundles two threads hand in by turns, and a ring with room for two.

@@ -10,6 +10,7 @@ use protocol::{Refusal, Step, Timeout};
 use std::alloc::{AllocError, Global};
 use std::process::Abort;
 use std::test::Fail;
+use stopped_cores::{begin_again, end};
 use transactions::Seq;
 use vote_journal::{Journal, MemoryStore};
 use world_schedule::{FaultNumber, RunFault, hand_frame, hand_timeout, settle};
@@ -88,5 +89,17 @@ fn calls_of_a_core(rt: HostRuntime) -> Result<(), Fail> {
     let journal = Journal::in_memory(alloc, 1)?;
     let mut core = NodeCore::new(alloc, Config { me: 1, powers }, ring, journal);
     assert_calls(&rt, &mut core);
+    comes_back(&rt, alloc, core)
+}
+
+/// It ends, and another one over its store has said what it said: a prevote of nil.
+fn comes_back(rt: &impl Abort, alloc: Global, core: NodeCore<MemoryStore>) -> Result<(), Fail> {
+    let store = end(core);
+    let ring = own_ring(rt, alloc)?;
+    let powers = two_powers(rt, alloc)?;
+    let Ok(again) = begin_again(alloc, Config { me: 1, powers }, ring, store) else {
+        panic!(rt; "it comes back");
+    };
+    assert_eq!(rt; again.base()?.said.len(), 1);
     Ok(())
 }

@@ -1,34 +1,29 @@
-use Rattle.std.proofs.Common.{rules, ◌≡◌, false, sym, ap, Err, ◌∙◌}
+use Rattle.std.proofs.Common.{◌≡◌, ℕ, List, subst, sym, ap, Err, ◌∙◌}
 use Rattle.protocol.specs.Messages.{Record}
-use Rattle.node_core.proofs.Broken.{save_broke, never_bad}
+use Rattle.protocol.specs.Records.{record_of}
+use Rattle.vote_journal.specs.Grammar.{record_spelling, IsRecord}
+use Rattle.vote_journal.specs.Store.{Begun}
+use Rattle.vote_journal.proofs.Stops.{saving_leaves}
+use Rattle.node_core.specs.Core.{JournalSeen, Saving, LeftOf, where_failed}
+use Rattle.node_core.proofs.Broken.{save_broke}
 use Rattle.node_core.proofs.journal.NodeJournal.save_record.Goals as goal
-use Rattle.node_core.proofs.journal.NodeJournal.save_record.Goals.{in-Ok, in-Err-OutOfMemory, in-Err-Failed, in-Err-BadRecord}
 
-pub returns-clause-wrote : goal.returns-clause-wrote
-returns-clause-wrote g c =
-    let running : c.self.inside.journal.failed ≡ false = sym (c.has_failed.ensures) ∙ c.if-has_failed.false in
-    elim c.match-save.branch [
-      | in-Ok w ↦ rw (w.result-is, ← c.self.view_is) (record {
-        whole = w.in-Ok.ensures.grown;
-        me = c.save.ensures.me;
-        failed = w.in-Ok.ensures.synced.1 ∙ sym running;
-        failures = w.in-Ok.ensures.counted;
-      })
-      | in-Err-OutOfMemory w ↦ rw w.result-is tt
-      | in-Err-Failed w ↦ rw w.result-is tt
-      | in-Err-BadRecord w ↦ absurd (never_bad Record _ _ w.in-Err-BadRecord.field-0 w.in-Err-BadRecord.field-0-is w.in-Err-BadRecord.ensures.fault)
-    ]
-
-pub returns-clause-unwritten : goal.returns-clause-unwritten
-returns-clause-unwritten g c = elim c.match-save.branch [
-  | in-Ok w ↦ rw w.result-is tt
-  | in-Err-OutOfMemory w ↦ rw (w.result-is, ← c.self.view_is) (search rules)
-  | in-Err-Failed w ↦ rw (w.result-is, ← c.self.view_is) (record {
-    me = c.save.ensures.me;
-    failed = (save_broke Record _ _ w.in-Err-Failed.field-0 w.in-Err-Failed.field-0-is w.in-Err-Failed.ensures.fault).1;
-    grew = λ _. (save_broke Record _ _ w.in-Err-Failed.field-0 w.in-Err-Failed.field-0-is w.in-Err-Failed.ensures.fault).0;
-    left = λ _. c.save.ensures.broken (w.in-Err-Failed.is ∙ ap Err w.in-Err-Failed.field-0-is);
-    narrow = c.fits.ensures;
-  })
-  | in-Err-BadRecord w ↦ absurd (never_bad Record _ _ w.in-Err-BadRecord.field-0 w.in-Err-BadRecord.field-0-is w.in-Err-BadRecord.ensures.fault)
-]
+pub returns-in-Err-Failed-clause-unwritten : goal.returns-in-Err-Failed-clause-unwritten
+returns-in-Err-Failed-clause-unwritten g c =
+    let stood : List ℕ = g.S.Store.seen c.self.inside.journal.store in
+    let fault = save_broke Record _ _ c.in-Err-Failed.field-0 c.in-Err-Failed.field-0-is c.in-Err-Failed.ensures.fault in
+    let spelled = subst (λ (j : JournalSeen). IsRecord j.me (record_of c.args.entry) → c.args.spelled.items ≡ record_spelling j.me (record_of c.args.entry)) (sym c.self.view_is) c.requires in
+    let saving : Saving = record { stood = g.S.Store.seen c.of-before.result.value.store; added = c.args.spelled.items } in
+    rw (← c.self.view_is) (record {
+      me = c.save.ensures.me;
+      failed = fault.1;
+      grew = λ _. fault.0;
+      left = λ _ powers rs whole fits follows. (
+        c.save.ensures.broken (c.in-Err-Failed.is ∙ ap Err c.in-Err-Failed.field-0-is) powers rs whole fits follows,
+        λ x may. saving_leaves powers c.self.inside.journal.me stood rs (record_of c.args.entry) x whole fits follows
+            (subst (λ (added : List ℕ). Begun stood added x) (spelled fits)
+            (subst (λ (before : List ℕ). Begun before c.args.spelled.items x) (ap (λ j. g.S.Store.seen j.store) c.of-before.ensures)
+            (subst (λ failed. LeftOf (g.S.Store.seen c.save.new.self.store) (where_failed failed saving) x) fault.1 may))),
+      );
+      narrow = c.fits.ensures;
+    })

@@ -8,7 +8,7 @@ use Rattle.node_core.proofs.Due.{due_fired, due_passed}
 use Rattle.std.proofs.Common.{List}
 use Rattle.protocol.specs.Messages.{Record}
 use Rattle.node_core.specs.Core.{setting}
-use Rattle.node_core.specs.Calls.{IsLeft}
+use Rattle.node_core.specs.Calls.{Leaves}
 use Rattle.node_core.proofs.Broken.{firing_cut}
 use Rattle.node_core.proofs.node.NodeCore.fire_due.Goals as goal
 
@@ -35,4 +35,4 @@ returns-then-holds_timeout-clause-broken g c = λ is n s.
     let old : Core = c.args.self.now in
     let h = sym (c.holds_timeout.ensures (context_of (seen c.self.inside))) ∙ c.if-holds_timeout.true in
     let there = subst (λ (x : Core). holds (context_of x) x.machine.state (TimedOut c.args.timeout) ≡ true) c.self.view_is h in
-    subst (λ (l : List Record). IsLeft old.machine.powers old.machine.me n.journal l c.fire.new.self.journal.bytes) (sym (firing_cut old n (TimedOut c.args.timeout) s refl there)) (c.fire.ensures.broken is n s)
+    subst (λ (l : List Record). Leaves old.machine.powers old.machine.me n.journal l c.fire.new.self.journal) (sym (firing_cut old n (TimedOut c.args.timeout) s refl there)) (c.fire.ensures.broken is n s)

@@ -173,7 +173,7 @@ returns-in_err-take-clause-broken g c =
     let told = judged old begun n frame m (Err r) b admission (c.in_err-take.ensures.answer n s0) in
     let none = subst (IsRefusal (answer (setting_of old) old.machine.me n frame)) failed told in
     let here = subst (λ (x : Core). answer (setting_of x) x.machine.me n frame ≡ None) (sym b) none in
-    input_broken n (Given frame) old begun new b (subst (λ x. IsRefused x begun new) failed c.in_err-take.ensures.err) (arrival_left begun n frame m new.journal.bytes read here left))
+    input_broken n (Given frame) old begun new b (subst (λ x. IsRefused x begun new) failed c.in_err-take.ensures.err) (arrival_left begun n frame m new.journal read here left))
 
 pub returns-clause-broken : goal.returns-clause-broken
 returns-clause-broken g c = λ is n s.

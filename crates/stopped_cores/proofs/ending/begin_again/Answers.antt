@@ -1,0 +1,45 @@
+use Rattle.std.proofs.Common.{◌≡◌, ℕ, List, sym, ap, subst, subst₂, ◌∙◌}
+use Rattle.std.specs.Prelude.{reverse}
+use Rattle.protocol.specs.Tags.{Setting}
+use Rattle.protocol.specs.Rings.{IsRingOf}
+use Rattle.protocol.specs.Restart.{opened}
+use Rattle.vote_journal.specs.History.{Call, Opened, NotOpened, Does}
+use Rattle.node_core.specs.Core.{JournalSeen, Stands}
+use Rattle.stopped_cores.specs.Over.{IsLeftAfter}
+use Rattle.stopped_cores.proofs.Over.{comes_back_law}
+use Rattle.stopped_cores.proofs.ending.begin_again.Goals as goal
+
+-- what a call does under the powers and at the number of the seat
+at_seat : {S : Type 0} (seen : S → List ℕ) (may_leave : S → List ℕ → Type 0) (d : Setting) (p : ℕ) (powers : List ℕ) (me : ℕ) (call : Call) (old new : S) → powers ≡ d.powers → me ≡ p → Does seen may_leave powers me call old new → Does seen may_leave d.powers p call old new
+at_seat seen may_leave d p powers me call old new es e does = subst₂ (λ ps i. Does seen may_leave ps i call old new) es e does
+
+pub returns-in-Err-clause-refused : goal.returns-in-Err-clause-refused
+returns-in-Err-clause-refused g c = λ d p seat calls cut left.
+    (comes_back_law g.S.Store.seen g.S.Store.may_leave d p calls).refused cut c.in-Err.unopened.fault c.args.store c.in-Err.unopened.store left
+    (at_seat g.S.Store.seen g.S.Store.may_leave d p c.args.config.powers c.args.config.me (NotOpened c.in-Err.unopened.fault) c.args.store c.in-Err.unopened.store seat.powers_are seat.me_is c.in-Err.ensures.refused)
+
+pub returns-in-Ok-open-clause-back : goal.returns-in-Ok-open-clause-back
+returns-in-Ok-open-clause-back g c = λ d p seat calls cut left.
+    let found = c.in-Ok.ensures.does in
+    let new = c.in-Ok.opened.journal.store in
+    let core = c.in-Ok-open.core in
+    (comes_back_law g.S.Store.seen g.S.Store.may_leave d p calls).back cut c.args.store new core left (record {
+      records = found.0;
+      does = at_seat g.S.Store.seen g.S.Store.may_leave d p c.args.config.powers c.args.config.me (Opened found.0) c.args.store new seat.powers_are seat.me_is found.1;
+      own = record {
+        powers = c.in-Ok-open.ensures.powers ∙ seat.powers_are;
+        me = c.in-Ok-open.ensures.me ∙ seat.me_is;
+        ring = subst (λ ring. IsRingOf d p ring) (sym c.in-Ok-open.ensures.ring) seat.ring_is;
+      };
+      stands = subst (λ i. Stands (opened i (reverse found.0)) core) seat.me_is (c.in-Ok-open.ensures.stands found.0 found.1.1);
+      serves = ap (λ (j : JournalSeen). j.failed) c.in-Ok-open.ensures.journal;
+    })
+
+pub returns-in-Err-open-clause-refused : goal.returns-in-Err-open-clause-refused
+returns-in-Err-open-clause-refused g c = λ d p seat calls cut left.
+    let found = c.in-Ok.ensures.does in
+    let new = c.in-Ok.opened.journal.store in
+    let same = c.close.ensures.store ∙ ap (λ o. o.journal.store) c.in-Err-open.ensures.back in
+    subst (IsLeftAfter g.S.Store.seen g.S.Store.may_leave d p calls cut) (sym same)
+    ((comes_back_law g.S.Store.seen g.S.Store.may_leave d p calls).opened cut found.0 c.args.store new left
+    (at_seat g.S.Store.seen g.S.Store.may_leave d p c.args.config.powers c.args.config.me (Opened found.0) c.args.store new seat.powers_are seat.me_is found.1))

@@ -1,0 +1,44 @@
+//! A core ends, and another begins over its store.
+
+ghost use Rattle.std.specs.Prelude.{◌≡◌, ◌<◌, ℕ, List, Option, IfOk, IfErr, length};
+ghost use Rattle.protocol.specs.Tags.{Setting, Validator};
+ghost use Rattle.protocol.specs.World.{Cut};
+ghost use Rattle.world_schedule.specs.Calls.{Call};
+ghost use Rattle.stopped_cores.specs.Over.{IsSeat, IsBack, IsClosed, IsLeftAfter};
+
+use authenticators::KeyRing;
+use node_core::{Config, NodeCore};
+use std::alloc::Global;
+use vote_journal::{Journal, Store};
+
+/// Ends a core, and gives its store.
+pub fn end<S: Store + Drop>(core: NodeCore<S>) -> S
+    ensures { IsClosed S.seen S.may_leave core result }
+{
+    core.close()
+}
+
+/// Opens a validator's journal on a store, and its core over it. It is refused for want of memory, or where the device
+/// failed, and then what is left in the store is as it was, but for bytes that are of no record.
+///
+/// The ring is that of validator `me`, and has keys for as many validators as have a power.
+pub fn begin_again<S: Store + Drop>(
+    alloc: Global,
+    config: Config,
+    ring: KeyRing,
+    store: S,
+) -> Result<NodeCore<S>, S>
+    requires owner { ring.me ≡ Validator config.me }
+    requires count { ring.count ≡ length config.powers }
+    requires me { config.me < length config.powers }
+    ensures back { (c : Setting) (p : ℕ) → IsSeat c p config.powers config.me ring → (calls : List Call) (cut : Option Cut) → IsLeftAfter S.seen S.may_leave c p calls cut store → IfOk result (IsBack c p calls cut) }
+    ensures refused { (c : Setting) (p : ℕ) → IsSeat c p config.powers config.me ring → (calls : List Call) (cut : Option Cut) → IsLeftAfter S.seen S.may_leave c p calls cut store → IfErr result (IsLeftAfter S.seen S.may_leave c p calls cut) }
+{
+    match Journal::open(alloc, store, config.me, &config.powers) {
+        Err(unopened) => Err(unopened.store),
+        Ok(opened) => match NodeCore::open(alloc, config, ring, opened) {
+            Ok(core) => Ok(core),
+            Err(refused) => Err(refused.value.journal.close()),
+        },
+    }
+}
