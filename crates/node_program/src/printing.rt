@@ -26,32 +26,49 @@ const BLOCK_BYTES: usize = 64 * 1_024;
 /// The most bytes of a line: a place, a client with its session, a number, and 1,024 bytes in two digits each.
 const LINE_BYTES: usize = 2_112;
 
+/// Which positions of the delivered list are taken, and which of these are printed.
+#[derive(Clone, Copy)]
+pub(crate) struct Span {
+    /// The first position that is taken.
+    pub(crate) taken: u64,
+    /// The first position that is printed.
+    pub(crate) first: u64,
+    /// The position behind the last one.
+    pub(crate) end: u64,
+}
+
 /// What was printed. Lines that are there together leave by one write, in blocks of whole ones.
 #[derive(Drop)]
 pub(crate) struct Printout<W: Write + Drop> {
     out: BufWriter<W>,
-    printed: u64,
-    most: u64,
+    span: Span,
 }
 
 impl<W: Write + Drop> Printout<W> {
-    /// Nothing is printed yet. After `most` items nothing more is. It is refused for want of memory alone.
-    pub(crate) fn new(alloc: Global, out: W, most: u64) -> io::Result<Printout<W>> {
+    /// Nothing is taken yet. It is refused for want of memory alone.
+    pub(crate) fn new(alloc: Global, out: W, span: Span) -> io::Result<Printout<W>> {
         Ok(Printout {
             out: BufWriter::with_capacity(alloc, BLOCK_BYTES, out)?,
-            printed: 0,
-            most,
+            span,
         })
     }
 
     /// Whether all is printed that is to be.
     fn is_done(&self) -> bool {
-        self.printed >= self.most
+        self.span.taken >= self.span.end
     }
 
     /// Returns whether the block has room for a line.
     fn has_room(&self) -> bool {
         self.out.buffer().len() <= BLOCK_BYTES - LINE_BYTES
+    }
+
+    /// Takes the next item, and prints it if it is wanted.
+    fn take(&mut self, delivered: &Delivered) {
+        if delivered.position >= self.span.first {
+            self.print(delivered);
+        }
+        self.span.taken = self.span.taken.saturating_add(1);
     }
 
     /// Puts an item's line into the block, which leaves first if it is full. Where that fails, the line is left out.
@@ -63,7 +80,6 @@ impl<W: Write + Drop> Printout<W> {
             let line = ItemLine::of_item(delivered.position, &delivered.item);
             let _ = writeln!(self.out, "{line}");
         }
-        self.printed = self.printed.saturating_add(1);
     }
 
     /// Writes the block. A failed write is passed over: what is left of the block stays for the next one.
@@ -80,13 +96,13 @@ impl<W: Write + Drop> Printout<W> {
             let Some(delivered) = subscription.try_take(rt) else {
                 break;
             };
-            self.print(&delivered);
+            self.take(&delivered);
         }
         self.write_block();
     }
 }
 
-/// Has the ring filled where items are delivered that were not printed: whether there is more to print.
+/// Has the ring filled where items are delivered that were not taken: whether there are more.
 fn refill<S: Store + Drop, J: Node, W: Write + Drop, R: Wait>(
     rt: &R,
     node: &LockedNode<S, J>,
@@ -94,7 +110,7 @@ fn refill<S: Store + Drop, J: Node, W: Write + Drop, R: Wait>(
     subscription: &Subscription,
     printout: &Printout<W>,
 ) -> Result<bool, AllocError> {
-    if printout.is_done() || node.status(seat).delivered <= printout.printed {
+    if printout.is_done() || node.status(seat).delivered <= printout.span.taken {
         return Ok(false);
     }
     Ok(node.fill(rt, subscription)? > 0)
@@ -117,7 +133,7 @@ fn print_delivered<S: Store + Drop, J: Node, W: Write + Drop, R: Wait>(
     Ok(())
 }
 
-/// Prints what is delivered, from the ring's first position on, as soon as the bell tells of it, until the bell tells that the
+/// Prints what is delivered, from the first wanted position on, as soon as the bell tells of it, until the bell tells that the
 /// node's threads have ended, or all is printed that is to be. What can't be had for want of memory is tried again until the
 /// end. Now and then it logs how far the node is.
 pub(crate) fn print_until_end<

@@ -13,7 +13,7 @@ ghost use Rattle.node_program.specs.Opening.{IsOpenedInFile};
 
 use crate::metrics::report_until_end;
 use crate::opening::{open_core, unopened};
-use crate::printing::{Printout, print_until_end};
+use crate::printing::{Printout, Span, print_until_end};
 use crate::telling::{listen, tell_until_end};
 use authenticators::{KeyRing, Party};
 use counted_links::{CountedLinks, OpenLinks};
@@ -51,6 +51,8 @@ const WAITING_ITEMS: usize = 1_024;
 struct Service<'a, N> {
     links: TcpLinks<'a, N>,
     pace: Pace,
+    /// The position from which on it prints the delivered list.
+    from: u64,
     /// Where it tells how far it is.
     status: Option<TcpListener>,
     /// Where it answers requests for metrics.
@@ -158,6 +160,7 @@ fn service_of<'a, R: Log + Net<Stream = TcpStream, Listener = TcpListener> + All
             manner: manner_of(settings),
             stop: settings.stop,
         },
+        from: settings.from,
     })
 }
 
@@ -217,10 +220,16 @@ fn serve_core<
     ensures { IfOk result (λ status. status ≡ 0) }
 {
     let node = LockedNode::<S, J>::new(rt.alloc(), opened, core);
-    let Ok(subscription) = node.subscribe(rt, 0, WAITING_ITEMS) else {
+    let delivered = node.status(&mut node.seat(rt)).delivered;
+    let span = Span {
+        taken: service.from.min(delivered),
+        first: service.from,
+        end: service.pace.stop.unwrap_or(u64::MAX),
+    };
+    let Ok(subscription) = node.subscribe(rt, span.taken, WAITING_ITEMS) else {
         return Err(Failure::OutOfMemory);
     };
-    let Ok(printout) = Printout::new(rt.alloc(), out, service.pace.stop.unwrap_or(u64::MAX)) else {
+    let Ok(printout) = Printout::new(rt.alloc(), out, span) else {
         return Err(Failure::OutOfMemory);
     };
     let (printed, ended) = serve_beside(rt, &node, service, subscription, printout);
@@ -276,6 +285,7 @@ fn serve_and_tell<
     let Service {
         links,
         pace,
+        from: _,
         status,
         metrics,
         meters,

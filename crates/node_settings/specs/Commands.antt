@@ -33,7 +33,7 @@ unfoldable pub run_rules : List Rule
 run_rules =
     option (codes "id") true ∷ option (codes "powers") true ∷ option (codes "keys") true ∷ option (codes "journal") true ∷ option (codes "peers") true
     ∷ option (codes "start") true ∷ option (codes "delta") true ∷ option (codes "idle") false ∷ option (codes "rest") false ∷ option (codes "links") false
-    ∷ option (codes "redial") false ∷ option (codes "stop") false ∷ option (codes "log") false ∷ option (codes "status") false
+    ∷ option (codes "redial") false ∷ option (codes "from") false ∷ option (codes "stop") false ∷ option (codes "log") false ∷ option (codes "status") false
     ∷ option (codes "metrics") false ∷ option (codes "config") false ∷ []
 
 abbrev pub run_app : App

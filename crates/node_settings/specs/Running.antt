@@ -39,13 +39,14 @@ files_words f = record { keys = f.keys.now; journal = f.journal.now }
 
 -- when it ends, and what it tells until then
 pub record Told : Type 0 where
+  pub from : ℕ
   pub stop : Option ℕ
   pub level : LevelFilter
   pub status : Option Text
   pub metrics : Option Text
 
 abbrev pub telling_words : Telling → Told
-telling_words t = record { stop = t.stop; level = t.level; status = option_map (λ address. address.now) t.status; metrics = option_map (λ address. address.now) t.metrics }
+telling_words t = record { from = t.from; stop = t.stop; level = t.level; status = option_map (λ address. address.now) t.status; metrics = option_map (λ address. address.now) t.metrics }
 
 pub record Run : Type 0 where
   pub seat : Seat
@@ -60,7 +61,7 @@ run_words s = record {
   names = record { keys = s.keys.now; journal = s.journal.now };
   times = record { start = s.start; delta = s.delta; idle = s.idle; rest = s.rest };
   links = record { keeping = s.keeping; redial = s.redial };
-  told = record { stop = s.stop; level = s.level; status = option_map (λ address. address.now) s.status; metrics = option_map (λ address. address.now) s.metrics };
+  told = record { from = s.from; stop = s.stop; level = s.level; status = option_map (λ address. address.now) s.status; metrics = option_map (λ address. address.now) s.metrics };
 }
 
 -- ---- what the words of each option make of them
@@ -122,9 +123,10 @@ level_of rows = level_or_info (first_of (codes "log") rows)
 
 unfoldable pub telling_of : List Row → Result Told SettingsFault
 telling_of rows = do
+  from ← number_or 0 0 (2 ^ 64 - 1) (codes "from") rows
   stop ← number_or_none 1 (2 ^ 64 - 1) (codes "stop") rows
   level ← level_of rows
-  Ok (record { stop = stop; level = level; status = first_of (codes "status") rows; metrics = first_of (codes "metrics") rows })
+  Ok (record { from = from; stop = stop; level = level; status = first_of (codes "status") rows; metrics = first_of (codes "metrics") rows })
 
 unfoldable pub run_of : List Row → Result Run SettingsFault
 run_of rows = do

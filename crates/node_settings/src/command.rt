@@ -56,7 +56,7 @@ impl Flag {
     }
 }
 
-static RUN: [WordOption; 16] = [
+static RUN: [WordOption; 17] = [
     WordOption {
         name: "id",
         is_required: true,
@@ -122,6 +122,12 @@ static RUN: [WordOption; 16] = [
         is_required: false,
         value: "MS",
         help: "With guarded links: when an address is dialed again, at most a day; else 1000",
+    },
+    WordOption {
+        name: "from",
+        is_required: false,
+        value: "POSITION",
+        help: "Print the delivered list from this position on; else all of it",
     },
     WordOption {
         name: "stop",

@@ -95,6 +95,8 @@ pub struct RunSettings<'a> {
     pub keeping: Keeping,
     /// With guarded links: after how long an address is dialed again, in milliseconds: from 1 to a day.
     pub redial: u64,
+    /// The position in the delivered list from which on it is printed.
+    pub from: u64,
     /// After how many delivered items the program ends, from 1 on.
     pub stop: Option<u64>,
     /// The most verbose level that is logged.

@@ -2,8 +2,8 @@
 //! standard error and its exit status.
 //!
 //! - `tmnode run --id I --powers P,P,.. --keys FILE --journal FILE --peers ADDR,ADDR,.. --start MS --delta MS
-//!   [--idle MS] [--rest MS] [--links open|guarded] [--redial MS] [--stop K] [--log LEVEL] [--status ADDR]
-//!   [--metrics ADDR] [--config FILE]`
+//!   [--idle MS] [--rest MS] [--links open|guarded] [--redial MS] [--from POSITION] [--stop K] [--log LEVEL]
+//!   [--status ADDR] [--metrics ADDR] [--config FILE]`
 //!   is a validator: number I of those with these powers and addresses.
 //! - `tmnode send --id C --validators N --keys FILE --to ADDR,ADDR,.. --number M [--session S]` with one of `--data HEX`,
 //!   `--close` and `--file FILE` sends transactions of one session of client C.

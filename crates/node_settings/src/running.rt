@@ -52,6 +52,7 @@ struct Links {
 /// When a validator ends, and what it tells until then.
 #[derive(Clone, Copy)]
 struct Telling<'a> {
+    from: u64,
     stop: Option<u64>,
     level: LevelFilter,
     status: Option<&'a str>,
@@ -78,6 +79,7 @@ impl<'a> RunSettings<'a> {
         } = Times::read(found)?;
         let Links { keeping, redial } = Links::read(found)?;
         let Telling {
+            from,
             stop,
             level,
             status,
@@ -95,6 +97,7 @@ impl<'a> RunSettings<'a> {
             rest,
             keeping,
             redial,
+            from,
             stop,
             level,
             status,
@@ -197,11 +200,13 @@ impl<'a> Telling<'a> {
     fn read(found: &ArgMatches<'a>) -> Result<Telling<'a>, SettingsFault>
         ensures { Gives telling_words result (telling_of (rows_of (found_of found.now))) }
     {
+        let from = number_or(found, "from", 0, 0, u64::MAX)?;
         let stop = number_or_none(found, "stop", 1, u64::MAX)?;
         let level = level_of(found)?;
         let status = word_of(found, "status");
         let metrics = word_of(found, "metrics");
         Ok(Telling {
+            from,
             stop,
             level,
             status,

@@ -3,7 +3,7 @@
 use super::frames::{
     ACCEPTED, OLD_NUMBER, SESSION_AHEAD, close, deciding, later, own_vote, transaction,
 };
-use super::running::{Course, Peers, STILL, Told, count, run};
+use super::running::{Course, Peers, STILL, Told, count, run, sent_on};
 use log::Log;
 use messages::Step as VoteStep;
 use peer_links::{Step, Wire};
@@ -131,8 +131,23 @@ fn assert_served<R: Abort + Wait>(
         assert_eq!(rt; count(rt, told, link, &precommit), 1);
         assert_eq!(rt; count(rt, told, link, &ACCEPTED), replies.0);
         assert_eq!(rt; count(rt, told, link, &OLD_NUMBER), replies.1);
+        if link > 0 {
+            let sent = sent_on(rt, alloc, told, link)?;
+            assert!(rt; ends_with_reply(&sent, &OLD_NUMBER, &ACCEPTED));
+        }
     }
     Ok(())
+}
+
+/// Returns whether this reply was sent, and none of the others behind it.
+fn ends_with_reply(sent: &[u8], last: &[u8], other: &[u8]) -> bool {
+    let begins = |at: usize, reply: &[u8]| sent
+        .get(at..)
+        .is_some_and(|rest| rest.starts_with(reply));
+    match (0..sent.len()).find(|at| begins(*at, last)) {
+        Some(first) => !(first..sent.len()).any(|at| begins(at, other)),
+        None => false,
+    }
 }
 
 fn serves<R: Abort + Threads + Wait + Clock + Log + Sync>(

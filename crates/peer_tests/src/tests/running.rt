@@ -14,7 +14,7 @@ use node_core::NodeCore;
 use peer_links::{MemoryClock, MemoryLink, MemoryLinks, Peer, Step, Way, Wire};
 use peer_threads::{Ending, serve};
 use status_words::{Node, Opened, Status};
-use std::alloc::Global;
+use std::alloc::{AllocError, Global};
 use std::marker::Brand;
 use std::process::Abort;
 use std::sync::{Arc, Wait};
@@ -175,5 +175,18 @@ pub(super) fn count<R: Wait>(rt: &R, told: &Told, link: usize, frame: &[u8]) -> 
     match told.wires.get(link) {
         Some(wire) => wire.count(rt, frame),
         None => 0,
+    }
+}
+
+/// What a link was sent.
+pub(super) fn sent_on<R: Wait>(
+    rt: &R,
+    alloc: Global,
+    told: &Told,
+    link: usize,
+) -> Result<Vec<u8>, AllocError> {
+    match told.wires.get(link) {
+        Some(wire) => wire.bytes(rt),
+        None => Ok(Vec::new(alloc)),
     }
 }

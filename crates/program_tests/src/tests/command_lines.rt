@@ -33,7 +33,7 @@ fn shown_run(alloc: Global, run: &RunSettings<'_>) -> Result<String, AllocError>
         text = format!(in alloc; "{text} {peer}")?;
     }
     text = format!(in alloc;
-        "{text}, {} {}, {} {} {} {}, {:?} {}, {:?} {}",
+        "{text}, {} {}, {} {} {} {}, {:?} {}, {} {:?} {}",
         run.keys,
         run.journal,
         run.start,
@@ -42,6 +42,7 @@ fn shown_run(alloc: Global, run: &RunSettings<'_>) -> Result<String, AllocError>
         run.rest,
         run.keeping,
         run.redial,
+        run.from,
         run.stop,
         run.level
     )?;
@@ -107,31 +108,31 @@ fn run_lines(rt: HostRuntime) -> Result<(), Fail> {
         &rt,
         alloc,
         "tmnode run --id 1 --powers 5,3 --keys k --journal j --peers a:1,b:2 --start 0 --delta 86400000 --stop 1",
-        "1 of 2, power 8 a:1 b:2, k j, 0 86400000 0 0, Open 1000, Some(1) INFO",
+        "1 of 2, power 8 a:1 b:2, k j, 0 86400000 0 0, Open 1000, 0 Some(1) INFO",
     )?;
     assert_asked(
         &rt,
         alloc,
-        "tmnode run --delta 2 --start=00200 --peers a,b,c --journal=j --keys k --powers 1,1,1 --id 0",
-        "0 of 3, power 3 a b c, k j, 200 2 100 0, Open 1000, None INFO",
+        "tmnode run --from=5 --delta 2 --start=00200 --peers a,b,c --journal=j --keys k --powers 1,1,1 --id 0",
+        "0 of 3, power 3 a b c, k j, 200 2 100 0, Open 1000, 5 None INFO",
     )?;
     assert_asked(
         &rt,
         alloc,
         "tmnode run --id 0 --powers 1,1 --keys k --journal j --peers a,b --start 9 --delta 2 --idle 9",
-        "0 of 2, power 2 a b, k j, 9 2 9 0, Open 1000, None INFO",
+        "0 of 2, power 2 a b, k j, 9 2 9 0, Open 1000, 0 None INFO",
     )?;
     assert_asked(
         &rt,
         alloc,
         "tmnode run --status s:1 --id 0 --powers 1,1 --keys k --journal j --peers a,b --start 2 --delta 2 --log wArn",
-        "0 of 2, power 2 a b, k j, 2 2 1 0, Open 1000, None WARN s:1",
+        "0 of 2, power 2 a b, k j, 2 2 1 0, Open 1000, 0 None WARN s:1",
     )?;
     assert_asked(
         &rt,
         alloc,
         "tmnode run --config c --metrics m:1 --id 0 --powers 1,1 --keys k --journal j --peers a,b --start 2 --delta 2",
-        "0 of 2, power 2 a b, k j, 2 2 1 0, Open 1000, None INFO m:1",
+        "0 of 2, power 2 a b, k j, 2 2 1 0, Open 1000, 0 None INFO m:1",
     )
 }
 
@@ -149,7 +150,7 @@ fn links_of_run_lines(rt: HostRuntime) -> Result<(), Fail> {
         let line = format!(in alloc;
             "tmnode run --id 0 --powers 1,1 --keys k --journal j --peers a,b --start 2 --delta 2 {words}"
         )?;
-        let wanted = format!(in alloc; "0 of 2, power 2 a b, k j, 2 2 1 {shown}, None INFO")?;
+        let wanted = format!(in alloc; "0 of 2, power 2 a b, k j, 2 2 1 {shown}, 0 None INFO")?;
         assert_asked(&rt, alloc, line.as_str(), wanted.as_str())?;
     }
     assert_usage(
@@ -176,7 +177,7 @@ fn levels_of_run_lines(rt: HostRuntime) -> Result<(), Fail> {
             "tmnode run --id 0 --powers 1,1 --keys k --journal j --peers a,b --start 2 --delta 2 --log {word}"
         )?;
         let wanted = format!(in alloc;
-            "0 of 2, power 2 a b, k j, 2 2 1 0, Open 1000, None {level}"
+            "0 of 2, power 2 a b, k j, 2 2 1 0, Open 1000, 0 None {level}"
         )?;
         assert_asked(&rt, alloc, line.as_str(), wanted.as_str())?;
     }
@@ -193,6 +194,7 @@ fn bad_run_lines(rt: HostRuntime) -> Result<(), Fail> {
         "0 --start 1\n0 --delta 1\n3 --start 1 --delta 1\n-1 --start 1 --delta 1\n+1 --start 1 --delta 1\n \
 0x1 --start 1 --delta 1\n --start 1 --delta 1\n0 --start 86400001 --delta 1\n0 --start 1 --delta 86400001\n\
 0 --start 1 --delta 1 --stop 0\n0 --start 1 --delta 1 --stop 18446744073709551616\n0 --start 1 --delta 1 x\n\
+0 --start 1 --delta 1 --from -1\n0 --start 1 --delta 1 --from 18446744073709551616\n0 --start 1 --delta 1 --from\n\
 0 --start 1 --delta 1 --start 2\n0 --start 1 --delta 1 --other 2\n0 --start 1 --delta 3 --idle 2\n\
 0 --start 1 --delta 1 --idle -1\n0 --start 1 --delta 1 --log\n0 --start 1 --delta 1 --log loud\n\
 0 --start 1 --delta 1 --log \n0 --start 1 --delta 1 --log info --log info\n0 --start 1 --delta 1 --status\n\
