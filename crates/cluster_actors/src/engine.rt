@@ -155,7 +155,9 @@ impl Engine {
     ) -> Result<Option<Reply>, AllocError>
         ensures { IfOk result (λ reply. IfSome reply (λ reply. IsReply reply)) }
     {
-        self.core.expect(link, frame);
+        if !self.core.expect(link, frame, now) {
+            return Ok(None);
+        }
         let answer = self.node.handle(frame);
         out.outs
             .push(Out::Answered(link, Heading::of_frame(frame), answer))?;

@@ -1,5 +1,5 @@
 -- What is to be done next.
-use Rattle.std.specs.Prelude.{◌≡◌, ℕ, Bool, nat_lt, min, List, Option, Some, None}
+use Rattle.std.specs.Prelude.{ℕ, Bool, nat_lt, min, List, Option, Some, None}
 use Rattle.protocol.specs.declared.types.Timeout.{Timeout}
 use Rattle.edge_frames.specs.Behind.{Sight}
 use Rattle.timeouts.specs.Waiting.{Waiting, placed, due_of}

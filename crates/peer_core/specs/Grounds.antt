@@ -1,5 +1,5 @@
 -- The prevotes that a message rests on.
-use Rattle.std.specs.Prelude.{ℕ, ◌-◌, Bool, true, false, ◌&&◌, ◌==◌, not, if◌then◌else◌, List, Result, Ok, Err, Option, Some, None}
+use Rattle.std.specs.Prelude.{ℕ, ◌-◌, Bool, false, ◌&&◌, ◌==◌, not, if◌then◌else◌, List, Result, Ok, Err, Option, Some, None}
 use Rattle.transactions.specs.declared.fault.Fault.{Fault}
 use Rattle.transactions.specs.Fields.{◌>>=◌, byte_at, number_at}
 

@@ -5,6 +5,7 @@ pub mod Quiet
 pub mod Resting
 pub mod Budgets
 pub mod Sendings
+pub mod Sharing
 pub mod Duties
 pub mod Choosing
 pub mod Grounds

@@ -1,5 +1,5 @@
 -- When a height is held open.
-use Rattle.std.specs.Prelude.{◌≡◌, ℕ, Bool, true, false, not, ◌&&◌, ◌==◌, ◌+◌, ◌-◌, ◌^◌, nat_lt, nat_le, min, max, if◌then◌else◌, Option, Some, None}
+use Rattle.std.specs.Prelude.{ℕ, Bool, true, false, not, ◌&&◌, ◌==◌, ◌+◌, ◌-◌, ◌/◌, ◌^◌, nat_lt, nat_le, min, max, if◌then◌else◌, Option, Some, None}
 use Rattle.protocol.specs.declared.types.Step.{Step}
 use Rattle.protocol.specs.declared.types.Step.TheVariants.{Propose, Prevote, Precommit}
 use Rattle.protocol.specs.declared.types.Timeout.{Timeout}
@@ -35,6 +35,13 @@ holding r t now = if is_held r t then record r { held = Some (held_until t (plus
 
 abbrev pub woken : Rest → ℕ → Rest
 woken r height = record r { awake_until = max r.awake_until (plus height r.heights) }
+
+abbrev pub stirred : Rest → ℕ → Rest
+stirred r height = record r { awake_until = max r.awake_until (plus height 1) }
+
+-- it would rest, or will before half of the validators had their turns, if no transaction waited
+abbrev pub is_drowsy : Rest → ℕ → Bool
+is_drowsy r height = nat_lt 0 r.longest && nat_le r.awake_until (plus height (r.heights / 2))
 
 abbrev pub timeout_in : Option HeldTimeout → Option Timeout
 timeout_in None = None

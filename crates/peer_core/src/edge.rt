@@ -41,6 +41,8 @@ pub struct PeerCore {
     pub(crate) passed_to: Option<LinkId>,
     pub(crate) asked_at: Option<LinkId>,
     pub(crate) own: OwnFrames,
+    /// The bundles that the node made last, for who asks for one of them next.
+    pub(crate) bundles: OwnFrames,
     pub(crate) held: HeldFrames,
     pub(crate) catch_up: CatchUp,
     pub(crate) plan: Plan,
@@ -78,6 +80,7 @@ impl PeerCore {
             passed_to: None,
             asked_at: None,
             own: OwnFrames::new(alloc),
+            bundles: OwnFrames::new(alloc),
             held: HeldFrames::new(alloc),
             catch_up: CatchUp::new(MOMENT_MS),
             plan,

@@ -1,10 +1,11 @@
 //! The frames that come, and those that the node releases.
 
-ghost use Rattle.std.specs.Prelude.{◌≡◌, Some, None, IfOk, IfSome, MatchBool};
+ghost use Rattle.std.specs.Prelude.{◌≡◌, Some, None, true, false, IfOk, IfSome, MatchBool};
 ghost use Rattle.transactions.specs.Fields.{number_at};
 ghost use Rattle.messages.specs.Replies.{IsReply};
-ghost use Rattle.peer_core.specs.Heading.{is_transaction_at};
+ghost use Rattle.peer_core.specs.Heading.{heading_at, is_transaction_at};
 ghost use Rattle.peer_core.specs.Answers.{reply_for};
+ghost use Rattle.peer_core.specs.Sharing.{is_behind, may_be_shared};
 ghost use Rattle.peer_core.specs.Sendings.{IsOf, GoesTo, GoesWhereDue, BundleGoes, for_all, for_bundle};
 
 use crate::answering::{Then, reply_to, then_after};
@@ -14,7 +15,7 @@ use crate::heading::{Heading, Kind, heading_of, is_transaction};
 use crate::holding::MOST_BEHIND;
 use crate::idle::idle_height;
 use crate::manner::Keeping;
-use crate::quiet::is_quiet;
+use crate::quiet::{has_transactions, is_quiet};
 use crate::showing::{is_news, shown_by};
 use bytes::Bytes;
 use edge_frames::LinkId;
@@ -23,17 +24,84 @@ use protocol::Refusal;
 use std::alloc::AllocError;
 
 impl PeerCore {
-    /// Notes before a frame is handed in what the node may release for it: a bundle goes to whom an ask came from.
-    pub fn expect(&mut self, link: LinkId, frame: &[u8]) {
-        let Ok(heading) = heading_of(frame) else {
-            return;
+    /// Notes before a frame is handed in what the node may release for it, and returns whether it is to be handed in: a bundle goes
+    /// to whom an ask came from.
+    ///
+    /// A node tags each bundle for every validator, so with guarded links it isn't asked again within a second for one that a validator
+    /// asks for on a link of its own: that is sent the frame that was made, or waits for it.
+    pub fn expect(&mut self, link: LinkId, frame: &[u8], now: u64) -> bool
+        ensures handed { may_be_shared self.old.links.keeping self.old.height (heading_at frame.now) ≡ false → result ≡ true }
+    {
+        match heading_of(frame) {
+            Ok(heading) if heading.kind == Kind::Ask => self.expect_bundle(link, heading, now),
+            _ => true,
+        }
+    }
+
+    /// Notes that a bundle is asked for, and returns whether the node is to be asked for it.
+    fn expect_bundle(&mut self, id: LinkId, ask: Heading, now: u64) -> bool
+        ensures handed { is_behind self.old.links.keeping self.old.height ask ≡ false → result ≡ true }
+    {
+        if self.is_behind(ask) {
+            self.asks_node(id, ask, now)
+        } else {
+            self.note_ask(id, ask.height);
+            true
+        }
+    }
+
+    /// Returns whether an ask is for a bundle that the node can make, and may be answered in its place.
+    fn is_behind(&self, ask: Heading) -> bool
+        ensures { result ≡ is_behind self.now.links.keeping self.now.height ask }
+    {
+        match self.links.keeping() {
+            Keeping::Open => false,
+            Keeping::Guarded => ask.height < self.height,
+        }
+    }
+
+    /// Notes that the peer of a link asks for this height's bundle.
+    fn note_ask(&mut self, id: LinkId, height: u64) {
+        if let Some(link) = self.links.link_mut(id) {
+            link.ask(height);
+        }
+    }
+
+    /// Notes that a bundle is asked for that the node can make, and returns whether it is to be made.
+    fn asks_node(&mut self, id: LinkId, ask: Heading, now: u64) -> bool {
+        let is_making = self.links.is_making(ask.height, now);
+        let Some(link) = self.links.link_mut(id) else {
+            return true;
         };
-        if heading.kind != Kind::Ask {
-            return;
+        link.ask(ask.height);
+        let is_known = link.is_of(ask.sender);
+        if is_known && (self.send_made(ask.height, now) || is_making) {
+            return false;
         }
-        if let Some(link) = self.links.link_mut(link) {
-            link.ask(heading.height);
+        self.links
+            .link_mut(id)
+            .is_some_and(|link| link.make(ask.height, now))
+    }
+
+    /// Sends a bundle that was made to whom it is for, and returns whether there is one.
+    fn send_made(&mut self, height: u64, now: u64) -> bool {
+        let Some(frame) = self.made(height) else {
+            return false;
+        };
+        if let Ok(links) = self.links.for_bundle(self.alloc, height, now) {
+            if !links.is_empty() {
+                self.put(frame, links, Rank::Fresh);
+            }
         }
+        true
+    }
+
+    /// Returns this height's bundle, if it is one of those that the node made last.
+    fn made(&self, height: u64) -> Option<Bytes> {
+        let found = self.bundles.frames().iter().find(|made| heading_of(&made.frame).is_ok_and(
+            |heading| heading.height == height,
+        ))?;
+        found.frame.clone().ok()
     }
 
     /// Does what is to be done beside the node with a frame that came on a link and was answered so by the node, which is then in
@@ -113,8 +181,8 @@ impl PeerCore {
         }
     }
 
-    /// Wakes the validator where another one's frame says that something happens: it is of this height or a later one, and no idle
-    /// height brings it. One that an idle height brings says that it goes on.
+    /// Wakes the validator where another one's frame says that transactions wait, and stirs it where something else happens: it is of
+    /// this height or a later one, and no idle height brings it. One that an idle height brings says that it goes on.
     fn rouse_by(&mut self, frame: &[u8], heading: Heading, answer: Result<(), Refusal>, now: u64) {
         let is_of_round = matches!(
             heading.kind,
@@ -125,18 +193,20 @@ impl PeerCore {
             return;
         }
         let rests = self.rest.rests(self.height);
-        if !is_quiet(frame) {
+        if has_transactions(frame) {
             self.rest.wake(self.height);
+        } else if !is_quiet(frame) {
+            self.rest.stir(self.height);
         }
         if rests {
             self.go_on(now);
         }
     }
 
-    /// Wakes the validator for a transaction that it accepted. Where it rested the others may rest as well, so it passes the
-    /// transaction on to them.
+    /// Wakes the validator for a transaction that it accepted. Where it rested, or soon would have, the others may rest before its
+    /// turn comes, so it passes the transaction on to them.
     fn rouse_for(&mut self, frame: &[u8], now: u64) {
-        if self.rest.rests(self.height) {
+        if self.rest.is_drowsy(self.height) {
             self.pass_to_all(frame, now);
         }
         self.rest.accepted();
@@ -226,7 +296,11 @@ impl PeerCore {
         }
         let links = match keeping {
             Keeping::Open => self.links.for_all(self.alloc, now)?,
-            Keeping::Guarded => asked,
+            Keeping::Guarded => {
+                // (without memory for it, it is made once more)
+                let _ = self.bundles.keep(&frame);
+                asked
+            }
         };
         Ok(Some(fresh(frame, links)))
     }

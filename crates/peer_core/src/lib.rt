@@ -46,7 +46,7 @@ pub use links::{MOST_CLIENT_LINKS, MOST_STRANGERS, PeerLinks};
 pub use manner::{Keeping, Manner};
 pub use outbox::{MOST_WAITING, Outbox};
 pub use own::{MOST_AGAIN, OwnFrames};
-pub use quiet::is_quiet;
+pub use quiet::{has_transactions, is_quiet};
 pub use redial::Redial;
 pub use rest::Rest;
 pub use showing::{is_news, shown_by};

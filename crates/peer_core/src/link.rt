@@ -17,7 +17,8 @@ pub(crate) const MOST_SILENT: u32 = 10;
 /// end doesn't take it for silent.
 const BEAT_MS: u64 = 3_000;
 
-/// How long a height that a link was sent a bundle of isn't answered again on it, in milliseconds.
+/// How long a height that a link was sent a bundle of isn't answered again on it, in milliseconds, and for how long a node that
+/// was asked for a bundle isn't asked for it again.
 const AGAIN_MS: u64 = 1_000;
 
 /// Who is behind a link. It is learned and never trusted: it decides only what is worth sending.
@@ -44,7 +45,7 @@ pub enum Shown {
     Nothing,
 }
 
-/// A bundle that was sent on a link.
+/// A bundle that was sent on a link, or that the node was asked for.
 #[derive(Clone, Copy, Debug)]
 struct Answered {
     height: u64,
@@ -81,11 +82,15 @@ pub struct PeerLink {
     /// The height whose bundle the peer asked for and wasn't sent.
     asked: Option<u64>,
     answered: Option<Answered>,
+    /// The last bundle that the node was asked for, as the peer asks.
+    making: Option<Answered>,
+    /// How many more of the peer's asks the node may be handed until the next tick.
+    asks_left: u32,
 }
 
 impl PeerLink {
-    /// A link that was opened now.
-    pub(crate) fn new(id: LinkId, way: Way, now: u64) -> PeerLink {
+    /// A link that was opened now, from which so many asks may be handed in until the next tick.
+    pub(crate) fn new(id: LinkId, way: Way, now: u64, asks: u32) -> PeerLink {
         let behind = match way {
             Way::Dialed(validator) => Behind::Validator(validator),
             Way::Accepted => Behind::Nobody,
@@ -108,6 +113,8 @@ impl PeerLink {
             useless: 0,
             asked: None,
             answered: None,
+            making: None,
+            asks_left: asks,
         }
     }
 
@@ -161,8 +168,10 @@ impl PeerLink {
     }
 
     /// Notes that a second passed. One in which this validator stood still, or came to nothing, counts once, however long it was.
-    pub(crate) fn tick(&mut self) {
+    /// So many asks may be handed in until the next one.
+    pub(crate) fn tick(&mut self, asks: u32) {
         self.silent = self.silent.saturating_add(1);
+        self.asks_left = asks;
     }
 
     /// Returns whether a validator is behind it that has said nothing for so many seconds.
@@ -219,9 +228,28 @@ impl PeerLink {
         self.asked = Some(height);
     }
 
+    /// Returns whether the node was asked for this height's bundle within the last second, as the peer asks.
+    pub(crate) fn is_making(&self, height: u64, now: u64) -> bool {
+        match self.making {
+            Some(making) => making.height == height && now.saturating_sub(making.at) < AGAIN_MS,
+            None => false,
+        }
+    }
+
+    /// Has the node asked for this height's bundle, unless the peer has asked too often, and returns whether it is.
+    pub(crate) fn make(&mut self, height: u64, now: u64) -> bool {
+        if self.asks_left == 0 {
+            return false;
+        }
+        self.asks_left -= 1;
+        self.making = Some(Answered { height, at: now });
+        true
+    }
+
     /// Forgets what the peer asks for.
     pub(crate) fn forget_ask(&mut self) {
         self.asked = None;
+        self.making = None;
     }
 
     /// Returns whether this height's bundle goes here: the peer asked for it, and wasn't sent it within the last second.

@@ -26,6 +26,10 @@ const MANY_SILENT: usize = 8;
 /// For how many seconds a link of a validator may be silent where many are, and more than half.
 const MOST_SILENT_TOGETHER: u32 = 60;
 
+/// How many asks for bundles the node is handed each second from one link, divided by the number of validators, since each bundle is
+/// tagged for all.
+const MOST_ASKS: u32 = 1_024;
+
 impl<T: Drop> From<AllocFailed<T>> for OpenFault {
     fn from(_e: AllocFailed<T>) -> OpenFault {
         OpenFault::OutOfMemory
@@ -112,8 +116,9 @@ impl PeerLinks {
         if self.links.len() >= MOST_LINKS {
             return Err(OpenFault::TooMany);
         }
+        let asks = self.most_asks();
         let place = self.links.partition_point(|link| link.id.0 < id.0);
-        self.links.insert(place, PeerLink::new(id, way, now))?;
+        self.links.insert(place, PeerLink::new(id, way, now, asks))?;
         match way {
             Way::Accepted => self.make_room(Behind::Nobody, MOST_STRANGERS),
             Way::Dialed(validator) => self.greet(id, validator),
@@ -367,6 +372,11 @@ impl PeerLinks {
         Ok(ids)
     }
 
+    /// Returns whether the node was asked for this height's bundle within the last second.
+    pub fn is_making(&self, height: u64, now: u64) -> bool {
+        self.links.iter().any(|link| link.is_making(height, now))
+    }
+
     /// Returns whether a link takes what others said: the chosen ones of validators do, and of open links all but those of clients.
     fn takes_repair(&self, link: &PeerLink) -> bool {
         match self.keeping {
@@ -419,13 +429,19 @@ impl PeerLinks {
 
     /// Notes that a second passed, and lets the links of validators be closed that are silent. Their next ones take their places.
     pub fn close_silent(&mut self) {
+        let asks = self.most_asks();
         for link in self.links.iter_mut() {
-            link.tick();
+            link.tick(asks);
         }
         if self.close_silent_for(self.most_silent()) {
             self.is_stirred = true;
             self.choose_all();
         }
+    }
+
+    /// Returns how many asks for bundles the node may be handed each second from one link.
+    fn most_asks(&self) -> u32 {
+        MOST_ASKS / u32::from(self.count.max(1))
     }
 
     /// Returns for how many seconds a link of a validator may be silent now. Where more than half are silent, and not just a few,

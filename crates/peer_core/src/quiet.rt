@@ -1,7 +1,7 @@
 //! Frames that a height brings in which nothing happens.
 
 ghost use Rattle.std.specs.Prelude.{◌≡◌};
-ghost use Rattle.peer_core.specs.Quiet.{value_in, first_vote_in, first_vote_at, is_quiet};
+ghost use Rattle.peer_core.specs.Quiet.{value_in, first_vote_in, first_vote_at, is_quiet, count_in, proposed_in, proposed_at, has_transactions};
 
 use crate::idle::idle_height;
 use transactions::Fault;
@@ -45,4 +45,45 @@ pub fn is_quiet(frame: &[u8]) -> bool
     ensures { result ≡ is_quiet frame.now }
 {
     idle_height(frame).is_some() || is_first_vote(frame) == Ok(true)
+}
+
+/// Returns how many transactions a proposal has, which stands behind its kind.
+#[tactic(auto, unfolding(crate::specs::Quiet::count_in))]
+fn count_in(bytes: &[u8]) -> Result<u16, Fault>
+    ensures { result ≡ count_in bytes.now }
+{
+    let (_, rest) = u64_at(bytes)?;
+    let (_, rest) = u32_at(rest)?;
+    let (_, rest) = u16_at(rest)?;
+    let (_, rest) = u32_at(rest)?;
+    let (count, _) = u16_at(rest)?;
+    Ok(count)
+}
+
+/// Returns how many transactions a frame's content proposes.
+#[tactic(auto, unfolding(crate::specs::Quiet::proposed_in))]
+fn proposed_in(content: &[u8]) -> Result<u16, Fault>
+    ensures { result ≡ proposed_in content.now }
+{
+    match u8_at(content)? {
+        (0x10, rest) => count_in(rest),
+        _ => Ok(0),
+    }
+}
+
+/// Returns how many transactions a frame proposes.
+#[tactic(auto, unfolding(crate::specs::Quiet::proposed_at))]
+fn proposed_at(frame: &[u8]) -> Result<u16, Fault>
+    ensures { result ≡ proposed_at frame.now }
+{
+    let (_, content) = u32_at(frame)?;
+    proposed_in(content)
+}
+
+/// Returns whether a frame brings a proposal of some transactions, of whatever round. Nothing behind their number is looked at, nor
+/// whether the frame is whole. It takes no memory.
+pub fn has_transactions(frame: &[u8]) -> bool
+    ensures { result ≡ has_transactions frame.now }
+{
+    proposed_at(frame).is_ok_and(|count| count > 0)
 }

@@ -1,7 +1,7 @@
 //! When a height is held open, since nothing waits anywhere.
 
 ghost use Rattle.std.specs.Prelude.{◌≡◌, None, true, false, if◌then◌else◌};
-ghost use Rattle.peer_core.specs.Resting.{rests, wait_of, is_held, holding, woken, timeout_in, due_in, is_due, is_below, without};
+ghost use Rattle.peer_core.specs.Resting.{rests, wait_of, is_held, holding, woken, stirred, is_drowsy, timeout_in, due_in, is_due, is_below, without};
 
 use protocol::{Step, Timeout};
 
@@ -16,8 +16,8 @@ struct HeldTimeout {
 /// Whether a validator rests.
 ///
 /// At rest a proposer keeps back its proposal of no transactions, and the others don't begin to wait for it. A transaction that is
-/// accepted, and a frame that no idle height brings, wake a validator: it then stays awake for as many heights as there are
-/// validators, and as long as a transaction that it accepted may wait.
+/// accepted, and a proposal of some, wake a validator: it then stays awake for as many heights as there are validators, and as long
+/// as a transaction that it accepted may wait. Any other frame that no idle height brings stirs it: it is awake for this height.
 #[derive(Clone, Copy, Debug)]
 pub struct Rest {
     /// How long a height is held open, in milliseconds; with 0 none is.
@@ -82,6 +82,20 @@ impl Rest {
         ensures { self.new ≡ woken self.old height }
     {
         self.awake_until = self.awake_until.max(height.saturating_add(self.heights));
+    }
+
+    /// Keeps the validator awake in this height.
+    pub fn stir(&mut self, height: u64)
+        ensures { self.new ≡ stirred self.old height }
+    {
+        self.awake_until = self.awake_until.max(height.saturating_add(1));
+    }
+
+    /// Returns whether it would rest in this height, or before half of the validators had their turns, if no transaction waited.
+    pub fn is_drowsy(&self, height: u64) -> bool
+        ensures { result ≡ is_drowsy self.now height }
+    {
+        self.longest > 0 && self.awake_until <= height.saturating_add(self.heights / 2)
     }
 
     /// Notes that a transaction was accepted, so that one may wait.

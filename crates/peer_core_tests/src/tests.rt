@@ -76,7 +76,9 @@ fn came(
     height: u64,
     now: u64,
 ) {
-    edge.expect(LinkId(link), frame);
+    if !edge.expect(LinkId(link), frame, now) {
+        return;
+    }
     let _ = edge.answered(LinkId(link), frame, answer, height, now);
 }
 

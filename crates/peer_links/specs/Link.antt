@@ -5,7 +5,7 @@ use Rattle.peer_links.specs.declared.link.Received.TheVariants.{Piece, Idle, End
 use Rattle.peer_links.specs.declared.link.Sent.{Sent}
 use Rattle.peer_links.specs.declared.link.Sent.TheVariants.{Taken, Idle as NoneTaken, Failed as SendFailed}
 
--- a piece has from 1 to 4,096 bytes
+-- a piece has from 1 to 16,384 bytes
 abbrev pub IsPiece : Received → Type 0
 IsPiece (Piece n) = (1 ≤ n) × (n ≤ 16384)
 IsPiece Idle = Unit {0}

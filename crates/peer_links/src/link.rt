@@ -40,7 +40,7 @@ pub trait Link {
     /// How many calls failed.
     ghost failures: { Self → ℕ };
 
-    /// Reads what has come, up to 4,096 bytes, into the front of the buffer.
+    /// Reads what has come, up to 16,384 bytes, into the front of the buffer.
     fn recv<R: Wait + time::Clock>(&mut self, rt: &R, piece: &mut [u8; PIECE_BYTES]) -> Received
         ensures within { IsPiece result }
         ensures cause { Counts result (failures self.old) (failures self.new) };

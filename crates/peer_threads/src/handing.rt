@@ -22,6 +22,20 @@ fn is_ask(frame: &[u8]) -> bool {
     heading_of(frame).is_ok_and(|heading| heading.kind == Kind::Ask)
 }
 
+/// Returns how many frames go in together: at most 64, and an ask by itself, as the edge is told of each before and expects one bundle
+/// at a time.
+fn count_together(mut frames: WholeFrames<'_>) -> usize {
+    for count in 0..MOST_AT_ONCE {
+        let Some(frame) = frames.next_whole() else {
+            return count;
+        };
+        if is_ask(frame) {
+            return count.max(1);
+        }
+    }
+    MOST_AT_ONCE
+}
+
 impl<S: Store + Drop, J: Node, C: Clock> Shared<'_, S, J, C> {
     /// Hands in the frames that stand whole in front of a link's reader, as many as go in together, and does what is then to be
     /// done. Returns how many there were.
@@ -32,7 +46,11 @@ impl<S: Store + Drop, J: Node, C: Clock> Shared<'_, S, J, C> {
         link: LinkId,
         frames: &mut FrameReader,
     ) -> usize {
-        let count = self.expect_ask(rt, link, frames.whole_frames());
+        if self.passes_over(rt, link, frames) {
+            self.follow(rt, seat);
+            return 1;
+        }
+        let count = count_together(frames.whole_frames());
         if count > 0 {
             let mut answers = Answers::new();
             self.hand_in_together(rt, seat, frames.whole_frames(), count, &mut answers);
@@ -43,19 +61,26 @@ impl<S: Store + Drop, J: Node, C: Clock> Shared<'_, S, J, C> {
         count
     }
 
-    /// Returns how many frames go in together: at most 64, and none behind an ask, which the edge is told of before, as it expects one
-    /// bundle at a time.
-    fn expect_ask<R: Wait>(&self, rt: &R, link: LinkId, mut frames: WholeFrames<'_>) -> usize {
-        for count in 0..MOST_AT_ONCE {
-            let Some(frame) = frames.next_whole() else {
-                return count;
-            };
-            if is_ask(frame) {
-                self.desk.lock(rt).core.expect(link, frame);
-                return count + 1;
+    /// Tells the edge of an ask that stands in front, and takes it from the reader where the node isn't to be handed it. Returns whether
+    /// it was.
+    fn passes_over<R: Wait + time::Clock>(
+        &self,
+        rt: &R,
+        link: LinkId,
+        frames: &mut FrameReader,
+    ) -> bool {
+        let is_for_node = match frames.whole_frames().next_whole() {
+            Some(frame) if is_ask(frame) => {
+                let now = self.clock.now_ms(rt);
+                self.desk.lock(rt).core.expect(link, frame, now)
             }
+            _ => true,
+        };
+        if !is_for_node {
+            let _ = frames.next_frame();
+            self.meters.received_frame();
         }
-        MOST_AT_ONCE
+        !is_for_node
     }
 
     /// Hands in so many frames, one behind the other, while the node's lock is held.

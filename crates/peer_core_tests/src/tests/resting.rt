@@ -68,14 +68,14 @@ fn try_a_transaction_wakes(rt: &impl Abort, edge: &mut PeerCore) -> Result<(), F
     Ok(())
 }
 
-/// A vote for nil says that something happens; one for a value that the height goes on.
+/// A vote for nil says that something happens in this height; one for a value that it goes on.
 #[test]
-fn a_vote_wakes(rt: HostRuntime) -> Result<(), Fail> {
+fn a_vote_stirs(rt: HostRuntime) -> Result<(), Fail> {
     let mut edge = edge_of(rt.alloc(), RESTING)?;
-    try_a_vote_wakes(&rt, &mut edge)
+    try_a_vote_stirs(&rt, &mut edge)
 }
 
-fn try_a_vote_wakes(rt: &impl Abort, edge: &mut PeerCore) -> Result<(), Fail> {
+fn try_a_vote_stirs(rt: &impl Abort, edge: &mut PeerCore) -> Result<(), Fail> {
     dial_all(edge)?;
     edge.scheduled(propose(0), 0)?;
     let mut vote = of_round(PREVOTE, 0, 2);
@@ -90,7 +90,27 @@ fn try_a_vote_wakes(rt: &impl Abort, edge: &mut PeerCore) -> Result<(), Fail> {
     assert_eq!(rt; fired(edge, 9, 10), 1);
     assert!(rt; edge.told(2, 10_000));
     edge.scheduled(propose(2), 10_000)?;
-    assert_eq!(rt; fired(edge, 10, 11), 1);
+    assert_eq!(rt; fired(edge, 10, 19), 0);
+    Ok(())
+}
+
+/// A proposal of a transaction wakes it for more than its height.
+#[test]
+fn a_proposal_of_transactions_wakes(rt: HostRuntime) -> Result<(), Fail> {
+    let mut edge = edge_of(rt.alloc(), RESTING)?;
+    try_a_proposal_of_transactions_wakes(&rt, &mut edge)
+}
+
+fn try_a_proposal_of_transactions_wakes(rt: &impl Abort, edge: &mut PeerCore) -> Result<(), Fail> {
+    dial_all(edge)?;
+    edge.scheduled(propose(0), 0)?;
+    let mut proposal = of_round(PROPOSAL, 0, 0);
+    proposal[24] = 1;
+    came(edge, 1, &proposal, Ok(()), 0, 0);
+    assert_eq!(rt; fired(edge, 0, 1), 1);
+    assert!(rt; edge.told(1, 1_000));
+    edge.scheduled(propose(1), 1_000)?;
+    assert_eq!(rt; fired(edge, 1, 2), 1);
     Ok(())
 }
 

@@ -124,3 +124,53 @@ fn an_idle_proposal_waits(rt: HostRuntime) -> Result<(), Fail> {
     assert_eq!(rt; duties(&mut edge, 500).sent, 2);
     Ok(())
 }
+
+/// The node is asked once a second for a bundle: who asks meanwhile waits for it, and who asks later is sent the frame that was made.
+#[test]
+fn who_asks_for_one_bundle_shares_it(rt: HostRuntime) -> Result<(), Fail> {
+    let alloc = rt.alloc();
+    let mut edge = edge_of(alloc, GUARDED)?;
+    try_who_asks_for_one_bundle_shares_it(&rt, alloc, &mut edge)
+}
+
+fn try_who_asks_for_one_bundle_shares_it(
+    rt: &impl Abort,
+    alloc: Global,
+    edge: &mut PeerCore,
+) -> Result<(), Fail> {
+    dial_all(edge)?;
+    edge.told(1, 0);
+    assert!(rt; edge.expect(LinkId(1), &of_height(ASK, 0, 0), 0));
+    assert!(rt; !edge.expect(LinkId(2), &of_height(ASK, 0, 2), 0));
+    assert_eq!(rt; released(alloc, edge, &of_height(BUNDLE, 0, 1), 0)?, 12);
+    let _ = duties(edge, 0);
+    assert!(rt; !edge.expect(LinkId(3), &of_height(ASK, 0, 3), 0));
+    assert_eq!(rt; duties(edge, 0).sent, 1);
+    assert!(rt; !edge.expect(LinkId(1), &of_height(ASK, 0, 0), 500));
+    assert_eq!(rt; duties(edge, 500).sent, 0);
+    assert!(rt; edge.expect(LinkId(1), &of_height(ASK, 1, 0), 500));
+    Ok(())
+}
+
+/// No link has a node asked for bundles of ever more heights.
+#[test]
+fn who_asks_too_often_is_passed_over(rt: HostRuntime) -> Result<(), Fail> {
+    let alloc = rt.alloc();
+    let mut edge = edge_of(alloc, GUARDED)?;
+    try_who_asks_too_often_is_passed_over(&rt, &mut edge)
+}
+
+fn try_who_asks_too_often_is_passed_over(rt: &impl Abort, edge: &mut PeerCore) -> Result<(), Fail> {
+    dial_all(edge)?;
+    edge.told(1_000, 0);
+    let mut handed_in: u32 = 0;
+    for height in 0..=255 {
+        if edge.expect(LinkId(1), &of_height(ASK, height, 0), 0) {
+            handed_in = handed_in.saturating_add(1);
+        }
+    }
+    assert_eq!(rt; handed_in, 256);
+    assert!(rt; edge.expect(LinkId(2), &of_height(ASK, 0, 2), 2_000));
+    assert!(rt; !edge.expect(LinkId(1), &of_height(ASK, 1, 0), 2_000));
+    Ok(())
+}
