@@ -57,7 +57,7 @@ FairLaw = (cast : Cast) (clients : ℕ → Bool) (ms : List Made) → AreByCorre
 
 -- ---- of a report
 
--- A world that was opened with these powers, so many clients and these liars, and the report of its first run. It is what `tmsim` prints of a schedule with these.
+-- A world that was opened with these powers, so many clients and these liars, and the report of its first run. It is what `tmsim` prints of a schedule with these, where no `state` line parts the run.
 pub record IsFirstReport (powers : List ℕ) (clients : ℕ) (liars : List ℕ) (events : List WorldEvent) (report : Report) : Type 0 where
   pub old : CodeWorld
   pub new : CodeWorld

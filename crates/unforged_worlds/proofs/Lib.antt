@@ -1,0 +1,10 @@
+pub mod Held
+pub mod Fired
+pub mod Taken
+pub mod Genuine
+pub mod Worlds
+pub mod Leading
+pub mod Turns
+pub mod Events
+pub mod Schedules
+pub mod Unforged
