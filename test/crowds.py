@@ -1,9 +1,9 @@
 #!/usr/bin/env python3
 """Runs many validators as processes on this machine: at work, at rest, all stopped for a while, most of them killed.
 
-usage: test/crowds.py --validators N [--with PROGRAM] [--seconds S] [--transactions T]
+usage: test/crowds.py (--validators N | --powers P,P,..) [--with PROGRAM] [--seconds S] [--transactions T]
 
-With guarded links and nothing to do, N validators decide heights for S seconds, 20 if no number is given; then they are started again to
+Each of N validators has the power 1. With guarded links and nothing to do, N validators decide heights for S seconds, 20 if no number is given; then they are started again to
 rest, S seconds long; T transactions, 1,000 if no number is given, are sent to three of them; all are stopped for S seconds (SIGSTOP) and
 let go; and two thirds of them and one are killed and started again. Each time heights have to go on, all that was sent has to be
 delivered by all, and no link may be lost for good. It prints a line for each part with what it took. It is no part of the gate, as it
@@ -14,25 +14,37 @@ import os
 import resource
 import shutil
 import signal
+import socket
 import subprocess
 import sys
 import tempfile
 import time
 
 from link_trials import GUARDED, heights_of, processor_seconds, sizes_of
-from validators import Cluster, Failed, dial, free_addresses, peak_of, want
+from validators import Cluster, Failed, dial, peak_of, want
 
 TOP = os.path.dirname(os.path.dirname(os.path.realpath(__file__)))
 # How long a part may take until all go on, in seconds.
 PATIENCE = 300
 
 
+def low_addresses(count):
+    """Returns addresses that are free and that the system gives no link: where thousands of links are dialed it soon gives any other."""
+    found = []
+    for port in range(20_000 + os.getpid() % 5_000, 32_000):
+        with socket.socket() as tried:
+            if len(found) < count and tried.connect_ex(("127.0.0.1", port)) != 0:
+                found.append(f"127.0.0.1:{port}")
+    return found
+
+
 class Crowd(Cluster):
     """Validators that tell how far they are."""
 
-    def __init__(self, program, folder, count, how):
-        super().__init__(program, folder, ",".join(["1"] * count))
-        self.how, self.told_at = how, free_addresses(count)
+    def __init__(self, program, folder, powers, how):
+        super().__init__(program, folder, powers)
+        addresses = low_addresses(2 * self.count)
+        self.how, self.addresses, self.told_at = how, addresses[: self.count], addresses[self.count :]
 
     def start_all(self, who, **changed):
         for me in who:
@@ -136,8 +148,10 @@ def most_are_killed(crowd, sent):
 
 
 def main():
-    parser = argparse.ArgumentParser(usage="test/crowds.py --validators N [--with PROGRAM] [--seconds S] [--transactions T]")
-    parser.add_argument("--validators", type=int, required=True)
+    parser = argparse.ArgumentParser(usage="test/crowds.py (--validators N | --powers P,P,..) [--with PROGRAM] [--seconds S] [--transactions T]")
+    who = parser.add_mutually_exclusive_group(required=True)
+    who.add_argument("--validators", type=int)
+    who.add_argument("--powers")
     parser.add_argument("--with", dest="program", default=f"{TOP}/bin/tmnode")
     parser.add_argument("--seconds", type=int, default=20)
     parser.add_argument("--transactions", type=int, default=1000)
@@ -146,7 +160,7 @@ def main():
     soft, hard = resource.getrlimit(resource.RLIMIT_NOFILE)
     resource.setrlimit(resource.RLIMIT_NOFILE, (min(max(soft, 4096), hard), hard))
     folder = tempfile.mkdtemp(prefix="crowd.")
-    crowd = Crowd(os.path.realpath(asked.program), folder, asked.validators, {"start": asked.start, "delta": asked.start // 2, "redial": 1000})
+    crowd = Crowd(os.path.realpath(asked.program), folder, asked.powers or ",".join(["1"] * asked.validators), {"start": asked.start, "delta": asked.start // 2, "redial": 1000})
     try:
         crowd.begin()
         works(crowd, asked.seconds)

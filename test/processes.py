@@ -189,6 +189,23 @@ def what_a_client_is_told(cluster, _):
     want(told == (1, "refused 13 3"), f"an old number is told {told}")
 
 
+def prints_from_a_position(cluster, _):
+    """Validators that are started again print the list from a position on: one that they have, and one that is still to come."""
+    for me in range(4):
+        cluster.start(me)
+    for number in range(1, 4):
+        cluster.send_until_taken(7, 0, number, "--data", f"0{number}")
+    cluster.want_same(3, *range(4))
+    for me, first in ((2, 1), (3, 4)):
+        cluster.kill(me)
+        cluster.start(me, {"from": first})
+    for number in range(4, 6):
+        cluster.send_until_taken(7, 0, number, "--data", f"0{number}")
+    for me, first in ((2, 1), (3, 4)):
+        lines = cluster.wait_for(5 - first, me)[0]
+        want(lines == [f"{it} 7 {it + 1} 0{it + 1}" for it in range(first, 5)], f"from position {first} on validator {me} prints {lines}")
+
+
 def send_of_many(cluster, _):
     """A file of transactions goes to every validator: more of them than a client's queue holds."""
     lines = [*(f"{it:08x}" for it in range(300)), "-", "close"]
@@ -689,6 +706,7 @@ TESTS = (
     a_second_process_over_one_journal,
     four_print_the_same_and_end,
     what_a_client_is_told,
+    prints_from_a_position,
     send_of_many,
     a_file_that_is_none,
     a_validator_that_is_gone_is_told,
