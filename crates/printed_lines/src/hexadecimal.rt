@@ -1,10 +1,12 @@
 //! Bytes as digits.
 
-ghost use Rattle.std.specs.Prelude.{◌≡◌, ◌<◌, Some, false, flat_map};
-ghost use Rattle.std.specs.Fmt.{digits};
+ghost use Rattle.std.specs.Prelude.{◌≡◌, ◌*◌, ◌≤◌, Some, flat_map, length};
 ghost use Rattle.printed_lines.specs.Items.{hex_of};
 
-use std::fmt;
+use std::{fmt, str};
+
+/// How many bytes are spelled at a time: a formatter that is handed each digit by itself takes most of the time that printing takes.
+const PART: usize = 64;
 
 /// Bytes as digits in lower case, two for each.
 #[derive(Clone, Copy)]
@@ -14,36 +16,25 @@ impl fmt::Display for Hex<'_> {
     ghost output = { λ hex. Some (flat_map hex_of hex.0.now) };
 
     fn fmt<W: fmt::Write>(&self, f: &mut fmt::Formatter<W>) -> fmt::Result {
-        for byte in self.0 {
-            f.write_str(digit(byte / 16))?;
-            f.write_str(digit(byte % 16))?;
+        let mut room = [0u8; 2 * PART];
+        for part in self.0.chunks(PART) {
+            f.write_str(digits_of(part, &mut room))?;
         }
         Ok(())
     }
 }
 
-/// Four bits as a digit: a formatter of numbers, asked for each byte of a list, takes most of the time that printing it takes.
-fn digit(bits: u8) -> &'static str
-    requires { bits < 16 }
-    ensures { result.now ≡ digits 16 false bits }
+/// Puts the digits of these bytes at the beginning of the room, and returns them.
+fn digits_of<'a>(bytes: &[u8], room: &'a mut [u8]) -> &'a str
+    requires { 2 * length bytes.now ≤ length room.old }
+    ensures { result.now ≡ flat_map hex_of bytes.now }
 {
-    match bits {
-        0 => "0",
-        1 => "1",
-        2 => "2",
-        3 => "3",
-        4 => "4",
-        5 => "5",
-        6 => "6",
-        7 => "7",
-        8 => "8",
-        9 => "9",
-        10 => "a",
-        11 => "b",
-        12 => "c",
-        13 => "d",
-        14 => "e",
-        15 => "f",
-        _ => unreachable!(),
-    }
+    let digits = &mut room[..2 * bytes.len()];
+    let Ok(()) = hex::encode_to_slice(bytes, digits) else {
+        unreachable!();
+    };
+    let Ok(text) = str::from_utf8(digits) else {
+        unreachable!();
+    };
+    text
 }
