@@ -8,6 +8,7 @@ ghost use Rattle.vote_journal.specs.Layout.{IsWhole};
 ghost use Rattle.node_core.specs.Core.{Stands};
 
 mod frames;
+mod leaving;
 mod sharing;
 mod taking;
 mod threads;

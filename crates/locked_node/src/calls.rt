@@ -5,12 +5,12 @@ ghost use Rattle.locked_node.specs.Calls.{Does};
 
 use crate::event::Event;
 use frame_admission::Tagger;
-use node_core::NodeCore;
+use node_core::{NodeCore, Outlet};
 use protocol::Refusal;
 use vote_journal::Store;
 
 /// Asks a core what the event says.
-pub(crate) fn ask_core<S: Store + Drop, T: Tagger>(
+pub(crate) fn ask_core<S: Store + Drop, T: Tagger + Outlet>(
     core: &mut NodeCore<S>,
     tagger: &T,
     event: Event<'_>,

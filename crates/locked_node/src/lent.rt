@@ -21,7 +21,7 @@ use crate::meeting::is_segment;
 use crate::place::{Place, count_from};
 use crate::subscription::{SubscribeFault, Subscription};
 use frame_admission::{InTurn, Tagger};
-use node_core::NodeCore;
+use node_core::{NodeCore, Outlet};
 use protocol::{MOST_CLIENTS, Refusal, Step, Timeout};
 use status_words::{Node, Publisher, Seat, Status, Words};
 use std::alloc::{AllocError, Global};
@@ -216,8 +216,8 @@ impl<S: Store + Drop, J: Node> State<S, J> {
         self.step_with(&InTurn, event)
     }
 
-    /// As `step`, where the tags of what is released are made by another one.
-    pub fn step_with<'a, T: Tagger>(&mut self, tagger: &T, event: Event<'a>) -> Stepped<'a>
+    /// As `step`, where another one makes the tags of what is released, and is shown each frame as soon as it may leave.
+    pub fn step_with<'a, T: Tagger + Outlet>(&mut self, tagger: &T, event: Event<'a>) -> Stepped<'a>
         ensures event { result.event ≡ heard event.entry }
         ensures does { Does (heard event.entry) result.answer self.old.core self.new.core }
         ensures calls { self.new.calls ≡ calls_after (heard event.entry) result.answer self.new.core.fired self.old.calls }

@@ -16,7 +16,7 @@ use crate::lent::{Done, Gauges, Met, State};
 use crate::place::count_from;
 use crate::subscription::{SubscribeFault, Subscription};
 use frame_admission::{InTurn, Tagger};
-use node_core::NodeCore;
+use node_core::{NodeCore, Outlet};
 use protocol::Timeout;
 use status_words::{Node, Opened, Seat, Status, Words};
 use std::alloc::{AllocError, Global};
@@ -156,16 +156,6 @@ impl<S: Store + Drop, J: Node> LockedNode<S, J> {
         self.state.lock(rt).take_scheduled()
     }
 
-    /// Takes both under one lock: the frames that were released and the timeouts that were scheduled since the last call,
-    /// each in order.
-    pub fn take_released<R: Wait>(&self, rt: &R) -> Released {
-        let mut state = self.state.lock(rt);
-        Released {
-            frames: state.take_outgoing(),
-            timeouts: state.take_scheduled(),
-        }
-    }
-
     /// A ring whose first item has this position, and which holds at most so many items at a time.
     /// Nothing is offered to it yet. The faults are `FromAhead` (1), with the number of delivered items
     /// that stood under the lock, `BadCapacity` (3) and `OutOfMemory` (2), in this order.
@@ -213,9 +203,9 @@ impl<S: Store + Drop, J: Node> LockedNode<S, J> {
 }
 
 impl<S: Store + Drop, J: Node> HeldNode<'_, S, J> {
-    /// One event: the core is asked, the rings are offered what was delivered, and the status is published. The tags of what is
-    /// released are made as the caller says.
-    pub fn call<'a, T: Tagger, R: Wait>(
+    /// One event: the core is asked, the rings are offered what was delivered, and the status is published. The caller
+    /// says who makes the tags of what is released, and is shown each frame as soon as it may leave.
+    pub fn call<'a, T: Tagger + Outlet, R: Wait>(
         &mut self,
         rt: &R,
         tagger: &T,
@@ -230,5 +220,14 @@ impl<S: Store + Drop, J: Node> HeldNode<'_, S, J> {
         let stepped = state.step_with(tagger, event);
         let offered = state.offer_all(rt, stepped);
         state.publish(self.words, offered, seat)
+    }
+
+    /// Takes the frames that were released and the timeouts that were scheduled since the last call, each in order.
+    pub fn take_released(&mut self) -> Released {
+        let state = &mut *self.state;
+        Released {
+            frames: state.take_outgoing(),
+            timeouts: state.take_scheduled(),
+        }
     }
 }

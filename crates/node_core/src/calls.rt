@@ -14,6 +14,7 @@ ghost use Rattle.protocol.specs.Answers.{Answers};
 ghost use Rattle.node_core.specs.Calls.{IsDone, IsBroken, LeavesBy, IsTaken, IsUnfired, IsUnchanged, TellsJournal, input_cut};
 
 use crate::node::NodeCore;
+use crate::outlet::Outlet;
 use frame_admission::{InTurn, Tagger, admit, frame_for};
 use messages::{Ask, Body, FrameReader};
 use protocol::{Refusal, Timeout};
@@ -34,8 +35,12 @@ impl<S: Store + Drop> NodeCore<S> {
         self.handle_with(&InTurn, frame)
     }
 
-    /// As `handle`, where the tags of what is released are made by another one.
-    pub fn handle_with<T: Tagger>(&mut self, tagger: &T, frame: &[u8]) -> Result<(), Refusal>
+    /// As `handle`, where another one makes the tags of what is released, and is shown each frame as soon as it may leave.
+    pub fn handle_with<T: Tagger + Outlet>(
+        &mut self,
+        tagger: &T,
+        frame: &[u8],
+    ) -> Result<(), Refusal>
         ensures answer { (n : Node) → Stands n self.old → Answers self.old.journal.failed (answer (setting_of self.old) self.old.machine.me n frame.now) result }
         ensures done { (n : Node) → Stands n self.old → IsDone n (Given frame.now) result self.old self.new }
         ensures broken { result ≡ Err Refusal.JournalFailed → (n : Node) → Stands n self.old → IsBroken n (Given frame.now) self.old self.new }
@@ -78,8 +83,8 @@ impl<S: Store + Drop> NodeCore<S> {
         self.fire_timeout_with(&InTurn, timeout)
     }
 
-    /// As `fire_timeout`, where the tags of what is released are made by another one.
-    pub fn fire_timeout_with<T: Tagger>(
+    /// As `fire_timeout`, where another one makes the tags of what is released, and is shown each frame as soon as it may leave.
+    pub fn fire_timeout_with<T: Tagger + Outlet>(
         &mut self,
         tagger: &T,
         timeout: Timeout,
@@ -100,7 +105,7 @@ impl<S: Store + Drop> NodeCore<S> {
     }
 
     /// Fires the timeout's own rule, where it holds.
-    fn fire_due<T: Tagger>(&mut self, tagger: &T, timeout: Timeout) -> Result<(), Refusal>
+    fn fire_due<T: Tagger + Outlet>(&mut self, tagger: &T, timeout: Timeout) -> Result<(), Refusal>
         requires running { self.old.journal.failed ≡ false }
         ensures ok { OnOk result ((n : Node) → Stands n self.old → IsTaken n (Due timeout) self.old self.new) }
         ensures broken { result ≡ Err Refusal.JournalFailed → (n : Node) → Stands n self.old → LeavesBy (setting_of self.old) self.old.machine.me n (input_cut (Due timeout)) self.new.journal }
@@ -126,8 +131,8 @@ impl<S: Store + Drop> NodeCore<S> {
         self.settle_with(&InTurn)
     }
 
-    /// As `settle`, where the tags of what is released are made by another one.
-    pub fn settle_with<T: Tagger>(&mut self, tagger: &T) -> Result<(), Refusal>
+    /// As `settle`, where another one makes the tags of what is released, and is shown each frame as soon as it may leave.
+    pub fn settle_with<T: Tagger + Outlet>(&mut self, tagger: &T) -> Result<(), Refusal>
         ensures answer { Answers self.old.journal.failed None result }
         ensures done { (n : Node) → Stands n self.old → IsDone n Settle result self.old self.new }
         ensures broken { result ≡ Err Refusal.JournalFailed → (n : Node) → Stands n self.old → IsBroken n Settle self.old self.new }

@@ -14,6 +14,7 @@ ghost use Rattle.node_core.specs.Saving.{IsWritten, IsUnwritten};
 
 use crate::journal::{NodeJournal, Unfired};
 use crate::node::NodeCore;
+use crate::outlet::{LeavingFrame, Outlet};
 use frame_admission::{Tagger, bytes_of, frame_of_body};
 use messages::Body;
 use protocol::{OwnMessage, Record, Timeout};
@@ -29,10 +30,10 @@ pub(crate) struct OwnFrame {
 
 impl OwnFrame {
     /// The frame, once its message is said.
-    pub(crate) fn release(self, _said: &Said) -> Vec<u8>
-        ensures { result ≡ self.bytes }
+    fn release(self, _said: &Said) -> LeavingFrame
+        ensures { result.bytes ≡ self.bytes }
     {
-        self.bytes
+        LeavingFrame { bytes: self.bytes }
     }
 }
 
@@ -141,13 +142,21 @@ pub(crate) fn carry_out<S: Store + Drop>(
     }
 }
 
-/// The frame of an own message that is said.
-pub(crate) fn released(frame: Option<OwnFrame>, said: &Option<Said>) -> Option<Vec<u8>>
+/// The frame of an own message that is said, which was shown to the outlet.
+pub(crate) fn released<T: Outlet>(
+    outlet: &T,
+    frame: Option<OwnFrame>,
+    said: &Option<Said>,
+) -> Option<Vec<u8>>
     requires { said.now ≡ None → bytes_in frame ≡ [] }
     ensures { map (λ f. f.items) (option_to_list result) ≡ bytes_in frame }
 {
     match (frame, said) {
-        (Some(frame), Some(said)) => Some(frame.release(said)),
+        (Some(frame), Some(said)) => {
+            let leaving = frame.release(said);
+            outlet.let_go(&leaving);
+            Some(leaving.bytes)
+        }
         _ => None,
     }
 }

@@ -16,6 +16,7 @@ ghost use Rattle.node_core.specs.Firing.{IsHanded, IsFit, IsReady, IsRoundHanded
 
 use crate::carrying::{Fired, Spelled, carry_out, released};
 use crate::node::NodeCore;
+use crate::outlet::Outlet;
 use frame_admission::{Tagger, own_tags};
 use height_catchup::Decisions;
 use mempool::Mempool;
@@ -35,7 +36,7 @@ struct Ready {
 
 impl<S: Store + Drop> NodeCore<S> {
     /// Fires the first enabled rule, again and again, until none is enabled, or one can't fire for memory or the journal.
-    pub(crate) fn fire_all<T: Tagger>(&mut self, tagger: &T) -> Result<(), Refusal>
+    pub(crate) fn fire_all<T: Tagger + Outlet>(&mut self, tagger: &T) -> Result<(), Refusal>
         requires running { self.old.journal.failed ≡ false }
         ensures answer { IfErr result (λ r. (r ≡ Refusal.OutOfMemory) ⊎ (r ≡ Refusal.JournalFailed)) }
         ensures journal { TellsJournal result self.old.journal self.new.journal }
@@ -62,7 +63,7 @@ impl<S: Store + Drop> NodeCore<S> {
     }
 
     /// Fires a rule that holds.
-    pub(crate) fn fire<T: Tagger>(&mut self, tagger: &T, rule: Rule) -> Result<(), Refusal>
+    pub(crate) fn fire<T: Tagger + Outlet>(&mut self, tagger: &T, rule: Rule) -> Result<(), Refusal>
         ghost g: { Context }
         requires running { self.old.journal.failed ≡ false }
         requires context { g ≡ context_of self.old }
@@ -86,7 +87,7 @@ impl<S: Store + Drop> NodeCore<S> {
             &mut self.said,
         )?;
         let Fired { said, timeout } = carry_out(&mut self.state, plan, record, &mut self.journal)?;
-        push_one(&mut self.outgoing, released(frame, &said));
+        push_one(&mut self.outgoing, released(tagger, frame, &said));
         push_one(&mut self.scheduled, timeout);
         note(
             said,

@@ -21,6 +21,7 @@ use Rattle.vote_journal.specs.declared.store.Store as stores
 use Rattle.status_words.specs.declared.words.Node as names
 use Rattle.locked_node.proofs.Crossing.{locked_sync}
 use Rattle.peer_threads.specs.contracts.bell.Bell as Bell
+use Rattle.peer_threads.specs.contracts.departed.Departed as Departed
 use Rattle.peer_threads.specs.contracts.outlets.Outlets as Outlets
 use Rattle.peer_threads.specs.contracts.shared.Shared as Shared
 use Rattle.node_meters.specs.contracts.meters.Meters as Meters
@@ -66,8 +67,11 @@ core_send = search (early_send, height_send, own_send, held_send, outbox_send, p
 outlets_send : IsSend Outlets.the_field.row
 outlets_send = search (frames_send, seen_send, block-send, block-sync, sendable, crosses, maps.crosses) depth 60 fits 20000
 
+departed_send : IsSend Departed.the_field.row
+departed_send = search (seen_send, block-send, block-sync, sendable, crosses, maps.crosses) depth 60 fits 20000
+
 pub desk_send : IsSend Desk.the_field.row
-desk_send = search (core_send, outlets_send, sendable) depth 60
+desk_send = search (core_send, outlets_send, departed_send, sendable) depth 60
 
 bell_sync : IsSync Bell.the_field.row
 bell_sync = search (sendable, crosses) depth 60 fits 20000

@@ -1,6 +1,7 @@
 //! The edge and its queues, as they stand under one lock.
 
 use crate::answers::Replies;
+use crate::departed::Departed;
 use crate::outlets::Outlets;
 use bytes::Bytes;
 use edge_frames::LinkId;
@@ -8,17 +9,20 @@ use locked_node::Released;
 use log::{Log, info, warn};
 use peer_core::{Duty, PeerCore, Rank};
 use protocol::Timeout;
+use std::alloc::Global;
 use std::sync::Wait;
 
 /// How long nothing more is logged of frames that are dropped, in milliseconds.
 const LOG_MS: u64 = 1_000;
 
-/// What decides, and the queues that it fills. Frames are queued in the order in which the node released them, since they are taken
-/// under the lock of this.
+/// What decides, and the queues that it fills. Frames are queued in the order in which the node released them, since the node's lock is
+/// held until they are.
 #[derive(Drop)]
 pub(crate) struct Desk {
+    alloc: Global,
     pub(crate) core: PeerCore,
     pub(crate) outlets: Outlets,
+    departed: Departed,
     /// How many frames were dropped since that was logged last, and when it was.
     dropped: u64,
     logged: u64,
@@ -28,10 +32,12 @@ pub(crate) struct Desk {
 
 impl Desk {
     /// Nothing is queued.
-    pub(crate) fn new(core: PeerCore, outlets: Outlets) -> Desk {
+    pub(crate) fn new(alloc: Global, core: PeerCore, outlets: Outlets) -> Desk {
         Desk {
+            alloc,
             core,
             outlets,
+            departed: Departed::new(alloc),
             dropped: 0,
             logged: 0,
             lost: 0,
@@ -42,12 +48,29 @@ impl Desk {
     pub(crate) fn release<R: Wait + Log>(&mut self, rt: &R, released: Released, now: u64) {
         let Released { frames, timeouts } = released;
         for frame in frames {
-            let dropped = self.release_frame(rt, frame, now);
-            self.dropped = self.dropped.saturating_add(dropped);
-            self.lose(dropped);
+            if !self.departed.passes_over(&frame) {
+                self.release_frame(rt, frame, now);
+            }
         }
         self.log_dropped(rt, now);
         self.schedule(rt, timeouts, now);
+    }
+
+    /// Queues a frame while the call goes on that released it. Without memory for that it leaves behind the call.
+    pub(crate) fn let_go<R: Wait>(&mut self, rt: &R, frame: &[u8], now: u64) {
+        let Ok(frame) = Bytes::copy_from_slice(self.alloc, frame) else {
+            return;
+        };
+        if self.departed.note(&frame).is_ok() {
+            let dropped = self.send_released(rt, frame, now);
+            self.drop_some(dropped);
+        }
+    }
+
+    /// Counts frames that were dropped, which are to be logged.
+    fn drop_some(&mut self, count: u64) {
+        self.dropped = self.dropped.saturating_add(count);
+        self.lose(count);
     }
 
     /// Counts frames that were dropped.
@@ -70,11 +93,17 @@ impl Desk {
         self.logged = now;
     }
 
-    /// Queues a frame for whom it is, and returns how often it was dropped.
-    fn release_frame<R: Wait>(&mut self, rt: &R, frame: Vec<u8>, now: u64) -> u64 {
-        let Ok(frame) = Bytes::from_vec(frame) else {
-            return 1;
+    /// Queues a frame that the node released.
+    fn release_frame<R: Wait>(&mut self, rt: &R, frame: Vec<u8>, now: u64) {
+        let dropped = match Bytes::from_vec(frame) {
+            Ok(frame) => self.send_released(rt, frame, now),
+            Err(_) => 1,
         };
+        self.drop_some(dropped);
+    }
+
+    /// Queues a frame for whom it is, and returns how often it was dropped.
+    fn send_released<R: Wait>(&mut self, rt: &R, frame: Bytes, now: u64) -> u64 {
         match self.core.released(frame, now) {
             Ok(Some(sending)) => self.outlets.send(rt, &sending),
             Ok(None) => 0,

@@ -1,8 +1,8 @@
 //! The calls of the node, and what comes of them.
 
 use crate::answers::{Answers, MOST_AT_ONCE, Replies};
+use crate::beside::Beside;
 use crate::shared::{Ending, Shared};
-use crate::tagging::SideBySide;
 use bytes::Bytes;
 use edge_frames::LinkId;
 use locked_node::{Done, Event};
@@ -92,25 +92,25 @@ impl<S: Store + Drop, J: Node, C: Clock> Shared<'_, S, J, C> {
         count: usize,
         answers: &mut Answers,
     ) {
-        let tagger = SideBySide::new(rt);
+        let beside = Beside::new(rt, self);
         let mut node = self.node.hold(rt);
         for _ in 0..count {
             let Some(frame) = frames.next_whole() else {
                 break;
             };
-            answers.add(&node.call(rt, &tagger, seat, Event::Frame(frame)));
+            answers.add(&node.call(rt, &beside, seat, Event::Frame(frame)));
         }
     }
 
     /// Asks the node what the event says.
-    fn call<'e, R: Threads + Wait + Sync>(
+    fn call<'e, R: Threads + Wait + time::Clock + Log + Sync>(
         &self,
         rt: &R,
         seat: &mut Seat<J>,
         event: Event<'e>,
     ) -> Done<'e> {
-        let tagger = SideBySide::new(rt);
-        self.node.hold(rt).call(rt, &tagger, seat, event)
+        let beside = Beside::new(rt, self);
+        self.node.hold(rt).call(rt, &beside, seat, event)
     }
 
     /// Counts the refusals among these answers, and does what is to be done after them.
@@ -197,10 +197,11 @@ impl<S: Store + Drop, J: Node, C: Clock> Shared<'_, S, J, C> {
 
     /// Queues what the node released, which is in this height.
     fn release<R: Wait + time::Clock + Log>(&self, rt: &R, height: u64) {
+        let mut node = self.node.hold(rt);
+        let released = node.take_released();
         let now = self.clock.now_ms(rt);
         let mut desk = self.desk.lock(rt);
         let is_new = desk.core.told(height, now);
-        let released = self.node.take_released(rt);
         desk.release(rt, released, now);
         if is_new {
             self.meters.decided(now);

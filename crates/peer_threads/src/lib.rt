@@ -11,6 +11,8 @@
 mod answers;
 mod batch;
 mod bell;
+mod beside;
+mod departed;
 mod desk;
 mod handing;
 mod outlets;

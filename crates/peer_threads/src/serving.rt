@@ -88,7 +88,7 @@ pub fn serve_at_pace<
     meters.decided(now);
     let Pace { plan, manner, stop } = pace;
     let core = PeerCore::new(alloc, links.me(), links.validators(), manner, plan, now);
-    let desk = Desk::new(core, Outlets::new(alloc));
+    let desk = Desk::new(alloc, core, Outlets::new(alloc));
     let shared = Shared {
         alloc,
         node,

@@ -25,7 +25,7 @@ pub enum Ending {
     OutOfMemory,
 }
 
-/// The node, what is beside it, and whether all is to end.
+/// The node, what is beside it, and whether all is to end. Who needs the locks of both the node and the desk takes the node's first.
 #[derive(Drop)]
 pub(crate) struct Shared<'a, S: Store + Drop, J: Node, C: Clock> {
     pub(crate) alloc: Global,
@@ -50,9 +50,10 @@ impl<S: Store + Drop, J: Node, C: Clock> Shared<'_, S, J, C> {
     /// Lets all end, by the first cause that comes. What the node released by then is queued, and
     /// nothing behind it.
     pub(crate) fn end<R: Wait + time::Clock + Log>(&self, rt: &R, ending: Ending) {
+        let mut node = self.node.hold(rt);
+        let released = node.take_released();
         let now = self.clock.now_ms(rt);
         let mut desk = self.desk.lock(rt);
-        let released = self.node.take_released(rt);
         desk.release(rt, released, now);
         self.note_ending(rt, ending);
         desk.outlets.close_all(rt);

@@ -9,8 +9,9 @@ ghost use Rattle.locked_node.specs.Locked.{count_of};
 
 use super::core_of;
 use super::frames::{bundle, close, next_session, own_bodies, proposal, vote};
+use super::leaving::Shown;
 use super::taking::{assert_first, next_of};
-use locked_node::{LockedNode, SubscribeFault, Subscription, words_for};
+use locked_node::{Event, LockedNode, SubscribeFault, Subscription, words_for};
 use messages::{Step as VoteStep, spell_body};
 use node_core::NodeCore;
 use protocol::{Step, Timeout};
@@ -86,7 +87,8 @@ fn follows_with_a_ring<J: Node, R: Abort + Wait>(
     Ok(())
 }
 
-/// Of a node that decided height 0: two votes, one more after its timeout, an ask, and the last vote again.
+/// Of a node that decided height 0: two votes, one more after its timeout, which is shown as that call goes on, an ask, and the last vote
+/// again.
 fn releases<J: Node, R: Abort + Wait>(
     rt: &R,
     alloc: Global,
@@ -99,11 +101,14 @@ fn releases<J: Node, R: Abort + Wait>(
         round: 0,
     };
     assert_eq!(rt; node.settle(rt, seat).answer(), Ok(()));
-    assert_eq!(rt; node.fire_timeout(rt, seat, due).answer(), Ok(()));
+    let shown = Shown::new(alloc);
+    let done = node.hold(rt).call(rt, &shown, seat, Event::Timeout(due));
+    assert_eq!(rt; done.answer(), Ok(()));
     assert_eq!(rt; node.ask(rt, seat).answer(), Ok(()));
     assert_eq!(rt; node.resend(rt, seat).answer(), Ok(()));
-    let frames = node.take_outgoing(rt);
+    let frames = node.hold(rt).take_released().frames;
     assert_eq!(rt; frames.len(), 5);
+    assert!(rt; shown.has_one(rt, frames.get(2)));
     for (frame, body) in frames.iter().zip(own_bodies(alloc)?.iter()) {
         assert!(rt; frame.len() > 4 && frame[4..].starts_with(&spell_body(alloc, body)?));
     }
