@@ -4,6 +4,7 @@ use Rattle.protocol.specs.Tags.{Setting}
 use Rattle.protocol.specs.Rings.{IsRingOf}
 use Rattle.protocol.specs.Restart.{opened}
 use Rattle.vote_journal.specs.History.{Call, Opened, NotOpened, Does}
+use Rattle.vote_journal.specs.declared.fault.JournalFault.TheVariants as faults
 use Rattle.node_core.specs.Core.{JournalSeen, Stands}
 use Rattle.stopped_cores.specs.Over.{IsLeftAfter}
 use Rattle.stopped_cores.proofs.Over.{comes_back_law}
@@ -17,6 +18,13 @@ pub returns-in-Err-clause-refused : goal.returns-in-Err-clause-refused
 returns-in-Err-clause-refused g c = λ d p seat calls cut left.
     (comes_back_law g.S.Store.seen g.S.Store.may_leave d p calls).refused cut c.in-Err.unopened.fault c.args.store c.in-Err.unopened.store left
     (at_seat g.S.Store.seen g.S.Store.may_leave d p c.args.config.powers c.args.config.me (NotOpened c.in-Err.unopened.fault) c.args.store c.in-Err.unopened.store seat.powers_are seat.me_is c.in-Err.ensures.refused)
+
+-- no opening calls it no journal
+pub returns-in-Err-clause-whole : goal.returns-in-Err-clause-whole
+returns-in-Err-clause-whole g c = λ d p seat calls cut left is.
+    (comes_back_law g.S.Store.seen g.S.Store.may_leave d p calls).never_bad cut c.args.store c.in-Err.unopened.store left
+    (at_seat g.S.Store.seen g.S.Store.may_leave d p c.args.config.powers c.args.config.me (NotOpened faults.BadRecord) c.args.store c.in-Err.unopened.store seat.powers_are seat.me_is
+    (subst (λ fault. Does g.S.Store.seen g.S.Store.may_leave c.args.config.powers c.args.config.me (NotOpened fault) c.args.store c.in-Err.unopened.store) is c.in-Err.ensures.refused))
 
 pub returns-in-Ok-open-clause-back : goal.returns-in-Ok-open-clause-back
 returns-in-Ok-open-clause-back g c = λ d p seat calls cut left.
