@@ -6,8 +6,8 @@ usage: gate/lines_to_believe.py [--files | --list] [LAW..]
 A LAW is a definition in a crate's specs, as `BeginsLaw`, or with its crate, as `world_schedule:CountLaw`, which it needs
 where several crates have one of that name and `protocol` doesn't. With no LAW: what the headline reaches (`BeginsLaw`),
 what all laws of crates/protocol/specs/Laws.antt and Order.antt do, what the headline over stores does
-(`StoppedHeadlineLaw` of `vote_journal`), and the headlines over what code does (`HeadlineLaw` and `OutcomeLaw` of
-`world_schedule`).
+(`StoppedHeadlineLaw` of `vote_journal`), and the headlines over what code does (`HeadlineLaw`, `EndsLaw` and `OutcomeLaw`
+of `world_schedule`).
 
 A line is one of a definition of this repository, or of a type that its code declares and a definition names, with how
 contracts see that type (`ghost Value`, `ghost view`), without comments, attributes and blank lines. What a type's
@@ -357,7 +357,7 @@ def main(words):
         return 2
     known = Known(modules(), types())
     all_laws = [name for module in (LAWS, ORDER) for name in known.modules[module].definitions if name.endswith("Law")]
-    each = {it: [it] for it in ("BeginsLaw", "all laws", "StoppedHeadlineLaw", "HeadlineLaw", "OutcomeLaw")} | {"all laws": all_laws}
+    each = {it: [it] for it in ("BeginsLaw", "all laws", "StoppedHeadlineLaw", "HeadlineLaw", "EndsLaw", "OutcomeLaw")} | {"all laws": all_laws}
     try:
         asked = {label: [known.law(it) for it in chosen] for label, chosen in ({" ".join(names): names} if names else each).items()}
     except Unknown as fault:
