@@ -20,13 +20,13 @@ module _ (loads : List Load) (fs : List SentFrame) (s : ℕ) (frame : List ℕ) 
   had : get_or loads s no_load ≡ load_of s fs
   had = is.each s lt
 
-  pub room_is : (get_or loads s no_load).frames < 64 → (get_or loads s no_load).bytes + length frame ≤ 2097152 → refusal s frame fs ≡ None
+  pub room_is : (get_or loads s no_load).frames < 512 → (get_or loads s no_load).bytes + length frame ≤ 2124288 → refusal s frame fs ≡ None
   room_is a b =
       let known : leb 128 s ≡ false = lt-leb _ _ lt in
       let count : (get_or loads s no_load).frames ≡ (load_of s fs).frames = ap (λ (l : Load). l.frames) had in
       let bytes : (get_or loads s no_load).bytes ≡ (load_of s fs).bytes = ap (λ (l : Load). l.bytes) had in
-      let few : ltb (load_of s fs).frames 64 ≡ true = lt-ltb _ _ (omega arith) in
-      let short : leb ((load_of s fs).bytes + length frame) 2097152 ≡ true = le-leb _ _ (omega arith) in
+      let few : ltb (load_of s fs).frames 512 ≡ true = lt-ltb _ _ (omega arith) in
+      let short : leb ((load_of s fs).bytes + length frame) 2124288 ≡ true = le-leb _ _ (omega arith) in
       let room : has_room s frame fs ≡ true = and_from _ _ few short in
       rw (known, room) refl
 
@@ -39,7 +39,7 @@ module _ (loads : List Load) (fs : List SentFrame) (s : ℕ) (frame : List ℕ) 
   more : load_of s (fs ++ sent s frame ∷ []) ≡ record { frames = (get_or loads s no_load).frames + 1; bytes = (get_or loads s no_load).bytes + length frame }
   more = rw (had, own, length_push (of_sender s fs) (sent s frame), sum_by_push (λ (f : SentFrame). length f.frame) (of_sender s fs) (sent s frame)) refl
 
-  pub measured : (get_or loads s no_load).frames < 64 → (get_or loads s no_load).bytes + length frame ≤ 2097152
+  pub measured : (get_or loads s no_load).frames < 512 → (get_or loads s no_load).bytes + length frame ≤ 2124288
       → IsMeasured (set loads s (record { frames = (get_or loads s no_load).frames + 1; bytes = (get_or loads s no_load).bytes + length frame })) (fs ++ sent s frame ∷ [])
   measured a b = record {
     count = length-set loads s _ ∙ is.count;

@@ -16,8 +16,8 @@ bytes_of fs = sum_by (λ f. length f.frame) fs
 
 -- as many frames and bytes as may be kept of one sender
 pub record IsWithin (fs : List SentFrame) : Type 0 where
-  pub frames : length fs ≤ 64
-  pub bytes : bytes_of fs ≤ 2097152
+  pub frames : length fs ≤ 512
+  pub bytes : bytes_of fs ≤ 2124288
 
 -- how much is kept of one sender
 abbrev pub load_of : ℕ → List SentFrame → Load
@@ -34,7 +34,7 @@ pub record IsMeasured (loads : List Load) (fs : List SentFrame) : Type 0 where
 
 -- with the kept ones of its sender, it is within the bounds
 abbrev pub has_room : ℕ → List ℕ → List SentFrame → Bool
-has_room sender frame fs = nat_lt (load_of sender fs).frames 64 && nat_le ((load_of sender fs).bytes + length frame) 2097152
+has_room sender frame fs = nat_lt (load_of sender fs).frames 512 && nat_le ((load_of sender fs).bytes + length frame) 2124288
 
 -- why it is not kept
 abbrev pub refusal : ℕ → List ℕ → List SentFrame → Option PassFault

@@ -9,12 +9,12 @@ use powers::MOST_VALIDATORS;
 use std::alloc::Global;
 use std::marker::Model;
 
-/// How many frames of one sender are kept at most.
-pub const MOST_SENDER_FRAMES: usize = 64;
+/// How many frames of one sender are kept at most: as many messages as a node takes in of one validator in a height.
+pub const MOST_SENDER_FRAMES: usize = 512;
 
-/// How many bytes the kept frames of one sender have at most: 2 MB, so that a proposal of any length
-/// has room.
-pub const MOST_SENDER_BYTES: usize = 2_097_152;
+/// How many bytes the kept frames of one sender have at most: two proposals of any length have room, and as many votes as may be kept,
+/// of which the longest have 4,149 bytes, at 128 validators.
+pub const MOST_SENDER_BYTES: usize = 2_124_288;
 
 /// A frame that the node took in, and the number of the validator that sent it.
 #[derive(Debug, Drop)]

@@ -32,9 +32,9 @@ abbrev pub for_bundle : ℕ → ℕ → PeerLinks → List LinkId
 for_bundle height now links = ids_of (gets_bundle height now) links.links.items
 
 -- with guarded links a bundle goes to who asked for its height
-abbrev pub BundleGoes : Keeping → List LinkId → Option Sending → Type 0
-BundleGoes Open asked sending = Unit {0}
-BundleGoes Guarded asked sending = GoesTo asked sending
+abbrev pub BundleGoes : Keeping → List LinkId → List LinkId → Option Sending → Type 0
+BundleGoes Open all asked sending = GoesTo all sending
+BundleGoes Guarded all asked sending = GoesTo asked sending
 
 -- nothing goes out, or it goes where a frame of this kind and height is due
 abbrev pub GoesAs : Kind → ℕ → ℕ → PeerLinks → Option Sending → Type 0
@@ -42,7 +42,7 @@ GoesAs Proposal height now links sending = GoesTo (for_all links) sending
 GoesAs Prevote height now links sending = GoesTo (for_all links) sending
 GoesAs Precommit height now links sending = GoesTo (for_all links) sending
 GoesAs Ask height now links sending = GoesTo (for_ask links) sending
-GoesAs Bundle height now links sending = BundleGoes links.keeping (for_bundle height now links) sending
+GoesAs Bundle height now links sending = BundleGoes links.keeping (for_all links) (for_bundle height now links) sending
 
 abbrev pub GoesFor : Result Heading Fault → ℕ → PeerLinks → Option Sending → Type 0
 GoesFor (Ok h) now links sending = GoesAs h.kind h.height now links sending

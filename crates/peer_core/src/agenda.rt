@@ -3,8 +3,36 @@
 /// How often a node settles, and its edge looks what is to be repaired, in milliseconds.
 pub const TICK_MS: u64 = 1_000;
 
-/// How long the pause before the own messages are sent again grows, in milliseconds.
+/// How long a pause that doubles grows, in milliseconds.
 const LONGEST_PAUSE_MS: u64 = 32_000;
+
+/// Pauses that double, from a second on, until something moves.
+#[derive(Clone, Copy, Debug)]
+struct Pauses {
+    /// When this one is over.
+    at: u64,
+    pause: u64,
+}
+
+impl Pauses {
+    /// The first one begins now.
+    fn new(now: u64) -> Pauses {
+        Pauses {
+            at: now.saturating_add(TICK_MS),
+            pause: TICK_MS,
+        }
+    }
+
+    /// Returns whether this one is over now. Then the next one begins.
+    fn next(&mut self, now: u64) -> bool {
+        if now < self.at {
+            return false;
+        }
+        self.pause = self.pause.saturating_mul(2).min(LONGEST_PAUSE_MS);
+        self.at = now.saturating_add(self.pause);
+        true
+    }
+}
 
 /// What is to be done, and when the next tick is.
 #[derive(Clone, Copy, Debug)]
@@ -14,9 +42,10 @@ pub(crate) struct Agenda {
     pub(crate) settles: bool,
     pub(crate) resends: bool,
     pub(crate) asks: bool,
-    /// When the own messages are sent again.
-    again_at: u64,
-    pause: u64,
+    /// The pauses before the own messages are sent again.
+    again: Pauses,
+    /// The pauses before one more validator is asked.
+    asking: Pauses,
 }
 
 impl Agenda {
@@ -27,8 +56,8 @@ impl Agenda {
             settles: false,
             resends,
             asks: false,
-            again_at: now.saturating_add(TICK_MS),
-            pause: TICK_MS,
+            again: Pauses::new(now),
+            asking: Pauses::new(now),
         }
     }
 
@@ -43,18 +72,23 @@ impl Agenda {
 
     /// Returns whether the own messages are sent again now, and doubles the pause until they are the next time.
     pub(crate) fn sends_again(&mut self, now: u64) -> bool {
-        if now < self.again_at {
-            return false;
-        }
-        self.pause = self.pause.saturating_mul(2).min(LONGEST_PAUSE_MS);
-        self.again_at = now.saturating_add(self.pause);
-        true
+        self.again.next(now)
     }
 
-    /// Begins with the shortest pause again, since something moved.
+    /// Returns whether one more validator is asked now, and doubles the pause until the next one is.
+    pub(crate) fn asks_more(&mut self, now: u64) -> bool {
+        self.asking.next(now)
+    }
+
+    /// Begins with the shortest pause again, since an own message goes out.
     pub(crate) fn moved(&mut self, now: u64) {
-        self.pause = TICK_MS;
-        self.again_at = now.saturating_add(TICK_MS);
+        self.again = Pauses::new(now);
+    }
+
+    /// Begins with the shortest pauses again, since another height has come.
+    pub(crate) fn advanced(&mut self, now: u64) {
+        self.again = Pauses::new(now);
+        self.asking = Pauses::new(now);
     }
 }
 

@@ -38,6 +38,13 @@ impl Budget {
             .min(each_second * MOST_SECONDS);
     }
 
+    /// Returns how many frames one second's worth is.
+    pub fn each_second(&self) -> u32
+        ensures { result ≡ self.now.each_second }
+    {
+        self.each_second
+    }
+
     /// Returns how many frames may be sent now.
     pub fn left(&self) -> u64
         ensures { result ≡ self.now.left }

@@ -1,12 +1,13 @@
 //! A validator's edge, and how links come and go.
 
 ghost use Rattle.std.specs.Prelude.{◌≡◌, true, false, nat_lt, OnOk};
-ghost use Rattle.peer_core.specs.Resting.{is_held};
+ghost use Rattle.peer_core.specs.Resting.{is_held, holding};
 ghost use Rattle.peer_core.specs.Duties.{with_timeout};
 
 use crate::agenda::Agenda;
 use crate::budget::Budget;
 use crate::duty::OpenFault;
+use crate::grounds::Grounds;
 use crate::holding::HeldFrames;
 use crate::links::PeerLinks;
 use crate::manner::{Keeping, Manner};
@@ -14,14 +15,22 @@ use crate::outbox::Outbox;
 use crate::own::OwnFrames;
 use crate::redial::Redial;
 use crate::rest::Rest;
+use crate::ticking::MOST_SMALL;
+use bytes::Bytes;
 use edge_frames::{CatchUp, EarlyFrames, HeightFrames, LinkId};
 use peer_links::Way;
 use protocol::Timeout;
 use std::alloc::Global;
 use timeouts::{Plan, PlanFault};
 
-/// How long a node that is one height behind waits before it asks, in milliseconds.
+/// How long a node that is one height behind waits before it asks, in milliseconds, where there are up to 16 validators. With more of them it
+/// waits longer in proportion, since a height takes longer.
 const MOMENT_MS: u64 = 100;
+
+/// Returns how long a node of so many validators that is one height behind waits before it asks.
+fn moment_of(count: u16) -> u64 {
+    MOMENT_MS * u64::from(count.max(MOST_SMALL)) / u64::from(MOST_SMALL)
+}
 
 /// What is around a validator's node, as a value: it has no threads, sockets or clock, and who runs it says what came and what
 /// time it is, and does what it says. Times are milliseconds since a moment that the caller chose.
@@ -37,13 +46,21 @@ pub struct PeerCore {
     pub(crate) taken: HeightFrames,
     /// The place of the one that is passed on next.
     pub(crate) turn: usize,
-    /// The link that others' frames were passed on to last, and the one that was asked last.
+    /// The prevotes of the height, own ones too, and which of them the own messages rest on.
+    pub(crate) prevotes: HeightFrames,
+    pub(crate) grounds: Option<Grounds>,
+    /// The link that others' frames were passed on to last.
     pub(crate) passed_to: Option<LinkId>,
-    pub(crate) asked_at: Option<LinkId>,
+    /// The validator that was asked last in this height.
+    pub(crate) asked: Option<u16>,
     pub(crate) own: OwnFrames,
+    /// The last own vote, of whichever height.
+    pub(crate) last_vote: Option<Bytes>,
     /// The bundles that the node made last, for who asks for one of them next.
     pub(crate) bundles: OwnFrames,
     pub(crate) held: HeldFrames,
+    /// How long the node waits before it asks where it is one height behind, in milliseconds.
+    pub(crate) moment: u64,
     pub(crate) catch_up: CatchUp,
     pub(crate) plan: Plan,
     /// A timeout whose rule was refused memory, where there is none to schedule it again.
@@ -77,12 +94,16 @@ impl PeerCore {
             early: EarlyFrames::new(alloc),
             taken: HeightFrames::new(alloc),
             turn: 0,
+            prevotes: HeightFrames::new(alloc),
+            grounds: None,
             passed_to: None,
-            asked_at: None,
+            asked: None,
             own: OwnFrames::new(alloc),
+            last_vote: None,
             bundles: OwnFrames::new(alloc),
             held: HeldFrames::new(alloc),
-            catch_up: CatchUp::new(MOMENT_MS),
+            moment: moment_of(count),
+            catch_up: CatchUp::new(moment_of(count)),
             plan,
             unfired: None,
             rest: Rest::new(manner.rest, count),
@@ -170,18 +191,22 @@ impl PeerCore {
         self.early.forget_below(height);
         self.taken.clear();
         self.turn = 0;
+        self.prevotes.clear();
+        self.grounds = None;
         self.own.clear();
         self.held.forget();
+        self.asked = None;
         self.catch_up.advanced(height);
         self.plan.forget_below(height);
         self.rest.forget_below(height);
-        self.agenda.moved(now);
+        self.agenda.advanced(now);
     }
 
     /// Plans a timeout that the node scheduled, whose time begins now. That of a height's first propose step waits where the
     /// validator rests.
     pub fn scheduled(&mut self, timeout: Timeout, now: u64) -> Result<(), PlanFault>
         ensures held { is_held self.old.rest timeout ≡ true → self.new.plan ≡ self.old.plan }
+        ensures rest { self.new.rest ≡ holding self.old.rest timeout now }
         ensures planned { is_held self.old.rest timeout ≡ false → OnOk result (self.new.plan ≡ with_timeout self.old.plan now timeout) }
     {
         if self.rest.hold(timeout, now) {

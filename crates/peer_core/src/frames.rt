@@ -11,6 +11,7 @@ ghost use Rattle.peer_core.specs.Sendings.{IsOf, GoesTo, GoesWhereDue, BundleGoe
 use crate::answering::{Then, reply_to, then_after};
 use crate::duty::{Rank, Sending};
 use crate::edge::PeerCore;
+use crate::grounds::Grounds;
 use crate::heading::{Heading, Kind, heading_of, is_transaction};
 use crate::holding::MOST_BEHIND;
 use crate::idle::idle_height;
@@ -22,6 +23,9 @@ use edge_frames::LinkId;
 use messages::Reply;
 use protocol::Refusal;
 use std::alloc::AllocError;
+
+/// For how many of a node's moments, in which it waits before it asks, others aren't answered who ask for the height that it left.
+const EARLY_MOMENTS: u64 = 4;
 
 impl PeerCore {
     /// Notes before a frame is handed in what the node may release for it, and returns whether it is to be handed in: a bundle goes
@@ -75,12 +79,23 @@ impl PeerCore {
         };
         link.ask(ask.height);
         let is_known = link.is_of(ask.sender);
+        if self.is_early(ask, now) {
+            return false;
+        }
         if is_known && (self.send_made(ask.height, now) || is_making) {
             return false;
         }
         self.links
             .link_mut(id)
             .is_some_and(|link| link.make(ask.height, now))
+    }
+
+    /// Returns whether a height was left so lately that who asks for it may just as well decide it by itself, or has since it asked. In a large
+    /// cluster it is answered only if it asks again.
+    fn is_early(&self, ask: Heading, now: u64) -> bool {
+        self.is_large()
+            && ask.height.saturating_add(1) == self.height
+            && now.saturating_sub(self.since) < self.moment.saturating_mul(EARLY_MOMENTS)
     }
 
     /// Sends a bundle that was made to whom it is for, and returns whether there is one.
@@ -121,7 +136,10 @@ impl PeerCore {
         self.note(link, frame, heading, answer, height);
         match then_after(answer, heading, height) {
             Then::Keep { height } => self.keep_early(link, height, frame, now),
-            Then::PassOn { sender } => self.keep_taken(height, sender, frame),
+            Then::PassOn { sender } => {
+                let is_prevote = heading.is_some_and(|heading| heading.kind == Kind::Prevote);
+                self.keep_taken(height, sender, is_prevote, frame);
+            }
             Then::Note { height } => self.catch_up.saw(height, now),
             Then::Halt | Then::Nothing => {}
         }
@@ -156,14 +174,28 @@ impl PeerCore {
         }
     }
 
-    /// Keeps a frame that the node took in, to be passed on. Of a sender that has no room what came first stays.
-    fn keep_taken(&mut self, height: u64, sender: u16, frame: &[u8]) {
+    /// Keeps a frame that the node took in, to be passed on. Of a sender that has no room what came first stays. Prevotes have room of
+    /// their own beside, as much as the node has for them, since a message of this validator may rest on any.
+    fn keep_taken(&mut self, height: u64, sender: u16, is_prevote: bool, frame: &[u8]) {
         if height != self.height {
             return;
         }
-        if let Ok(copy) = Bytes::copy_from_slice(self.alloc, frame) {
-            let _ = self.taken.keep(sender, copy);
+        let Ok(copy) = Bytes::copy_from_slice(self.alloc, frame) else {
+            return;
+        };
+        if is_prevote {
+            let _ = self.keep_prevote(sender, &copy);
         }
+        let _ = self.taken.keep(sender, copy);
+    }
+
+    /// Keeps a prevote of the height.
+    fn keep_prevote(&mut self, sender: u16, frame: &Bytes) -> Result<(), AllocError>
+        ensures { self.new.links ≡ self.old.links }
+    {
+        // (where there is no room for it, the node has none either)
+        let _ = self.prevotes.keep(sender, frame.clone()?);
+        Ok(())
     }
 
     /// Wakes the validator where a frame says that something happens.
@@ -272,7 +304,10 @@ impl PeerCore {
                 Ok(Some(fresh(frame, links)))
             }
             Kind::Bundle => self.bundle(frame, heading.height, now),
-            Kind::Proposal | Kind::Prevote | Kind::Precommit => self.own_message(frame, now),
+            Kind::Proposal | Kind::Prevote | Kind::Precommit => {
+                self.note_own(heading, &frame);
+                self.own_message(frame, now)
+            }
         }
     }
 
@@ -287,22 +322,73 @@ impl PeerCore {
     /// Returns to whom a bundle goes.
     fn bundle(&mut self, frame: Bytes, height: u64, now: u64) -> Result<Option<Sending>, AllocError>
         ensures frame { IfOk result (IsOf frame) }
-        ensures links { IfOk result (BundleGoes self.old.links.keeping (for_bundle height now self.old.links)) }
+        ensures links { IfOk result (BundleGoes self.old.links.keeping (for_all self.old.links) (for_bundle height now self.old.links)) }
     {
-        let keeping = self.links.keeping();
-        let asked = self.links.for_bundle(self.alloc, height, now)?;
-        if asked.is_empty() {
+        match self.links.keeping() {
+            Keeping::Open => self.bundle_for_all(frame, height, now),
+            Keeping::Guarded => self.bundle_for_askers(frame, height, now),
+        }
+    }
+
+    /// A bundle for all links, where any peer asked for it.
+    fn bundle_for_all(
+        &mut self,
+        frame: Bytes,
+        height: u64,
+        now: u64,
+    ) -> Result<Option<Sending>, AllocError>
+        ensures frame { IfOk result (IsOf frame) }
+        ensures links { IfOk result (GoesTo (for_all self.old.links)) }
+    {
+        let links = self.links.all(self.alloc)?;
+        if self.links.for_bundle(self.alloc, height, now)?.is_empty() {
             return Ok(None);
         }
-        let links = match keeping {
-            Keeping::Open => self.links.for_all(self.alloc, now)?,
-            Keeping::Guarded => {
-                // (without memory for it, it is made once more)
-                let _ = self.bundles.keep(&frame);
-                asked
-            }
-        };
+        self.links.note_sent(&links, now);
         Ok(Some(fresh(frame, links)))
+    }
+
+    /// A bundle for those who asked for it, which is kept for the next ones.
+    fn bundle_for_askers(
+        &mut self,
+        frame: Bytes,
+        height: u64,
+        now: u64,
+    ) -> Result<Option<Sending>, AllocError>
+        ensures frame { IfOk result (IsOf frame) }
+        ensures links { IfOk result (GoesTo (for_bundle height now self.old.links)) }
+    {
+        let links = self.links.for_bundle(self.alloc, height, now)?;
+        self.links.made(height);
+        if links.is_empty() {
+            return Ok(None);
+        }
+        // (without memory for it, it is made once more)
+        let _ = self.bundles.keep(&frame);
+        Ok(Some(fresh(frame, links)))
+    }
+
+    /// Notes what an own proposal or vote rests on, and keeps a prevote, on which later ones may rest.
+    fn note_own(&mut self, heading: Heading, frame: &Bytes)
+        ensures { self.new.links ≡ self.old.links }
+    {
+        self.grounds = Grounds::after(self.grounds, frame);
+        if heading.kind != Kind::Proposal
+            && let Ok(vote) = frame.clone()
+        {
+            self.last_vote = Some(vote);
+        }
+        if heading.kind == Kind::Prevote && !self.has_prevote(frame) {
+            let _ = self.keep_prevote(heading.sender, frame);
+        }
+    }
+
+    /// Returns whether this prevote is kept.
+    fn has_prevote(&self, frame: &[u8]) -> bool {
+        self.prevotes
+            .frames()
+            .iter()
+            .any(|kept| kept.frame.as_slice() == frame)
     }
 
     /// Returns to whom an own proposal or vote goes. A proposal of no transactions waits, and what comes behind it.

@@ -17,9 +17,12 @@ pub(crate) const MOST_SILENT: u32 = 10;
 /// end doesn't take it for silent.
 const BEAT_MS: u64 = 3_000;
 
-/// How long a height that a link was sent a bundle of isn't answered again on it, in milliseconds, and for how long a node that
-/// was asked for a bundle isn't asked for it again.
+/// How long a height that a link was sent a bundle of isn't answered again on it, in milliseconds.
 const AGAIN_MS: u64 = 1_000;
+
+/// For how long a node that was asked for a bundle isn't asked for it again unless it has made it, in milliseconds. A machine that has much
+/// to do makes one in seconds, at 128 validators, and one for each second of them would take it over.
+const MAKING_MS: u64 = 60_000;
 
 /// Who is behind a link. It is learned and never trusted: it decides only what is worth sending.
 #[derive(Clone, Copy, Debug, PartialEq, Eq)]
@@ -228,11 +231,18 @@ impl PeerLink {
         self.asked = Some(height);
     }
 
-    /// Returns whether the node was asked for this height's bundle within the last second, as the peer asks.
+    /// Returns whether the node was asked for this height's bundle within the last minute, as the peer asks, and hasn't made it yet.
     pub(crate) fn is_making(&self, height: u64, now: u64) -> bool {
         match self.making {
-            Some(making) => making.height == height && now.saturating_sub(making.at) < AGAIN_MS,
+            Some(making) => making.height == height && now.saturating_sub(making.at) < MAKING_MS,
             None => false,
+        }
+    }
+
+    /// Notes that the node has made this height's bundle.
+    pub(crate) fn made(&mut self, height: u64) {
+        if self.making.is_some_and(|making| making.height == height) {
+            self.making = None;
         }
     }
 

@@ -144,13 +144,11 @@ impl PeerLinks {
         self.is_stirred = true;
     }
 
-    /// Has a validator's link named, and sent the own messages and an ask where links are guarded, and chooses among that validator's
-    /// links.
+    /// Has a validator's link named, and sent the own messages where links are guarded, and chooses among that validator's links.
     fn greet(&mut self, id: LinkId, validator: u16) {
         let is_guarded = self.keeping == Keeping::Guarded;
         if let Some(link) = self.link_mut(id) {
             link.wants_own = is_guarded;
-            link.wants_ask = is_guarded;
             link.wants_name = true;
         }
         self.is_stirred = true;
@@ -264,7 +262,7 @@ impl PeerLinks {
     }
 
     /// Returns the links that a frame for all goes to.
-    fn all(&self, alloc: Global) -> Result<Vec<LinkId>, AllocError>
+    pub(crate) fn all(&self, alloc: Global) -> Result<Vec<LinkId>, AllocError>
         ensures { IfOk result (λ ids. ids.items ≡ ids_of (gets_all self.now.keeping) self.now.links.items) }
     {
         self.links
@@ -304,7 +302,7 @@ impl PeerLinks {
     }
 
     /// Notes that a frame goes to these links.
-    fn note_sent(&mut self, ids: &[LinkId], now: u64) {
+    pub(crate) fn note_sent(&mut self, ids: &[LinkId], now: u64) {
         for id in ids {
             if let Some(link) = self.link_mut(*id) {
                 link.sent(now);
@@ -372,7 +370,14 @@ impl PeerLinks {
         Ok(ids)
     }
 
-    /// Returns whether the node was asked for this height's bundle within the last second.
+    /// Notes that the node has made this height's bundle.
+    pub(crate) fn made(&mut self, height: u64) {
+        for link in self.links.iter_mut() {
+            link.made(height);
+        }
+    }
+
+    /// Returns whether the node was asked for this height's bundle and hasn't made it yet.
     pub fn is_making(&self, height: u64, now: u64) -> bool {
         self.links.iter().any(|link| link.is_making(height, now))
     }
@@ -406,6 +411,21 @@ impl PeerLinks {
         }
     }
 
+    /// Returns the link that is used of the first validator from this one on that has one, and behind the last one the first.
+    pub fn next_validator(&self, from: u16) -> Option<(LinkId, u16)> {
+        let used = |link: &PeerLink| link
+            .validator()
+            .filter(|_| link.is_chosen)
+            .map(|validator| (link.id, validator));
+        let later = self
+            .links
+            .iter()
+            .filter_map(used)
+            .filter(|next| next.1 >= from)
+            .min_by_key(|next| next.1);
+        later.or_else(|| self.links.iter().filter_map(used).min_by_key(|next| next.1))
+    }
+
     /// Has an ask go to each validator.
     pub fn want_asks(&mut self) {
         for link in self.links.iter_mut() {
@@ -413,6 +433,18 @@ impl PeerLinks {
                 link.wants_ask = true;
             }
         }
+    }
+
+    /// Returns the links of validators on which nothing was sent for three seconds, and notes that something is now.
+    pub fn quiet(&mut self, alloc: Global, now: u64) -> Result<Vec<LinkId>, AllocError> {
+        let ids: Vec<LinkId> = self
+            .links
+            .iter()
+            .filter(|link| link.is_quiet(now))
+            .map(|link| link.id)
+            .collect(alloc)?;
+        self.note_sent(&ids, now);
+        Ok(ids)
     }
 
     /// Has an ask go to each validator's link on which nothing was sent for three seconds, and returns whether there is one.

@@ -11,10 +11,13 @@ use std::marker::Model;
 /// How many of the last ones are sent again: two rounds' proposals and votes.
 pub const MOST_AGAIN: usize = 6;
 
+/// How many of the last ones a link gets that has opened.
+pub const MOST_GREETING: usize = 64;
+
 /// The number under which the frames are kept.
 const OWN: u16 = 0;
 
-/// The frames of a validator's own proposals and votes of its height, in the order in which they were sent: at most 64, of at most
+/// The frames of a validator's own proposals and votes of its height, in the order in which they were sent: at most 512, of at most
 /// 2 MB. They are sent again as they are, so that nothing is tagged anew.
 #[derive(Debug, Drop)]
 pub struct OwnFrames {

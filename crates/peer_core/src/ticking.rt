@@ -11,15 +11,22 @@ ghost use Rattle.peer_core.specs.Duties.{IfHandedIn, IfFired, next_of, is_behind
 use crate::agenda::take;
 use crate::duty::{Duty, Rank, Sending};
 use crate::edge::PeerCore;
-use crate::grounds::{grounds_of, is_prevote_of};
+use crate::grounds::Grounds;
 use crate::manner::Keeping;
-use crate::own::MOST_AGAIN;
+use crate::own::{MOST_AGAIN, MOST_GREETING};
 use bytes::Bytes;
 use edge_frames::{LinkId, turn_from};
 use std::alloc::{AllocError, Global};
 
 /// How long a height doesn't move until its frames are passed on and all are asked, in milliseconds.
 const STILL_MS: u64 = 1_000;
+
+/// How many validators a cluster has at most in which a bundle takes little to make: its tags are over all of it, one for each validator,
+/// and so are those of the votes that it brings. With 16 they take 94 kB of hashing, with 128 45 MB.
+pub(crate) const MOST_SMALL: u16 = 16;
+
+/// How many seconds' worth of the newest frames are passed on by turns.
+const TURN_SECONDS: u32 = 8;
 
 impl PeerCore {
     /// Returns what is to be done next, and nothing where nothing more is now. A frame that is handed in is the first early one of the
@@ -95,16 +102,38 @@ impl PeerCore {
     }
 
     /// Sees each second to guarded links: closes the silent ones, keeps the others from seeming silent, sends the own messages again,
-    /// and asks all where the node is behind and doesn't get on.
+    /// and asks more validators where the node is behind and doesn't get on.
     fn tick_guarded(&mut self, now: u64) {
         self.links.close_silent();
         if self.catch_up.is_behind(self.height) && self.is_still(now) {
-            self.links.want_asks();
-            self.agenda.asks = true;
+            self.ask_more(now);
         }
-        self.agenda.asks = self.links.beat(now) || self.agenda.asks;
+        let _ = self.beat(now);
         if self.agenda.sends_again(now) {
             let _ = self.send_again(now);
+        }
+    }
+
+    /// Sends something on links that would seem silent: an ask or, in a large cluster, the last own vote.
+    fn beat(&mut self, now: u64) -> Result<(), AllocError> {
+        let Some(vote) = self.sign_of_life()? else {
+            self.agenda.asks = self.links.beat(now) || self.agenda.asks;
+            return Ok(());
+        };
+        let links = self.links.quiet(self.alloc, now)?;
+        if !links.is_empty() {
+            self.put(vote, links, Rank::Repair);
+        }
+        Ok(())
+    }
+
+    /// Returns what a large cluster's validator says in the place of an ask that nothing calls for: its last vote, if it has cast one since it was
+    /// started. Whoever is behind it learns so from it, and nobody answers it, where an ask would be answered by a bundle of each that
+    /// has decided meanwhile.
+    fn sign_of_life(&self) -> Result<Option<Bytes>, AllocError> {
+        match &self.last_vote {
+            Some(vote) if self.is_large() => Ok(Some(vote.clone()?)),
+            _ => Ok(None),
         }
     }
 
@@ -129,33 +158,24 @@ impl PeerCore {
         Ok(())
     }
 
-    /// Passes on to one validator, whose turn it is, what it may lack: first what the last own message rests on, and then a turn of
-    /// the height's frames.
+    /// Passes on to one validator, whose turn it is, what it may lack: first what the own messages rest on, and then a turn of the
+    /// height's newest frames.
     fn pass_on(&mut self) -> Result<(), AllocError> {
         let Some(link) = self.links.next_behind(self.passed_to) else {
             return Ok(());
         };
         self.passed_to = Some(link);
-        if let Some(round) = self.grounds() {
-            self.pass_grounds(link, round)?;
+        if let Some(grounds) = self.grounds {
+            self.pass_grounds(link, grounds)?;
         }
         self.pass_turn(link)
     }
 
-    /// Returns the round of the prevotes that the last own message rests on which rests on any.
-    fn grounds(&self) -> Option<u32> {
-        let mut found = None;
-        for sent in self.own.frames() {
-            found = grounds_of(&sent.frame).or(found);
-        }
-        found
-    }
-
-    /// Puts the prevotes of a round for a value into the outbox, as many as the budget has room for: who has them all can follow the
-    /// own message that rests on them, whatever came before they were cast.
-    fn pass_grounds(&mut self, link: LinkId, round: u32) -> Result<(), AllocError> {
-        for sent in self.own.frames().iter().chain(self.taken.frames()) {
-            if is_prevote_of(&sent.frame, round) && self.budget.spend(1) {
+    /// Puts the prevotes that the own messages rest on into the outbox, as many as the budget has room for: who has them all can follow
+    /// these messages, whatever came before they were cast.
+    fn pass_grounds(&mut self, link: LinkId, grounds: Grounds) -> Result<(), AllocError> {
+        for sent in self.prevotes.frames() {
+            if grounds.includes(&sent.frame) && self.budget.spend(1) {
                 self.outbox.put(Sending {
                     frame: sent.frame.clone()?,
                     links: one_link(self.alloc, link)?,
@@ -166,10 +186,12 @@ impl PeerCore {
         Ok(())
     }
 
-    /// Puts a turn of the height's frames of others into the outbox, as many as the budget has room for. The next turn begins behind
-    /// them.
+    /// Puts a turn of the height's newest frames of others into the outbox, as many as the budget has room for. The next turn begins
+    /// behind them. Older ones wait for no turn: whoever sends many frames delays those of others by no more than some seconds.
     fn pass_turn(&mut self, link: LinkId) -> Result<(), AllocError> {
-        let turn = turn_from(self.taken.frames(), self.turn);
+        let newest = self.budget.each_second().saturating_mul(TURN_SECONDS);
+        let first = self.taken.frames().len().saturating_sub(newest as usize);
+        let turn = turn_from(self.taken.frames(), self.turn.max(first));
         let mut count: usize = 0;
         for sent in turn.frames {
             if !self.budget.spend(1) {
@@ -185,7 +207,7 @@ impl PeerCore {
         if count == turn.frames.len() {
             self.turn = turn.next;
         } else {
-            self.turn = self.turn.saturating_add(count);
+            self.turn = self.turn.max(first).saturating_add(count);
         }
         Ok(())
     }
@@ -211,13 +233,34 @@ impl PeerCore {
         None
     }
 
-    /// Has the next validator asked.
+    /// Has the next validator asked. Who lacks a height asks the same one first, which makes one bundle for all of them.
     fn ask_next(&mut self) {
         self.agenda.asks = true;
-        if let Some(link) = self.links.next_behind(self.asked_at) {
-            self.asked_at = Some(link);
+        let count = u64::from(self.redial.count()).max(1);
+        let from = match self.asked {
+            Some(validator) => validator.saturating_add(1),
+            None => (self.height % count) as u16,
+        };
+        if let Some((link, validator)) = self.links.next_validator(from) {
+            self.asked = Some(validator);
             self.links.want_ask(link);
         }
+    }
+
+    /// Has all validators of a small cluster asked. Of a large one the next one is, after a pause that doubles, since whoever is asked makes a
+    /// bundle.
+    fn ask_more(&mut self, now: u64) {
+        if !self.is_large() {
+            self.links.want_asks();
+            self.agenda.asks = true;
+        } else if self.agenda.asks_more(now) {
+            self.ask_next();
+        }
+    }
+
+    /// Returns whether a bundle takes long to make.
+    pub(crate) fn is_large(&self) -> bool {
+        self.redial.count() > MOST_SMALL
     }
 
     /// Returns the next frame that is to be sent. Where there is none, a link that has opened gets the own messages of the height.
@@ -229,20 +272,39 @@ impl PeerCore {
             return Some(Duty::Send(sending));
         }
         let link = self.links.next_greeted()?;
-        self.agenda.asks = true;
         let _ = self.greet(link);
-        self.next_call(now)
+        if let Some(duty) = self.next_call(now) {
+            return Some(duty);
+        }
+        let sending = self.outbox.take()?;
+        Some(Duty::Send(sending))
     }
 
-    /// Puts the own messages of the height into the outbox, for a link that has opened.
+    /// Has a link that has opened told who is here and where: by the last own messages of the height, and by an ask or, in a large cluster, by
+    /// the last own vote at least, if there is one.
     fn greet(&mut self, link: LinkId) -> Result<(), AllocError> {
-        for place in 0..self.own.frames().len() {
+        let first = self.own.frames().len().saturating_sub(MOST_GREETING);
+        for place in first..self.own.frames().len() {
             if let Some(sent) = self.own.frames().get(place) {
                 let frame = sent.frame.clone()?;
-                let links = one_link(self.alloc, link)?;
-                self.put(frame, links, Rank::Fresh);
+                self.put_fresh(frame, link)?;
             }
         }
+        let Some(vote) = self.sign_of_life()? else {
+            self.links.want_ask(link);
+            self.agenda.asks = true;
+            return Ok(());
+        };
+        if self.own.frames().is_empty() {
+            self.put_fresh(vote, link)?;
+        }
+        Ok(())
+    }
+
+    /// Puts a frame into the outbox for one link.
+    fn put_fresh(&mut self, frame: Bytes, link: LinkId) -> Result<(), AllocError> {
+        let links = one_link(self.alloc, link)?;
+        self.put(frame, links, Rank::Fresh);
         Ok(())
     }
 }

@@ -37,6 +37,12 @@ fn edge_of(alloc: Global, manner: Manner) -> Result<PeerCore, Fail> {
     Ok(PeerCore::new(alloc, 1, 4, manner, plan, 0))
 }
 
+/// Validator 1 of twenty, where a bundle takes long to make.
+fn large_edge(alloc: Global) -> Result<PeerCore, Fail> {
+    let plan = Plan::new(alloc, 1_000, 0)?;
+    Ok(PeerCore::new(alloc, 1, 20, GUARDED, plan, 0))
+}
+
 /// The front of a proposal of no transactions or of a vote for a value, of round 0.
 fn of_round(kind: u8, height: u8, sender: u8) -> [u8; 25] {
     [

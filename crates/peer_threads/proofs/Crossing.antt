@@ -16,6 +16,11 @@ use Rattle.peer_core.specs.contracts.links.PeerLinks as PeerLinks
 use Rattle.peer_core.specs.contracts.outbox.Outbox as Outbox
 use Rattle.peer_core.specs.contracts.own.OwnFrames as OwnFrames
 use Rattle.peer_core.specs.contracts.redial.Redial as Redial
+use Rattle.edge_frames.specs.contracts.catch_up.CatchUp as CatchUp
+use Rattle.peer_core.specs.contracts.grounds.Grounds as Grounds
+use Rattle.peer_core.specs.contracts.rest.Rest as Rest
+use Rattle.peer_core.specs.contracts.budget.Budget as Budget
+use Rattle.peer_core.specs.contracts.agenda.Agenda as Agenda
 use Rattle.peer_core.specs.contracts.edge.PeerCore as PeerCore
 use Rattle.vote_journal.specs.declared.store.Store as stores
 use Rattle.status_words.specs.declared.words.Node as names
@@ -61,8 +66,23 @@ links_send = search (sendable, crosses) depth 60 fits 20000
 redial_send : IsSend Redial.the_field.row
 redial_send = search sendable depth 60
 
+catch_send : IsSend CatchUp.the_field.row
+catch_send = search sendable depth 60
+
+grounds_send : IsSend Grounds.the_field.row
+grounds_send = search (sendable, crosses) depth 60
+
+rest_send : IsSend Rest.the_field.row
+rest_send = search (sendable, crosses) depth 60
+
+budget_send : IsSend Budget.the_field.row
+budget_send = search sendable depth 60
+
+agenda_send : IsSend Agenda.the_field.row
+agenda_send = search sendable depth 60
+
 core_send : IsSend PeerCore.the_field.row
-core_send = search (early_send, height_send, own_send, held_send, outbox_send, plan_send, links_send, redial_send, sendable, crosses) depth 60 fits 20000
+core_send = search (early_send, height_send, own_send, held_send, outbox_send, plan_send, links_send, redial_send, catch_send, grounds_send, rest_send, budget_send, agenda_send, seen_send, block-send, block-sync, sendable, crosses, maps.crosses) depth 60 fits 20000
 
 outlets_send : IsSend Outlets.the_field.row
 outlets_send = search (frames_send, seen_send, block-send, block-sync, sendable, crosses, maps.crosses) depth 60 fits 20000

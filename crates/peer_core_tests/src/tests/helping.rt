@@ -1,11 +1,11 @@
 //! Early frames, catching up, and what is sent again.
 
 use super::{
-    ASK, GUARDED, PRECOMMIT, PREVOTE, asks, came, dial_all, duties, edge_of, of_height, of_round,
-    released,
+    ASK, GUARDED, PRECOMMIT, PREVOTE, asks, came, dial_all, duties, edge_of, large_edge, of_height,
+    of_round, released,
 };
 use edge_frames::LinkId;
-use peer_core::{Duty, PeerCore, Sending};
+use peer_core::{Duty, Grounds, Manner, PeerCore, Sending};
 use peer_links::Way;
 use protocol::Refusal;
 use std::alloc::Global;
@@ -56,6 +56,123 @@ fn try_who_is_behind_asks_one_and_then_all(
     assert_eq!(rt; released(alloc, edge, &ask, 0)?, 1);
     assert_eq!(rt; duties(edge, 1_000).asks, 1);
     assert_eq!(rt; released(alloc, edge, &ask, 1_000)?, 123);
+    Ok(())
+}
+
+/// In height 2 of four validators all that are behind ask validator 2 first, and then the next one, so that one bundle is made for all.
+#[test]
+fn who_is_behind_asks_whom_the_others_ask(rt: HostRuntime) -> Result<(), Fail> {
+    let alloc = rt.alloc();
+    let mut edge = edge_of(alloc, GUARDED)?;
+    try_who_is_behind_asks_whom_the_others_ask(&rt, alloc, &mut edge)
+}
+
+fn try_who_is_behind_asks_whom_the_others_ask(
+    rt: &impl Abort,
+    alloc: Global,
+    edge: &mut PeerCore,
+) -> Result<(), Fail> {
+    dial_all(edge)?;
+    let _ = duties(edge, 0);
+    let own = |height: u8| of_height(ASK, height, 1);
+    let _ = released(alloc, edge, &own(2), 0)?;
+    came(
+        edge,
+        1,
+        &of_height(ASK, 4, 0),
+        Err(Refusal::OtherHeight),
+        2,
+        0,
+    );
+    assert_eq!(rt; duties(edge, 0).asks, 1);
+    assert_eq!(rt; released(alloc, edge, &own(2), 0)?, 2);
+    edge.told(3, 10);
+    assert_eq!(rt; duties(edge, 10).asks, 1);
+    assert_eq!(rt; released(alloc, edge, &own(3), 10)?, 3);
+    Ok(())
+}
+
+/// In a large cluster a validator that is behind asks one more after 1, 3 and 7 seconds, so that few make a bundle.
+#[test]
+fn who_is_behind_in_a_large_cluster_asks_few(rt: HostRuntime) -> Result<(), Fail> {
+    let mut edge = large_edge(rt.alloc())?;
+    try_who_is_behind_in_a_large_cluster_asks_few(&rt, rt.alloc(), &mut edge)
+}
+
+fn try_who_is_behind_in_a_large_cluster_asks_few(
+    rt: &impl Abort,
+    alloc: Global,
+    edge: &mut PeerCore,
+) -> Result<(), Fail> {
+    assert_eq!(rt; released(alloc, edge, &of_round(PREVOTE, 0, 1), 0)?, 0);
+    dial_all(edge)?;
+    assert_eq!(rt; duties(edge, 0).asks, 0);
+    came(
+        edge,
+        2,
+        &of_height(ASK, 2, 2),
+        Err(Refusal::OtherHeight),
+        0,
+        0,
+    );
+    assert_eq!(rt; duties(edge, 0).asks, 1);
+    let ask = of_height(ASK, 0, 1);
+    assert_eq!(rt; released(alloc, edge, &ask, 0)?, 1);
+    for (second, links) in [(1, 2), (2, 0), (3, 3), (4, 0), (5, 0), (6, 0), (7, 1)] {
+        let asks = duties(edge, second * 1_000).asks;
+        let asked = if asks == 0 {
+            0
+        } else {
+            released(alloc, edge, &ask, second * 1_000)?
+        };
+        assert_eq!(rt; asked, links);
+    }
+    Ok(())
+}
+
+/// In a large cluster the last own vote is said on links that open or would seem silent, since an ask would be answered.
+#[test]
+fn in_a_large_cluster_a_vote_is_a_sign_of_life(rt: HostRuntime) -> Result<(), Fail> {
+    let mut edge = large_edge(rt.alloc())?;
+    try_in_a_large_cluster_a_vote_is_a_sign_of_life(&rt, rt.alloc(), &mut edge)
+}
+
+fn try_in_a_large_cluster_a_vote_is_a_sign_of_life(
+    rt: &impl Abort,
+    alloc: Global,
+    edge: &mut PeerCore,
+) -> Result<(), Fail> {
+    let vote = of_round(PREVOTE, 0, 1);
+    assert_eq!(rt; released(alloc, edge, &vote, 0)?, 0);
+    edge.told(1, 0);
+    edge.opened(LinkId(1), Way::Dialed(0), 0)?;
+    let greeting = first_sent(edge, 0);
+    assert!(rt; greeting.is_some_and(|sending| sending.frame.as_slice() == vote.as_slice()));
+    assert_eq!(rt; duties(edge, 2_000).sent, 0);
+    let beat = first_sent(edge, 3_000);
+    assert!(rt; beat.is_some_and(|sending| sending.frame.as_slice() == vote.as_slice()));
+    assert_eq!(rt; duties(edge, 4_000).asks, 0);
+    Ok(())
+}
+
+/// In a large cluster who asks for the height that was left a moment ago isn't answered: it may have asked before it decided.
+#[test]
+fn in_a_large_cluster_a_late_ask_is_passed_over(rt: HostRuntime) -> Result<(), Fail> {
+    let mut edge = large_edge(rt.alloc())?;
+    try_in_a_large_cluster_a_late_ask_is_passed_over(&rt, &mut edge)
+}
+
+fn try_in_a_large_cluster_a_late_ask_is_passed_over(
+    rt: &impl Abort,
+    edge: &mut PeerCore,
+) -> Result<(), Fail> {
+    dial_all(edge)?;
+    assert_eq!(rt; duties(edge, 0).asks, 3);
+    edge.told(2, 100);
+    let late = of_height(ASK, 1, 0);
+    assert!(rt; !edge.expect(LinkId(1), &late, 500));
+    assert!(rt; edge.expect(LinkId(2), &of_height(ASK, 0, 2), 500));
+    assert!(rt; edge.expect(LinkId(1), &late, 600));
     Ok(())
 }
 
@@ -170,5 +287,66 @@ fn try_what_a_lock_rests_on_is_passed_on_first(
     assert!(rt;
         second.is_some_and(|sending| sending.frame.as_slice() == prevote_of(1, 2).as_slice())
     );
+    Ok(())
+}
+
+/// A whole vote of height 0 for the value whose digest is this byte, again and again.
+fn vote_for(kind: u8, round: u8, sender: u8, value: u8) -> [u8; 52] {
+    let mut frame = [value; 52];
+    frame[..20].copy_from_slice(&[
+        0, 0, 0, 48, kind, 0, 0, 0, 0, 0, 0, 0, 0, 0, 0, 0, round, 0, sender, 1,
+    ]);
+    frame
+}
+
+/// A precommit says which prevotes it rests on: those of its round for its value. One of a lower round changes nothing.
+#[test]
+fn a_precommit_rests_on_the_prevotes_for_its_value(rt: HostRuntime) -> Result<(), Fail> {
+    let of_three = Grounds::after(None, &vote_for(PRECOMMIT, 3, 1, 5));
+    let wanted = Grounds {
+        round: 3,
+        value: Some([5; 32]),
+    };
+    assert_eq!(rt; of_three, Some(wanted));
+    assert_eq!(rt;
+        Grounds::after(of_three, &vote_for(PRECOMMIT, 2, 1, 6)),
+        Some(wanted)
+    );
+    assert_eq!(rt;
+        Grounds::after(of_three, &vote_for(PREVOTE, 4, 1, 6)),
+        Some(wanted)
+    );
+    assert!(rt; wanted.includes(&vote_for(PREVOTE, 3, 2, 5)));
+    assert!(rt; !wanted.includes(&vote_for(PREVOTE, 3, 2, 6)));
+    assert!(rt; !wanted.includes(&vote_for(PREVOTE, 4, 2, 5)));
+    assert!(rt; !wanted.includes(&vote_for(PRECOMMIT, 3, 2, 5)));
+    Ok(())
+}
+
+/// A Byzantine validator sends hundreds of votes before the one by which this validator locks a value: that one is passed on all the same,
+/// and before all others.
+#[test]
+fn a_flood_hides_no_prevote_that_a_lock_rests_on(rt: HostRuntime) -> Result<(), Fail> {
+    let alloc = rt.alloc();
+    let mut edge = edge_of(alloc, Manner::PLAIN)?;
+    try_a_flood_hides_no_prevote_that_a_lock_rests_on(&rt, alloc, &mut edge)
+}
+
+fn try_a_flood_hides_no_prevote_that_a_lock_rests_on(
+    rt: &impl Abort,
+    alloc: Global,
+    edge: &mut PeerCore,
+) -> Result<(), Fail> {
+    dial_all(edge)?;
+    let _ = duties(edge, 0);
+    for value in 10..=250u8 {
+        came(edge, 2, &vote_for(PREVOTE, 0, 2, value), Ok(()), 0, 0);
+    }
+    let prevote = vote_for(PREVOTE, 0, 2, 5);
+    came(edge, 2, &prevote, Ok(()), 0, 0);
+    let precommit = vote_for(PRECOMMIT, 0, 1, 5);
+    assert_eq!(rt; released(alloc, edge, &precommit, 0)?, 123);
+    let first = first_sent(edge, 1_000);
+    assert!(rt; first.is_some_and(|sending| sending.frame.as_slice() == prevote.as_slice()));
     Ok(())
 }

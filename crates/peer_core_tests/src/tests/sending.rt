@@ -125,7 +125,7 @@ fn an_idle_proposal_waits(rt: HostRuntime) -> Result<(), Fail> {
     Ok(())
 }
 
-/// The node is asked once a second for a bundle: who asks meanwhile waits for it, and who asks later is sent the frame that was made.
+/// The node is asked once for a bundle: who asks meanwhile waits for it, and who asks later is sent the frame that was made.
 #[test]
 fn who_asks_for_one_bundle_shares_it(rt: HostRuntime) -> Result<(), Fail> {
     let alloc = rt.alloc();
@@ -149,6 +149,26 @@ fn try_who_asks_for_one_bundle_shares_it(
     assert!(rt; !edge.expect(LinkId(1), &of_height(ASK, 0, 0), 500));
     assert_eq!(rt; duties(edge, 500).sent, 0);
     assert!(rt; edge.expect(LinkId(1), &of_height(ASK, 1, 0), 500));
+    Ok(())
+}
+
+/// A node that takes long to make a bundle isn't asked for it again before a minute has passed. Once it is made it may be.
+#[test]
+fn a_bundle_is_made_once_however_long_it_takes(rt: HostRuntime) -> Result<(), Fail> {
+    let alloc = rt.alloc();
+    let mut edge = edge_of(alloc, GUARDED)?;
+    try_a_bundle_is_made_once_however_long_it_takes(&rt, &mut edge)
+}
+
+fn try_a_bundle_is_made_once_however_long_it_takes(
+    rt: &impl Abort,
+    edge: &mut PeerCore,
+) -> Result<(), Fail> {
+    dial_all(edge)?;
+    edge.told(1, 0);
+    assert!(rt; edge.expect(LinkId(1), &of_height(ASK, 0, 0), 0));
+    assert!(rt; !edge.expect(LinkId(2), &of_height(ASK, 0, 2), 59_000));
+    assert!(rt; edge.expect(LinkId(3), &of_height(ASK, 0, 3), 60_000));
     Ok(())
 }
 
