@@ -12,8 +12,9 @@ use std::net::{Shutdown, TcpStream};
 use std::sync::Wait;
 use std::time::{Clock, Duration};
 
-/// How long a read waits where nothing comes, in milliseconds.
-const READ_MS: u64 = 200;
+/// How long a read waits where nothing comes, in milliseconds. A link that is closed here ends it at once, since the half that writes is let
+/// go then, so it only costs what a thread takes that wakes for nothing: of 128 validators on one machine 32,000 threads read.
+const READ_MS: u64 = 10_000;
 
 /// How long a write waits where nothing is taken, in milliseconds.
 const WRITE_MS: u64 = 200;
