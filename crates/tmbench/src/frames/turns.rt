@@ -44,8 +44,17 @@ impl Turns {
     /// How long it takes a new node to take the frames of a turn in.
     fn timed_turn(&self, rt: &impl Clock) -> Result<Duration, BenchFault> {
         let mut node = new_core(self.alloc, CLIENTS)?;
+        self.time_on(rt, &mut node)
+    }
+
+    /// How long it takes this node to take the frames of a turn in.
+    fn time_on(
+        &self,
+        rt: &impl Clock,
+        node: &mut NodeCore<MemoryStore>,
+    ) -> Result<Duration, BenchFault> {
         let start = Instant::now(rt)?;
-        self.turn(&mut node)?;
+        self.turn(node)?;
         Ok(start.elapsed(rt)?)
     }
 

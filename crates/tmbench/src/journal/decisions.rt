@@ -23,9 +23,13 @@ pub(crate) fn filled<R: Files<File = File> + AllocGlobal>(
     path: &str,
     count: u32,
 ) -> Result<String, BenchFault> {
-    let alloc = rt.alloc();
     let mut store = FileStore::open(rt, path)?;
-    let written = fill(alloc, &mut store, count)?;
+    told(rt.alloc(), &mut store, count)
+}
+
+/// Writes the journal, and tells its bytes.
+fn told(alloc: Global, store: &mut FileStore, count: u32) -> Result<String, BenchFault> {
+    let written = fill(alloc, store, count)?;
     Ok(format!(in alloc; "{count} decisions, {written} bytes\n")?)
 }
 
@@ -34,12 +38,23 @@ fn fill(alloc: Global, store: &mut FileStore, count: u32) -> Result<usize, Bench
     store.append(FRONT)?;
     let mut written = FRONT.len();
     for height in 0..count {
-        let bytes = spell_record(alloc, ME, &decision(alloc, u64::from(height))?)?;
-        store.append(&bytes)?;
-        written = written.saturating_add(bytes.len());
+        written = written.saturating_add(add(alloc, store, u64::from(height))?);
     }
     store.sync()?;
     Ok(written)
+}
+
+/// Appends the decision of a height: how many bytes it takes.
+fn add(alloc: Global, store: &mut FileStore, height: u64) -> Result<usize, BenchFault> {
+    let bytes = spelled(alloc, height)?;
+    store.append(&bytes)?;
+    Ok(bytes.len())
+}
+
+/// The decision of a height, as it is appended.
+fn spelled(alloc: Global, height: u64) -> Result<Vec<u8>, BenchFault> {
+    let decided = decision(alloc, height)?;
+    Ok(spell_record(alloc, ME, &decided)?)
 }
 
 /// The decision of a height: the next 256 transactions of client 7.

@@ -7,7 +7,7 @@ use std::alloc::Global;
 use std::fs;
 use std::fs::File;
 use std::rt::{Clock, Files};
-use std::time::{Duration, Instant};
+use std::time::Instant;
 use vote_journal::{Journal, Opened};
 
 /// Where the system tells what memory this process has.
@@ -23,20 +23,18 @@ pub(crate) fn opened<R: Clock + Files<File = File> + AllocGlobal>(
     let store = FileStore::open(rt, path)?;
     let start = Instant::now(rt)?;
     match Journal::open(alloc, store, ME, &powers) {
-        Ok(opened) => told(rt, &opened, elapsed(rt, start)?),
+        Ok(opened) => told(rt, &opened, start),
         Err(refused) => Err(refused.fault.into()),
     }
 }
 
-fn elapsed(rt: &impl Clock, start: Instant) -> Result<Duration, BenchFault> {
-    Ok(start.elapsed(rt)?)
-}
-
-fn told<R: Files + AllocGlobal>(
+/// What is kept of a journal whose opening started then.
+fn told<R: Clock + Files + AllocGlobal>(
     rt: &R,
     opened: &Opened<FileStore>,
-    took: Duration,
+    start: Instant,
 ) -> Result<String, BenchFault> {
+    let took = start.elapsed(rt)?;
     let alloc: Global = rt.alloc();
     let decisions = opened.decisions.len();
     let messages = opened.own.len();

@@ -1,6 +1,6 @@
 //! Saves, one after the other.
 
-ghost use Rattle.std.specs.Prelude.{◌≡◌, false};
+ghost use Rattle.std.specs.Prelude.{◌≡◌, false, IfOk};
 
 use crate::fault::BenchFault;
 use crate::node::{ME, four};
@@ -28,20 +28,42 @@ pub(crate) fn saved<R: Clock + Files<File = File> + AllocGlobal>(
     count: u32,
 ) -> Result<String, BenchFault> {
     let alloc = rt.alloc();
-    let opening = Journal::open(alloc, FileStore::open(rt, path)?, ME, &four(alloc)?);
-    let mut journal = match opening {
+    let mut journal = opened(rt, path)?;
+    let saving = time_of_saves(rt, alloc, &mut journal, count)?;
+    told(rt, alloc, &mut journal.close(), count, saving)
+}
+
+/// The journal on the file.
+fn opened<R: Files<File = File> + AllocGlobal>(
+    rt: &R,
+    path: &str,
+) -> Result<Journal<FileStore>, BenchFault>
+    ensures { IfOk result (λ journal. journal.me ≡ 3) }
+{
+    let alloc = rt.alloc();
+    let powers = four(alloc)?;
+    let store = FileStore::open(rt, path)?;
+    match Journal::open(alloc, store, ME, &powers) {
         Ok(
             Opened {
                 journal,
                 decisions: _,
                 own: _,
             },
-        ) => journal,
-        Err(refused) => return Err(refused.fault.into()),
-    };
-    let saving = time_of_saves(rt, alloc, &mut journal, count)?;
-    let mut store = journal.close();
-    let syncing = time_of_syncs(rt, alloc, &mut store, count)?;
+        ) => Ok(journal),
+        Err(refused) => Err(refused.fault.into()),
+    }
+}
+
+/// What a save took of so many that took this long, and what a sync takes.
+fn told(
+    rt: &impl Clock,
+    alloc: Global,
+    store: &mut FileStore,
+    count: u32,
+    saving: Duration,
+) -> Result<String, BenchFault> {
+    let syncing = time_of_syncs(rt, alloc, store, count)?;
     let each = microseconds_each(saving, count);
     let synced = microseconds_each(syncing, count);
     Ok(format!(in alloc; "{count} saves, {each} us each, of which the sync {synced} us\n")?)

@@ -42,6 +42,15 @@ impl<'a> Load<'a> {
     /// How long it takes a core alone to take all frames in.
     pub(crate) fn alone(&self, rt: &impl Clock) -> Result<Duration, BenchFault> {
         let mut core = new_core(self.alloc, CLIENTS)?;
+        self.on_core(rt, &mut core)
+    }
+
+    /// How long it takes this core to take all frames in.
+    fn on_core(
+        &self,
+        rt: &impl Clock,
+        core: &mut NodeCore<MemoryStore>,
+    ) -> Result<Duration, BenchFault> {
         let start = Instant::now(rt)?;
         for frame in self.frames {
             core.handle(frame)?;
