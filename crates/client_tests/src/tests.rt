@@ -4,10 +4,17 @@ use authenticators::{KeyRing, Party};
 use list_client::{ClientFault, Connection, Sender, frame_of, item_of};
 use messages::Reply;
 use std::alloc::Global;
+use std::fmt::Debug;
 use std::io;
 use std::io::{Read, Write};
+use std::process::Abort;
 use std::test::Fail;
 use transactions::{Fault, Op, Seq};
+
+/// Ends the test where what was found is not what is wanted, and shows both.
+fn assert_same<R: Abort, T: PartialEq + Debug>(rt: &R, found: &T, wanted: &T) {
+    assert_eq!(rt; found, wanted);
+}
 
 /// The keys of client 7 with two validators: of ones, and of twos.
 const KEYS: &str =
@@ -71,9 +78,10 @@ fn is_frame(frame: &[u8], front: &[u8], tags: &[[u8; 4]; 2]) -> bool {
 #[test]
 fn close_has_a_tag_for_each(rt: HostRuntime) {
     let frame = frame(rt.alloc(), 0, 2, Op::Close);
-    assert_eq!(rt;
-        frame.map(|frame| is_frame(&frame, &CLOSE, &TAGS)),
-        Ok(true)
+    assert_same(
+        &rt,
+        &frame.map(|frame| is_frame(&frame, &CLOSE, &TAGS)),
+        &Ok(true),
     );
 }
 
@@ -81,9 +89,10 @@ fn close_has_a_tag_for_each(rt: HostRuntime) {
 fn later_session_stands_in_the_frame(rt: HostRuntime) -> Result<(), Fail> {
     let op = Op::Bytes(Seq::from_vec(b"b".to_vec(rt.alloc())?));
     let frame = frame(rt.alloc(), 1, 1, op);
-    assert_eq!(rt;
-        frame.map(|frame| is_frame(&frame, &LATER, &TAGS_OF_LATER)),
-        Ok(true)
+    assert_same(
+        &rt,
+        &frame.map(|frame| is_frame(&frame, &LATER, &TAGS_OF_LATER)),
+        &Ok(true),
     );
     Ok(())
 }
@@ -93,7 +102,7 @@ fn number_behind_the_last_is_refused(rt: HostRuntime) {
     let last = frame(rt.alloc(), 0, 1 << 48, Op::Close);
     let behind = frame(rt.alloc(), 0, (1 << 48) + 1, Op::Close);
     assert!(rt; last.is_ok());
-    assert_eq!(rt; behind.err(), Some(Fault::BadSpelling));
+    assert_same(&rt, &behind.err(), &Some(Fault::BadSpelling));
 }
 
 /// What is answered to five bytes over a stream that gives these, and how many were sent.
@@ -109,8 +118,8 @@ fn reply_is_found_among_frames(rt: HostRuntime) {
         rt.alloc(),
         &[0, 0, 0, 1, 0x13, 0, 0, 0, 3, 0x20, 13, 3, 0, 0],
     );
-    assert_eq!(rt; answer.ok(), Some(Reply { code: 13, inner: 3 }));
-    assert_eq!(rt; sent, 5);
+    assert_same(&rt, &answer.ok(), &Some(Reply { code: 13, inner: 3 }));
+    assert_same(&rt, &sent, &5);
 }
 
 #[test]

@@ -5,7 +5,14 @@ use cluster_parts::{Chance, Drift};
 use cluster_world::World;
 use peer_core::Keeping;
 use std::alloc::Global;
+use std::fmt::Debug;
+use std::process::Abort;
 use std::test::Fail;
+
+/// Ends the test where what was found is not what is wanted, and shows both.
+fn assert_same<R: Abort, T: PartialEq + Debug>(rt: &R, found: &T, wanted: &T) {
+    assert_eq!(rt; found, wanted);
+}
 
 /// How many events a run has at most.
 const MOST_EVENTS: u64 = 8_000;
@@ -61,7 +68,7 @@ fn same_seed_same_figures(rt: HostRuntime) -> Result<(), Fail> {
     let first = outcome_of(alloc, asked(3, Troubles::ALL))?;
     let second = outcome_of(alloc, asked(3, Troubles::ALL))?;
     let other = outcome_of(alloc, asked(4, Troubles::ALL))?;
-    assert_eq!(rt; first, second);
+    assert_same(&rt, &first, &second);
     assert!(rt; first != other);
     Ok(())
 }
@@ -69,11 +76,11 @@ fn same_seed_same_figures(rt: HostRuntime) -> Result<(), Fail> {
 #[test]
 fn all_is_delivered_without_faults(rt: HostRuntime) -> Result<(), Fail> {
     let found = outcome_of(rt.alloc(), asked(5, Troubles::NONE))?;
-    assert_eq!(rt; found.failed, None);
+    assert_same(&rt, &found.failed, &None);
     assert!(rt; found.costs.delivered > 0);
     assert!(rt; found.costs.accepted >= found.costs.delivered);
-    assert_eq!(rt; found.costs.round, 0);
-    assert_eq!(rt; found.costs.sent(Kind::Other).frames, 0);
+    assert_same(&rt, &found.costs.round, &0);
+    assert_same(&rt, &found.costs.sent(Kind::Other).frames, &0);
     Ok(())
 }
 
@@ -92,9 +99,9 @@ fn lost_bytes_are_found(rt: HostRuntime) -> Result<(), Fail> {
 
 #[test]
 fn words_of_troubles(rt: HostRuntime) {
-    assert_eq!(rt; Troubles::of_words("all"), Some(Troubles::ALL));
-    assert_eq!(rt; Troubles::of_words("none"), Some(Troubles::NONE));
-    assert_eq!(rt; Troubles::of_words("cuts,flood"), None);
+    assert_same(&rt, &Troubles::of_words("all"), &Some(Troubles::ALL));
+    assert_same(&rt, &Troubles::of_words("none"), &Some(Troubles::NONE));
+    assert_same(&rt, &Troubles::of_words("cuts,flood"), &None);
     let some = Troubles::of_words("cuts,drift");
     assert!(rt; some.is_some_and(|some| some.has(Trouble::Cuts) && !some.has(Trouble::Stops)));
 }
@@ -105,7 +112,7 @@ fn clocks_drift(rt: HostRuntime) {
         offset: 7,
         rate: 900,
     };
-    assert_eq!(rt; slow.shown(10_000), 9_007);
+    assert_same(&rt, &slow.shown(10_000), &9_007);
     assert!(rt; slow.shown(slow.shows_from(9_007)) >= 9_007);
 }
 
@@ -116,5 +123,5 @@ fn chance_keeps_its_bounds(rt: HostRuntime) {
         let number = chance.between(3, 5);
         assert!(rt; (3..=5).contains(&number));
     }
-    assert_eq!(rt; chance.place(0), None);
+    assert_same(&rt, &chance.place(0), &None);
 }

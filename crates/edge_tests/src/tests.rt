@@ -8,14 +8,20 @@ use edge_frames::{
     MOST_SENDER_FRAMES, PassFault,
 };
 use std::alloc::{AllocError, Global};
+use std::fmt::Debug;
 use std::process::Abort;
-use std::test::Fail;
+
+/// Ends the test where what was found is not what is wanted, and shows both.
+fn assert_same<R: Abort, T: PartialEq + Debug>(rt: &R, found: &T, wanted: &T) {
+    assert_eq!(rt; found, wanted);
+}
 
 /// A frame of one byte.
 fn frame_of(alloc: Global, number: u8) -> Result<Bytes, AllocError> {
     Bytes::copy_from_slice(alloc, &[number])
 }
 
+/// The number in a frame.
 fn number_of(frame: &Bytes) -> u8 {
     match frame.as_slice() {
         [number] => *number,
@@ -43,28 +49,43 @@ fn take(early: &mut EarlyFrames, height: u64) -> Option<(u32, u8)> {
     Some((link.0, number_of(&frame)))
 }
 
-fn assert_given<R: Abort>(rt: &R, alloc: Global, early: &mut EarlyFrames) {
-    assert_eq!(rt; keep(alloc, early, 7, 5, 1), None);
-    assert_eq!(rt; keep(alloc, early, 8, 4, 2), None);
-    assert_eq!(rt; keep(alloc, early, 7, 4, 3), None);
-    assert_eq!(rt; keep(alloc, early, 7, 3, 4), None);
-    assert_eq!(rt; keep(alloc, early, 7, 4, 5), None);
-    assert_eq!(rt; keep(alloc, early, 9, 4, 6), None);
+/// Frames of these links, heights and numbers are kept.
+fn assert_kept(rt: &impl Abort, alloc: Global, early: &mut EarlyFrames, frames: &[(u32, u64, u8)]) {
+    for (link, height, number) in frames {
+        assert_same(rt, &keep(alloc, early, *link, *height, *number), &None);
+    }
+}
+
+/// The next frames of this height are of these links and numbers.
+fn assert_taken(rt: &impl Abort, early: &mut EarlyFrames, height: u64, frames: &[(u32, u8)]) {
+    for frame in frames {
+        assert_same(rt, &take(early, height), &Some(*frame));
+    }
+}
+
+/// Frames are given by height, in the order of their links.
+fn assert_given(rt: &impl Abort, alloc: Global, early: &mut EarlyFrames) {
+    let frames = [
+        (7, 5, 1),
+        (8, 4, 2),
+        (7, 4, 3),
+        (7, 3, 4),
+        (7, 4, 5),
+        (9, 4, 6),
+    ];
+    assert_kept(rt, alloc, early, &frames);
     early.forget(LinkId(9));
     early.forget_below(4);
-    assert_eq!(rt; take(early, 3), None);
-    assert_eq!(rt; take(early, 4), Some((7, 3)));
-    assert_eq!(rt; take(early, 4), Some((7, 5)));
-    assert_eq!(rt; take(early, 4), Some((8, 2)));
-    assert_eq!(rt; take(early, 4), None);
-    assert_eq!(rt; take(early, 5), Some((7, 1)));
+    assert_same(rt, &take(early, 3), &None);
+    assert_taken(rt, early, 4, &[(7, 3), (7, 5), (8, 2)]);
+    assert_same(rt, &take(early, 4), &None);
+    assert_taken(rt, early, 5, &[(7, 1)]);
 }
 
 #[test]
-fn early_frames_are_given_once_their_height_has_come(rt: HostRuntime) -> Result<(), Fail> {
+fn early_frames_are_given_once_their_height_has_come(rt: HostRuntime) {
     let mut early = EarlyFrames::new(rt.alloc());
     assert_given(&rt, rt.alloc(), &mut early);
-    Ok(())
 }
 
 /// Whether a link takes so many frames of this height.
@@ -77,23 +98,34 @@ fn fills(alloc: Global, early: &mut EarlyFrames, link: u32, height: u64, count: 
     true
 }
 
-fn assert_full<R: Abort>(rt: &R, alloc: Global, early: &mut EarlyFrames) {
-    assert_eq!(rt; keep(alloc, early, 2, 9, 1), None);
+/// A frame is refused by a link that is full.
+fn assert_link_full(
+    rt: &impl Abort,
+    alloc: Global,
+    early: &mut EarlyFrames,
+    (link, height, number): (u32, u64, u8),
+) {
+    let told = keep(alloc, early, link, height, number);
+    assert_same(rt, &told, &Some(KeepFault::LinkFull));
+}
+
+/// A full link takes a frame of a lower height alone, and drops none of another link.
+fn assert_full(rt: &impl Abort, alloc: Global, early: &mut EarlyFrames) {
+    assert_kept(rt, alloc, early, &[(2, 9, 1)]);
     assert!(rt; fills(alloc, early, 1, 9, MOST_LINK_FRAMES));
-    assert_eq!(rt; keep(alloc, early, 1, 9, 2), Some(KeepFault::LinkFull));
-    assert_eq!(rt; keep(alloc, early, 1, 8, 3), None);
-    assert_eq!(rt; take(early, 8), Some((1, 3)));
-    assert_eq!(rt; keep(alloc, early, 1, 10, 4), None);
-    assert_eq!(rt; keep(alloc, early, 1, 10, 5), Some(KeepFault::LinkFull));
+    assert_link_full(rt, alloc, early, (1, 9, 2));
+    assert_kept(rt, alloc, early, &[(1, 8, 3)]);
+    assert_taken(rt, early, 8, &[(1, 3)]);
+    assert_kept(rt, alloc, early, &[(1, 10, 4)]);
+    assert_link_full(rt, alloc, early, (1, 10, 5));
     early.forget(LinkId(1));
-    assert_eq!(rt; take(early, 9), Some((2, 1)));
+    assert_taken(rt, early, 9, &[(2, 1)]);
 }
 
 #[test]
-fn a_full_link_drops_none_of_another(rt: HostRuntime) -> Result<(), Fail> {
+fn a_full_link_drops_none_of_another(rt: HostRuntime) {
     let mut early = EarlyFrames::new(rt.alloc());
     assert_full(&rt, rt.alloc(), &mut early);
-    Ok(())
 }
 
 /// Whether so many links take a frame each.
@@ -109,12 +141,11 @@ fn opens(alloc: Global, early: &mut EarlyFrames, count: usize) -> bool {
 }
 
 #[test]
-fn one_link_more_than_may_be(rt: HostRuntime) -> Result<(), Fail> {
+fn one_link_more_than_may_be(rt: HostRuntime) {
     let mut early = EarlyFrames::new(rt.alloc());
     assert!(rt; opens(rt.alloc(), &mut early, MOST_LINKS));
     let told = keep(rt.alloc(), &mut early, 1000, 2, 1);
-    assert_eq!(rt; told, Some(KeepFault::TooManyLinks));
-    Ok(())
+    assert_same(&rt, &told, &Some(KeepFault::TooManyLinks));
 }
 
 /// Keeps a frame to be passed on: none, or why not.
@@ -141,44 +172,54 @@ fn fills_sender(alloc: Global, kept: &mut HeightFrames, sender: u16, count: usiz
     true
 }
 
-fn assert_passed<R: Abort>(rt: &R, alloc: Global, kept: &mut HeightFrames) {
-    assert_eq!(rt; pass(alloc, kept, 3, 1), None);
-    assert_eq!(rt; pass(alloc, kept, 127, 2), None);
-    assert_eq!(rt; pass(alloc, kept, 3, 3), None);
-    assert_eq!(rt; kept_at(kept, 0), Some((3, 1)));
-    assert_eq!(rt; kept_at(kept, 1), Some((127, 2)));
-    assert_eq!(rt; kept_at(kept, 2), Some((3, 3)));
-    assert_eq!(rt; kept_at(kept, 3), None);
+/// Frames of these senders and numbers are kept.
+fn assert_passes(rt: &impl Abort, alloc: Global, kept: &mut HeightFrames, frames: &[(u16, u8)]) {
+    for (sender, number) in frames {
+        assert_same(rt, &pass(alloc, kept, *sender, *number), &None);
+    }
+}
+
+/// The frames that are kept, from the first one on, and none behind them.
+fn assert_all(rt: &impl Abort, kept: &HeightFrames, frames: &[(u16, u8)]) {
+    for place in 0..=frames.len() {
+        assert_same(rt, &kept_at(kept, place), &frames.get(place).copied());
+    }
+}
+
+/// Frames are kept in order until their sender has no room or the height is over.
+fn assert_passed(rt: &impl Abort, alloc: Global, kept: &mut HeightFrames) {
+    let frames = [(3, 1), (127, 2), (3, 3)];
+    assert_passes(rt, alloc, kept, &frames);
+    assert_all(rt, kept, &frames);
     assert!(rt; fills_sender(alloc, kept, 3, MOST_SENDER_FRAMES - 2));
-    assert_eq!(rt; pass(alloc, kept, 3, 4), Some(PassFault::SenderFull));
-    assert_eq!(rt; pass(alloc, kept, 128, 4), Some(PassFault::UnknownSender));
-    assert_eq!(rt; pass(alloc, kept, 4, 4), None);
+    for (sender, fault) in [(3, PassFault::SenderFull), (128, PassFault::UnknownSender)] {
+        assert_same(rt, &pass(alloc, kept, sender, 4), &Some(fault));
+    }
+    assert_passes(rt, alloc, kept, &[(4, 4)]);
     kept.clear();
-    assert_eq!(rt; kept_at(kept, 0), None);
-    assert_eq!(rt; pass(alloc, kept, 3, 5), None);
+    assert_all(rt, kept, &[]);
+    assert_passes(rt, alloc, kept, &[(3, 5)]);
 }
 
 #[test]
-fn frames_of_a_height_are_passed_on(rt: HostRuntime) -> Result<(), Fail> {
+fn frames_of_a_height_are_passed_on(rt: HostRuntime) {
     let mut kept = HeightFrames::new(rt.alloc());
     assert_passed(&rt, rt.alloc(), &mut kept);
-    Ok(())
 }
 
 #[test]
-fn a_node_that_is_behind_asks(rt: HostRuntime) -> Result<(), Fail> {
+fn a_node_that_is_behind_asks(rt: HostRuntime) {
     let mut behind = CatchUp::new(100);
     behind.saw(5, 1_000);
-    assert_eq!(rt; behind.should_ask(5, 9_000), false);
-    assert_eq!(rt; behind.should_ask(4, 1_099), false);
-    assert_eq!(rt; behind.should_ask(4, 1_100), true);
-    assert_eq!(rt; behind.should_ask(3, 1_000), true);
+    assert_same(&rt, &behind.should_ask(5, 9_000), &false);
+    assert_same(&rt, &behind.should_ask(4, 1_099), &false);
+    assert_same(&rt, &behind.should_ask(4, 1_100), &true);
+    assert_same(&rt, &behind.should_ask(3, 1_000), &true);
     behind.asked();
-    assert_eq!(rt; behind.should_ask(3, 1_050), false);
+    assert_same(&rt, &behind.should_ask(3, 1_050), &false);
     behind.advanced(4);
-    assert_eq!(rt; behind.should_ask(4, 1_050), true);
+    assert_same(&rt, &behind.should_ask(4, 1_050), &true);
     behind.advanced(5);
     behind.saw(6, 2_000);
-    assert_eq!(rt; behind.should_ask(5, 2_050), false);
-    Ok(())
+    assert_same(&rt, &behind.should_ask(5, 2_050), &false);
 }

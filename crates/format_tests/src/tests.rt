@@ -6,9 +6,15 @@ mod pieces;
 mod replies;
 
 use messages::*;
-use std::alloc::{AllocError, Global};
+use std::alloc::Global;
+use std::fmt::Debug;
 use std::process::Abort;
 use transactions::{Duplicate, Fault, Op, Seq, Shared, Tx, Value};
+
+/// Ends the test where what was found is not what is wanted, and shows both.
+fn assert_same<R: Abort, T: PartialEq + Debug>(rt: &R, found: &T, wanted: &T) {
+    assert_eq!(rt; found, wanted);
+}
 
 /// The body of client 7's transaction 1, which asks for the byte `a`.
 const ONE_BYTE: [u8; 15] = [1, 0, 7, 0, 0, 0, 0, 0, 0, 0, 1, 0, 0, 1, b'a'];
@@ -47,152 +53,145 @@ const VECTORS: [&[u8]; 6] = [&ONE_BYTE, &CLOSE, &LATER, &PROPOSAL, &PREVOTE, &AS
 
 /// What was looked at is so.
 fn assert_holds(rt: &impl Abort, outcome: Result<bool, Fault>) {
-    assert_eq!(rt; outcome, Ok(true));
+    assert_same(rt, &outcome, &Ok(true));
 }
 
 /// This fault was found.
 fn assert_fault(rt: &impl Abort, found: Option<Fault>, wanted: Fault) {
-    assert_eq!(rt; found, Some(wanted));
+    assert_same(rt, &found, &Some(wanted));
 }
 
 /// Tags of nines.
-fn nines(alloc: Global, count: usize) -> Result<Seq<[u8; 32]>, AllocError> {
+fn nines(rt: &impl Abort, alloc: Global, count: usize) -> Seq<[u8; 32]> {
     let mut tags = Seq::new(alloc);
     for _ in 0..count {
-        tags.push([9u8; 32])?;
+        tags.push([9u8; 32]).expect(rt, "the tag has room");
     }
-    Ok(tags)
+    tags
 }
 
 /// So many times the byte `a`.
-fn letters(alloc: Global, count: usize) -> Result<Seq<u8>, AllocError> {
+fn letters(rt: &impl Abort, alloc: Global, count: usize) -> Seq<u8> {
     let mut contents = Seq::new(alloc);
     for _ in 0..count {
-        contents.push(b'a')?;
+        contents.push(b'a').expect(rt, "the letter has room");
     }
-    Ok(contents)
+    contents
 }
 
 /// A transaction of the last session, with so many bytes and tags.
-fn tx_of(alloc: Global, bytes: usize, tags: usize) -> Result<Tx, AllocError> {
-    let contents = letters(alloc, bytes)?;
-    Ok(Tx {
+fn tx_of(rt: &impl Abort, alloc: Global, bytes: usize, tags: usize) -> Tx {
+    Tx {
         client: 1023,
         session: 0xffff_ffff,
         number: 1,
-        op: Op::Bytes(contents),
-        tags: nines(alloc, tags)?,
-    })
+        op: Op::Bytes(letters(rt, alloc, bytes)),
+        tags: nines(rt, alloc, tags),
+    }
 }
 
-fn copies_of(alloc: Global, tx: &Tx, count: usize) -> Result<Vec<Tx>, AllocError> {
-    let mut txs = Vec::new(alloc);
-    for _ in 0..count {
-        txs.push(tx.copy(alloc)?)?;
-    }
-    Ok(txs)
+/// Puts a copy of a transaction behind others.
+fn put_copy(rt: &impl Abort, alloc: Global, txs: &mut Vec<Tx>, tx: &Tx) {
+    let again = tx.copy(alloc).expect(rt, "the copy has room");
+    txs.push(again).expect(rt, "the transaction has room");
 }
 
 /// So many transactions, each of 1,024 bytes and 128 tags.
-fn full_txs(alloc: Global, count: usize) -> Result<Vec<Tx>, AllocError> {
-    let tx = tx_of(alloc, 1024, 128)?;
-    copies_of(alloc, &tx, count)
+fn full_txs(rt: &impl Abort, alloc: Global, count: usize) -> Vec<Tx> {
+    let tx = tx_of(rt, alloc, 1024, 128);
+    let mut txs = Vec::new(alloc);
+    for _ in 0..count {
+        put_copy(rt, alloc, &mut txs, &tx);
+    }
+    txs
+}
+
+/// A value of these transactions.
+fn value_with(rt: &impl Abort, alloc: Global, txs: Vec<Tx>) -> Value {
+    Value {
+        txs: Shared::from_vec(alloc, txs).expect(rt, "the transactions have room"),
+    }
 }
 
 /// A value of so many transactions, each of 1,024 bytes and 128 tags.
-fn value_of(alloc: Global, count: usize) -> Result<Value, AllocError> {
-    let txs = full_txs(alloc, count)?;
-    Ok(Value {
-        txs: Shared::from_vec(alloc, txs)?,
-    })
+fn value_of(rt: &impl Abort, alloc: Global, count: usize) -> Value {
+    value_with(rt, alloc, full_txs(rt, alloc, count))
 }
 
 /// A precommit of validator 3 with so many tags.
-fn precommit_of(alloc: Global, tags: usize) -> Result<Precommit, AllocError> {
-    Ok(Precommit {
+fn precommit_of(rt: &impl Abort, alloc: Global, tags: usize) -> Precommit {
+    Precommit {
         sender: 3,
-        tags: nines(alloc, tags)?,
-    })
+        tags: nines(rt, alloc, tags),
+    }
 }
 
 /// So many precommits, each with so many tags.
-fn precommits_of(alloc: Global, count: usize, tags: usize) -> Result<Seq<Precommit>, AllocError> {
+fn precommits_of(rt: &impl Abort, alloc: Global, count: usize, tags: usize) -> Seq<Precommit> {
     let mut precommits = Seq::new(alloc);
     for _ in 0..count {
-        precommits.push(precommit_of(alloc, tags)?)?;
+        precommits
+            .push(precommit_of(rt, alloc, tags))
+            .expect(rt, "the precommit has room");
     }
-    Ok(precommits)
+    precommits
 }
 
-/// A bundle with so many transactions and precommits, each precommit with so many tags.
-fn bundle_of(
-    alloc: Global,
-    txs: usize,
-    precommits: usize,
-    tags: usize,
-) -> Result<Bundle, AllocError> {
-    let precommits = precommits_of(alloc, precommits, tags)?;
-    Ok(Bundle {
+/// A bundle with this value and these precommits.
+fn bundle_with(value: Value, precommits: Seq<Precommit>) -> Bundle {
+    Bundle {
         height: 1,
         sender: 2,
         round: 3,
         id: [7; 32],
-        value: value_of(alloc, txs)?,
+        value,
         precommits,
-    })
+    }
 }
 
 /// The spelling of a bundle with so many transactions and precommits, each precommit with so many tags.
 fn spelled_bundle(
+    rt: &impl Abort,
     alloc: Global,
     txs: usize,
     precommits: usize,
     tags: usize,
 ) -> Result<Vec<u8>, Fault> {
-    let body = Body::Bundle(bundle_of(alloc, txs, precommits, tags)?);
-    spell_body(alloc, &body)
+    let precommits = precommits_of(rt, alloc, precommits, tags);
+    let bundle = bundle_with(value_of(rt, alloc, txs), precommits);
+    spell_body(alloc, &Body::Bundle(bundle))
+}
+
+/// The body that these bytes spell.
+fn body_of(rt: &impl Abort, alloc: Global, bytes: &[u8]) -> Body {
+    read_body(alloc, bytes).expect(rt, "the bytes spell a body")
 }
 
 /// The message with the body that these bytes spell and this many tags.
-fn message_of(alloc: Global, body: &[u8], tags: usize) -> Result<Message, Fault> {
-    let tags = nines(alloc, tags)?;
-    Ok(Message {
-        body: read_body(alloc, body)?,
-        tags,
-    })
+fn message_of(rt: &impl Abort, alloc: Global, body: &[u8], tags: usize) -> Message {
+    Message {
+        body: body_of(rt, alloc, body),
+        tags: nines(rt, alloc, tags),
+    }
 }
 
-/// What is so of the body that these bytes spell.
-fn of_body<F: FnOnce(&Body) -> Result<bool, Fault>>(
-    alloc: Global,
-    bytes: &[u8],
-    look: F,
-) -> Result<bool, Fault>
-    requires { F.IsAlwaysCallable look }
-{
-    let body = read_body(alloc, bytes)?;
-    look(&body)
+/// The body has these bytes as its spelling.
+fn assert_spelling(rt: &impl Abort, alloc: Global, bytes: &[u8], body: &Body) {
+    let spelled = spell_body(alloc, body).expect(rt, "the body has a spelling");
+    assert!(rt; spelled.as_slice() == bytes);
 }
 
-/// Whether the body has these bytes as its spelling.
-fn is_spelling(alloc: Global, bytes: &[u8], body: &Body) -> Result<bool, Fault> {
-    Ok(spell_body(alloc, body)?.as_slice() == bytes)
+/// The body that these bytes spell has them as its spelling.
+fn assert_there_and_back(rt: &impl Abort, alloc: Global, bytes: &[u8]) {
+    let body = body_of(rt, alloc, bytes);
+    assert_spelling(rt, alloc, bytes, &body);
 }
 
-/// Whether a copy of the body has these bytes as its spelling.
-fn is_spelling_of_copy(alloc: Global, bytes: &[u8], body: &Body) -> Result<bool, Fault> {
-    let again = body.copy(alloc)?;
-    is_spelling(alloc, bytes, &again)
-}
-
-/// Whether the body that these bytes spell has them as its spelling.
-fn there_and_back(alloc: Global, bytes: &[u8]) -> Result<bool, Fault> {
-    of_body(alloc, bytes, |body| is_spelling(alloc, bytes, body))
-}
-
-/// Whether a copy of the body that these bytes spell has them as its spelling.
-fn copied_and_back(alloc: Global, bytes: &[u8]) -> Result<bool, Fault> {
-    of_body(alloc, bytes, |body| is_spelling_of_copy(alloc, bytes, body))
+/// A copy of the body that these bytes spell has them as its spelling.
+fn assert_copied_and_back(rt: &impl Abort, alloc: Global, bytes: &[u8]) {
+    let body = body_of(rt, alloc, bytes);
+    let again = body.copy(alloc).expect(rt, "the copy has room");
+    assert_spelling(rt, alloc, bytes, &again);
 }
 
 /// Whether the body is this vote.
@@ -200,11 +199,16 @@ fn is_vote(body: &Body, wanted: &Vote) -> bool {
     matches!(body, Body::Vote(vote) if same_vote(vote, wanted))
 }
 
+/// These bytes spell this vote.
+fn assert_vote(rt: &impl Abort, alloc: Global, bytes: &[u8], wanted: &Vote) {
+    assert!(rt; is_vote(&body_of(rt, alloc, bytes), wanted));
+}
+
 #[test]
 fn vectors_there_and_back(rt: HostRuntime) {
     for bytes in &VECTORS {
-        assert_holds(&rt, there_and_back(rt.alloc(), bytes));
-        assert_holds(&rt, copied_and_back(rt.alloc(), bytes));
+        assert_there_and_back(&rt, rt.alloc(), bytes);
+        assert_copied_and_back(&rt, rt.alloc(), bytes);
     }
 }
 
@@ -225,21 +229,16 @@ fn is_proposal(body: &Body, valid_round: Option<u32>) -> bool {
             && proposal.valid_round == valid_round && proposal.value.txs.len() == 0)
 }
 
+/// A proposal with this code for its valid round is read with this valid round.
+fn assert_proposal(rt: &impl Abort, alloc: Global, code: u8, valid_round: Option<u32>) {
+    let body = body_of(rt, alloc, &proposal_with(code));
+    assert!(rt; is_proposal(&body, valid_round));
+}
+
 #[test]
 fn proposals_are_read(rt: HostRuntime) {
-    let alloc = rt.alloc();
-    assert_holds(
-        &rt,
-        of_body(
-            alloc,
-            &proposal_with(1),
-            |body| Ok(is_proposal(body, Some(0))),
-        ),
-    );
-    assert_holds(
-        &rt,
-        of_body(alloc, &proposal_with(0), |body| Ok(is_proposal(body, None))),
-    );
+    assert_proposal(&rt, rt.alloc(), 1, Some(0));
+    assert_proposal(&rt, rt.alloc(), 0, None);
 }
 
 #[test]
@@ -251,10 +250,7 @@ fn prevote_is_read(rt: HostRuntime) {
         sender: 2,
         content: None,
     };
-    assert_holds(
-        &rt,
-        of_body(rt.alloc(), &PREVOTE, |body| Ok(is_vote(body, &nil))),
-    );
+    assert_vote(&rt, rt.alloc(), &PREVOTE, &nil);
 }
 
 #[test]
@@ -266,15 +262,8 @@ fn precommit_there_and_back(rt: HostRuntime) {
         sender: 2,
         content: Some([7; 32]),
     };
-    assert_holds(
-        &rt,
-        of_body(
-            rt.alloc(),
-            &PRECOMMIT,
-            |body| Ok(is_vote(body, &for_sevens)),
-        ),
-    );
-    assert_holds(&rt, there_and_back(rt.alloc(), &PRECOMMIT));
+    assert_vote(&rt, rt.alloc(), &PRECOMMIT, &for_sevens);
+    assert_there_and_back(&rt, rt.alloc(), &PRECOMMIT);
 }
 
 /// Whether the body is that of validator 2, which asks for height 5.
@@ -284,21 +273,14 @@ fn is_ask(body: &Body) -> bool {
 
 #[test]
 fn ask_is_read(rt: HostRuntime) {
-    assert_holds(&rt, of_body(rt.alloc(), &ASK, |body| Ok(is_ask(body))));
+    assert!(&rt; is_ask(&body_of(&rt, rt.alloc(), &ASK)));
 }
 
-/// The spelling of a bundle with the empty value and one precommit with one tag.
-fn bundle_of_one(alloc: Global) -> Result<Vec<u8>, AllocError> {
-    let mut bytes = BUNDLE_FRONT.to_vec(alloc)?;
-    bytes.extend_from_slice(&[1, 0, 3, 1])?;
-    bytes.extend_from_slice(&[9u8; 32])?;
-    Ok(bytes)
-}
-
-/// Whether these bytes are the spelling of a bundle with the empty value and one precommit with one tag.
-fn is_bundle_of_one(alloc: Global, bytes: &[u8]) -> Result<bool, Fault> {
-    Ok(bundle_of_one(alloc)?.as_slice() == bytes)
-}
+/// The precommits of a bundle with one precommit with one tag.
+const ONE_PRECOMMIT: [u8; 36] = [
+    1, 0, 3, 1, 9, 9, 9, 9, 9, 9, 9, 9, 9, 9, 9, 9, 9, 9, 9, 9, 9, 9, 9, 9, 9, 9, 9, 9, 9, 9, 9, 9,
+    9, 9, 9, 9,
+];
 
 /// Whether the body is a bundle of validator 2 for height 1, with so many transactions and precommits of round 3, for
 /// the id of sevens.
@@ -308,45 +290,33 @@ fn is_bundle(body: &Body, txs: usize, precommits: usize) -> bool {
             && bundle.value.txs.len() == txs && bundle.precommits.len() == precommits)
 }
 
-/// Whether these bytes spell such a bundle.
-fn spell_bundle(alloc: Global, bytes: &[u8], txs: usize, precommits: usize) -> Result<bool, Fault> {
-    of_body(alloc, bytes, |body| Ok(is_bundle(body, txs, precommits)))
+/// These bytes spell such a bundle.
+fn assert_bundle(rt: &impl Abort, alloc: Global, bytes: &[u8], txs: usize, precommits: usize) {
+    let body = body_of(rt, alloc, bytes);
+    assert!(rt; is_bundle(&body, txs, precommits));
 }
 
-/// Whether a bundle of one precommit is spelled, and read again.
-fn bundle_is_kept(alloc: Global) -> Result<bool, Fault> {
-    let bytes = spelled_bundle(alloc, 0, 1, 1)?;
-    Ok(is_bundle_of_one(alloc, &bytes)? && spell_bundle(alloc, &bytes, 0, 1)?)
+/// These bytes are the spelling of a bundle with the empty value and one precommit with one tag.
+fn assert_bundle_of_one(rt: &impl Abort, alloc: Global, bytes: &[u8]) {
+    assert!(rt; bytes.strip_prefix(&BUNDLE_FRONT) == Some(ONE_PRECOMMIT.as_slice()));
+    assert_bundle(rt, alloc, bytes, 0, 1);
 }
 
 #[test]
 fn bundle_there_and_back(rt: HostRuntime) {
-    assert_holds(&rt, bundle_is_kept(rt.alloc()));
+    let bytes = spelled_bundle(&rt, rt.alloc(), 0, 1, 1).expect(&rt, "it has a spelling");
+    assert_bundle_of_one(&rt, rt.alloc(), &bytes);
 }
 
-/// Whether the message has these tags, and a body with this spelling.
-fn has_parts(
-    alloc: Global,
-    message: &Message,
-    body: &[u8],
-    tags: &Seq<[u8; 32]>,
-) -> Result<bool, Fault> {
-    Ok(message.tags == *tags && is_spelling(alloc, body, &message.body)?)
-}
-
-/// Whether the copy of a message has its tags, and a body with this spelling.
-fn is_copied(alloc: Global, message: &Message, body: &[u8]) -> Result<bool, Fault> {
-    let again = message.copy(alloc)?;
-    has_parts(alloc, &again, body, &message.tags)
-}
-
-/// Whether an ask with four tags is copied.
-fn ask_is_copied(alloc: Global) -> Result<bool, Fault> {
-    let message = message_of(alloc, &ASK, 4)?;
-    is_copied(alloc, &message, &ASK)
+/// A copy of the message has its tags, and a body with this spelling.
+fn assert_copied(rt: &impl Abort, alloc: Global, message: &Message, body: &[u8]) {
+    let again = message.copy(alloc).expect(rt, "the copy has room");
+    assert!(rt; again.tags == message.tags);
+    assert_spelling(rt, alloc, body, &again.body);
 }
 
 #[test]
 fn message_is_copied(rt: HostRuntime) {
-    assert_holds(&rt, ask_is_copied(rt.alloc()));
+    let message = message_of(&rt, rt.alloc(), &ASK, 4);
+    assert_copied(&rt, rt.alloc(), &message, &ASK);
 }

@@ -10,9 +10,15 @@ use edge_frames::LinkId;
 use peer_core::{Duty, Keeping, Manner, PeerCore, Sending};
 use peer_links::Way;
 use protocol::Refusal;
-use std::alloc::{AllocError, Global};
-use std::test::Fail;
+use std::alloc::AllocGlobal;
+use std::fmt::Debug;
+use std::process::Abort;
 use timeouts::Plan;
+
+/// Ends the test where what was found is not what is wanted, and shows both.
+fn assert_same<R: Abort, T: PartialEq + Debug>(rt: &R, found: &T, wanted: &T) {
+    assert_eq!(rt; found, wanted);
+}
 
 const PROPOSAL: u8 = 0x10;
 
@@ -31,16 +37,33 @@ const GUARDED: Manner = Manner {
     redial: 1_000,
 };
 
-/// Validator 1 of four, whose timeouts last a second.
-fn edge_of(alloc: Global, manner: Manner) -> Result<PeerCore, Fail> {
-    let plan = Plan::new(alloc, 1_000, 0)?;
-    Ok(PeerCore::new(alloc, 1, 4, manner, plan, 0))
+/// Lets validator 1 of four go through a test's steps.
+fn on_edge<R: Abort + AllocGlobal, F: FnOnce(&R, &mut PeerCore)>(rt: &R, manner: Manner, steps: F)
+    requires { F.IsAlwaysCallable steps }
+{
+    on_edge_of(rt, 1, 4, manner, steps);
 }
 
-/// Validator 1 of twenty, where a bundle takes long to make.
-fn large_edge(alloc: Global) -> Result<PeerCore, Fail> {
-    let plan = Plan::new(alloc, 1_000, 0)?;
-    Ok(PeerCore::new(alloc, 1, 20, GUARDED, plan, 0))
+/// Lets validator 1 of twenty go through a test's steps, where a bundle takes long to make.
+fn on_large_edge<R: Abort + AllocGlobal, F: FnOnce(&R, &mut PeerCore)>(rt: &R, steps: F)
+    requires { F.IsAlwaysCallable steps }
+{
+    on_edge_of(rt, 1, 20, GUARDED, steps);
+}
+
+/// Lets validator `me` of `count`, whose timeouts last a second, go through a test's steps.
+fn on_edge_of<R: Abort + AllocGlobal, F: FnOnce(&R, &mut PeerCore)>(
+    rt: &R,
+    me: u16,
+    count: u16,
+    manner: Manner,
+    steps: F,
+)
+    requires { F.IsAlwaysCallable steps }
+{
+    let plan = Plan::new(rt.alloc(), 1_000, 0).expect(rt, "the plan has room");
+    let mut edge = PeerCore::new(rt.alloc(), me, count, manner, plan, 0);
+    steps(rt, &mut edge);
 }
 
 /// The front of a proposal of no transactions or of a vote for a value, of round 0.
@@ -65,11 +88,11 @@ fn links_of(sending: &Sending) -> u32 {
 }
 
 /// The numbers of the links that a released frame goes to, as one number's digits; 0 where it goes to none.
-fn released(alloc: Global, edge: &mut PeerCore, frame: &[u8], now: u64) -> Result<u32, Fail> {
-    let frame = Bytes::copy_from_slice(alloc, frame)?;
-    match edge.released(frame, now)? {
-        Some(sending) => Ok(links_of(&sending)),
-        None => Ok(0),
+fn released<R: Abort + AllocGlobal>(rt: &R, edge: &mut PeerCore, frame: &[u8], now: u64) -> u32 {
+    let frame = Bytes::copy_from_slice(rt.alloc(), frame).expect(rt, "the frame has room");
+    match edge.released(frame, now).expect(rt, "the links have room") {
+        Some(sending) => links_of(&sending),
+        None => 0,
     }
 }
 
@@ -100,12 +123,16 @@ fn asks(edge: &mut PeerCore, link: u32, validator: u8, now: u64) {
     );
 }
 
+/// Opens a link, which is let in.
+fn open<R: Abort>(rt: &R, edge: &mut PeerCore, link: LinkId, way: Way, now: u64) {
+    edge.opened(link, way, now).expect(rt, "the link is let in");
+}
+
 /// Opens links 1, 2 and 3, which were dialed: to validators 0, 2 and 3.
-fn dial_all(edge: &mut PeerCore) -> Result<(), Fail> {
-    edge.opened(LinkId(1), Way::Dialed(0), 0)?;
-    edge.opened(LinkId(2), Way::Dialed(2), 0)?;
-    edge.opened(LinkId(3), Way::Dialed(3), 0)?;
-    Ok(())
+fn dial_all<R: Abort>(rt: &R, edge: &mut PeerCore) {
+    open(rt, edge, LinkId(1), Way::Dialed(0), 0);
+    open(rt, edge, LinkId(2), Way::Dialed(2), 0);
+    open(rt, edge, LinkId(3), Way::Dialed(3), 0);
 }
 
 /// What came of a machine's duties.

@@ -1,7 +1,7 @@
 //! Validator 3 of four of power 1. The key of what validator S sends to it is 32 times the byte 0xSS, that of what client C
 //! sends 32 times the byte 0xcC, and that of what it sends to the others 32 times 0x44.
 
-ghost use Rattle.std.specs.Prelude.{◌≡◌, [], false, IfOk, length};
+ghost use Rattle.std.specs.Prelude.{◌≡◌, [], false, length};
 ghost use Rattle.protocol.specs.Tags.{Validator};
 ghost use Rattle.protocol.specs.State.{Node as ProtocolNode};
 ghost use Rattle.vote_journal.specs.Layout.{IsWhole};
@@ -18,9 +18,14 @@ use authenticators::{KeyRing, Party};
 use node_core::{Config, NodeCore};
 use powers::Powers;
 use std::alloc::Global;
+use std::fmt::Debug;
 use std::process::Abort;
-use std::test::Fail;
 use vote_journal::{Journal, MemoryStore};
+
+/// Ends the test where what was found is not what is wanted, and shows both.
+fn assert_same<R: Abort, T: PartialEq + Debug>(rt: &R, found: &T, wanted: &T) {
+    assert_eq!(rt; found, wanted);
+}
 
 const KEYS: &[u8] = b"v0 v3 0000000000000000000000000000000000000000000000000000000000000000
 v1 v3 1111111111111111111111111111111111111111111111111111111111111111
@@ -40,14 +45,15 @@ c7 v3 c7c7c7c7c7c7c7c7c7c7c7c7c7c7c7c7c7c7c7c7c7c7c7c7c7c7c7c7c7c7c7c7
 ";
 
 /// Validator 3's ring.
-fn ring_of(rt: &impl Abort, alloc: Global) -> Result<KeyRing, Fail>
-    ensures { IfOk result (λ ring. (ring.me ≡ Validator 3) × (ring.count ≡ 4)) }
+fn ring_of(rt: &impl Abort, alloc: Global) -> KeyRing
+    ensures { (result.me ≡ Validator 3) × (result.count ≡ 4) }
 {
-    let ring = KeyRing::read(alloc, KEYS, Party::Validator(3), 4)?;
+    let ring = KeyRing::read(alloc, KEYS, Party::Validator(3), 4).expect(rt, "the keys are read");
     assert_ring(rt, &ring);
-    Ok(ring)
+    ring
 }
 
+/// The ring is validator 3's, of four.
 fn assert_ring(rt: &impl Abort, ring: &KeyRing)
     ensures { (ring.now.me ≡ Validator 3) × (ring.now.count ≡ 4) }
 {
@@ -55,12 +61,14 @@ fn assert_ring(rt: &impl Abort, ring: &KeyRing)
     assert_eq!(rt; ring.count(), 4);
 }
 
-fn powers_of(rt: &impl Abort, alloc: Global) -> Result<Powers, Fail>
-    ensures { IfOk result (λ powers. length powers ≡ 4) }
+/// Four validators of power 1.
+fn powers_of(rt: &impl Abort, alloc: Global) -> Powers
+    ensures { length result ≡ 4 }
 {
-    let powers = Powers::new(vec![in alloc; 1, 1, 1, 1]?)?;
+    let each = vec![in alloc; 1, 1, 1, 1].expect(rt, "no memory");
+    let powers = Powers::new(each).expect(rt, "the powers are admitted");
     assert_eq!(rt; powers.count(), 4);
-    Ok(powers)
+    powers
 }
 
 /// Its journal without records, on a store in memory whose call of this number fails.
@@ -79,11 +87,11 @@ fn journal_of(rt: &impl Abort, alloc: Global, powers: &Powers, failing: u64) -> 
 }
 
 /// It has not begun.
-fn core_of(rt: &impl Abort, alloc: Global, failing: u64) -> Result<NodeCore<MemoryStore>, Fail>
-    ensures { IfOk result (λ core. (n : ProtocolNode) × Stands n core) }
+fn core_of(rt: &impl Abort, alloc: Global, failing: u64) -> NodeCore<MemoryStore>
+    ensures { (n : ProtocolNode) × Stands n result }
 {
-    let powers = powers_of(rt, alloc)?;
-    let ring = ring_of(rt, alloc)?;
+    let powers = powers_of(rt, alloc);
+    let ring = ring_of(rt, alloc);
     let journal = journal_of(rt, alloc, &powers, failing);
-    Ok(NodeCore::new(alloc, Config { me: 3, powers }, ring, journal))
+    NodeCore::new(alloc, Config { me: 3, powers }, ring, journal)
 }

@@ -7,12 +7,19 @@ mod followed;
 mod streams;
 
 use schedule_text::simulate;
-use std::alloc::{AllocError, Global};
+use std::alloc::Global;
+use std::fmt::Debug;
 use std::process::Abort;
 
+/// Ends the test where what was found is not what is wanted, and shows both.
+fn assert_same<R: Abort, T: PartialEq + Debug>(rt: &R, found: &T, wanted: &T) {
+    assert_eq!(rt; found, wanted);
+}
+
 /// A world of four validators, of whom 0, 1 and 2 lie, and these lines.
-fn world(alloc: Global, lines: &str) -> Result<String, AllocError> {
-    format!(in alloc; "powers 1 1 1 1\nclients 8\nliars 0 1 2\n{lines}")
+fn world(rt: &impl Abort, alloc: Global, lines: &str) -> String {
+    let setup = format!(in alloc; "powers 1 1 1 1\nclients 8\nliars 0 1 2\n{lines}");
+    setup.expect(rt, "no memory")
 }
 
 /// A run of a schedule of the file `f` has this exit status, and leaves these texts on its streams.
@@ -24,7 +31,12 @@ fn assert_run(rt: &impl Abort, alloc: Global, schedule: &[u8], status: u8, out: 
     let left = simulate(alloc, "f", &mut reader, &mut written, &mut told);
     assert_text(rt, text, &written, out);
     assert_text(rt, text, &told, err);
-    assert_eq!(rt; left, status, "{text}");
+    assert_left(rt, text, left, status);
+}
+
+/// The run of a schedule left this exit status.
+fn assert_left(rt: &impl Abort, schedule: &str, left: u8, status: u8) {
+    assert_eq!(rt; left, status, "{schedule}");
 }
 
 /// This text was written in the run of a schedule.

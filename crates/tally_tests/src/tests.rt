@@ -1,10 +1,15 @@
 use messages::{Proposal, Step, Vote};
 use powers::Powers;
-use std::alloc::{AllocError, Global};
+use std::alloc::Global;
+use std::fmt::Debug;
 use std::process::Abort;
-use std::test::Fail;
 use transactions::{Id, Shared, Value};
 use vote_tally::*;
+
+/// Ends the test where what was found is not what is wanted, and shows both.
+fn assert_same<R: Abort, T: PartialEq + Debug>(rt: &R, found: &T, wanted: &T) {
+    assert_eq!(rt; found, wanted);
+}
 
 /// The id of a value A.
 const A: Id = [0xaa; 32];
@@ -12,12 +17,19 @@ const A: Id = [0xaa; 32];
 /// The id of another value.
 const B: Id = [0xbb; 32];
 
-/// The empty tally of a validator among four of power 1.
-fn tally_of(alloc: Global, me: u16) -> Result<Tally, Fail> {
-    let powers = Powers::new(vec![in alloc; 1, 1, 1, 1]?)?;
-    Ok(Tally::new(alloc, powers, me))
+/// The empty tally of a validator among others of these powers.
+fn tally_among(rt: &impl Abort, alloc: Global, powers: &[u32], me: u16) -> Tally {
+    let list = Vec::from_slice(alloc, powers).expect(rt, "no memory");
+    let powers = Powers::new(list).expect(rt, "the powers are wrong");
+    Tally::new(alloc, powers, me)
 }
 
+/// The empty tally of a validator among four of power 1.
+fn tally_of(rt: &impl Abort, alloc: Global, me: u16) -> Tally {
+    tally_among(rt, alloc, &[1; 4], me)
+}
+
+/// A prevote at height 0.
 fn prevote(round: u32, sender: u16, content: Option<Id>) -> Vote {
     Vote {
         step: Step::Prevote,
@@ -30,135 +42,198 @@ fn prevote(round: u32, sender: u16, content: Option<Id>) -> Vote {
 
 /// A proposal of the empty value. Those of one round and sender differ by their valid round.
 fn proposal(
+    rt: &impl Abort,
     alloc: Global,
     round: u32,
     sender: u16,
     valid_round: Option<u32>,
-) -> Result<Proposal, Fail> {
-    let txs = Shared::from_vec(alloc, Vec::new(alloc))?;
-    Ok(Proposal {
+) -> Proposal {
+    let txs = Shared::from_vec(alloc, Vec::new(alloc)).expect(rt, "no memory");
+    Proposal {
         height: 0,
         round,
         sender,
         valid_round,
         value: Value { txs },
-    })
+    }
 }
 
-#[test]
-fn repeats_count_once(rt: HostRuntime) -> Result<(), Fail> {
-    let mut tally = tally_of(rt.alloc(), 3)?;
-    assert_eq!(rt; tally.me(), 3);
-    assert_eq!(rt; tally.add(prevote(0, 1, Some(A))), Ok(()));
-    assert_eq!(rt;
-        tally.fault_of(&prevote(0, 1, Some(A))),
-        Some(TallyFault::Repeat)
-    );
-    assert_eq!(rt; tally.add(prevote(0, 1, Some(A))), Err(TallyFault::Repeat));
-    assert_eq!(rt; tally.add(prevote(0, 1, Some(A))), Err(TallyFault::Repeat));
-    assert_eq!(rt; tally.fault_of(&prevote(0, 0, Some(A))), None);
-    assert_eq!(rt; tally.add(prevote(0, 0, Some(A))), Ok(()));
+/// Adds such a proposal, and tells what became of it.
+fn propose(
+    rt: &impl Abort,
+    alloc: Global,
+    tally: &mut Tally,
+    round: u32,
+    sender: u16,
+    valid_round: Option<u32>,
+) -> Result<(), TallyFault> {
+    tally.add_proposal(&proposal(rt, alloc, round, sender, valid_round))
+}
+
+/// Keeps a proposal of this round and sender.
+fn keep_proposal(rt: &impl Abort, alloc: Global, tally: &mut Tally, round: u32, sender: u16) {
+    tally
+        .keep_proposal(&proposal(rt, alloc, round, sender, None))
+        .expect(rt, "no memory");
+}
+
+/// Keeps these prevotes, by round, sender and content.
+fn keep_prevotes(rt: &impl Abort, tally: &mut Tally, votes: &[(u32, u16, Option<Id>)]) {
+    for (round, sender, content) in votes {
+        tally
+            .keep(prevote(*round, *sender, *content))
+            .expect(rt, "no memory");
+    }
+}
+
+/// A vote of a sender counts once, however often it comes.
+fn assert_repeats(rt: &impl Abort, tally: &mut Tally) {
+    assert_same(rt, &tally.me(), &3);
+    let first = prevote(0, 1, Some(A));
+    assert_same(rt, &tally.add(first), &Ok(()));
+    assert_same(rt, &tally.fault_of(&first), &Some(TallyFault::Repeat));
+    for _ in 0..2 {
+        assert_same(rt, &tally.add(first), &Err(TallyFault::Repeat));
+    }
+    let second = prevote(0, 0, Some(A));
+    assert_same(rt, &tally.fault_of(&second), &None);
+    assert_same(rt, &tally.add(second), &Ok(()));
     let power = tally.power_for(0, Step::Prevote, Some(A));
-    assert_eq!(rt; power, 2);
-    assert!(rt; !tally.powers().is_quorum(power));
-    assert!(rt; tally.has_voted(1, 0, Step::Prevote, Some(A)));
-    assert!(rt; !tally.has_voted(2, 0, Step::Prevote, Some(A)));
-    assert!(rt; !tally.has_voted(1, 0, Step::Precommit, Some(A)));
-    Ok(())
+    assert_same(rt, &power, &2);
+    assert_same(rt, &tally.powers().is_quorum(power), &false);
+}
+
+/// Whether these voted for A in round 0.
+fn assert_voters(rt: &impl Abort, tally: &Tally, voters: &[(u16, Step, bool)]) {
+    for (voter, step, has_voted) in voters {
+        assert_same(rt, &tally.has_voted(*voter, 0, *step, Some(A)), has_voted);
+    }
 }
 
 #[test]
-fn powers_of_contents(rt: HostRuntime) -> Result<(), Fail> {
-    let mut tally = tally_of(rt.alloc(), 3)?;
+fn repeats_count_once(rt: HostRuntime) {
+    let mut tally = tally_of(&rt, rt.alloc(), 3);
+    assert_repeats(&rt, &mut tally);
+    let voters = [
+        (1, Step::Prevote, true),
+        (2, Step::Prevote, false),
+        (1, Step::Precommit, false),
+    ];
+    assert_voters(&rt, &tally, &voters);
+}
+
+/// The power for each of these contents in a round and step.
+fn assert_powers_for(rt: &impl Abort, tally: &Tally, powers: &[(u32, Step, Option<Id>, u64)]) {
+    for (round, step, content, power) in powers {
+        assert_same(rt, &tally.power_for(*round, *step, *content), power);
+    }
+}
+
+#[test]
+fn powers_of_contents(rt: HostRuntime) {
+    let mut tally = tally_of(&rt, rt.alloc(), 3);
     for (sender, content) in [(0u16, A), (0, B), (1, A)] {
-        assert_eq!(rt; tally.add(prevote(0, sender, Some(content))), Ok(()));
+        assert_same(&rt, &tally.add(prevote(0, sender, Some(content))), &Ok(()));
     }
-    assert_eq!(rt; tally.power_for(0, Step::Prevote, Some(A)), 2);
-    assert_eq!(rt; tally.power_for(0, Step::Prevote, Some(B)), 1);
-    assert_eq!(rt; tally.power_for(0, Step::Prevote, None), 0);
-    assert_eq!(rt; tally.power_for(0, Step::Precommit, Some(A)), 0);
-    assert_eq!(rt; tally.power_for(1, Step::Prevote, Some(A)), 0);
-    assert_eq!(rt; tally.power_any(0, Step::Prevote), 2);
-    assert_eq!(rt; tally.power_any(0, Step::Precommit), 0);
-    Ok(())
+    let powers = [
+        (0, Step::Prevote, Some(A), 2),
+        (0, Step::Prevote, Some(B), 1),
+        (0, Step::Prevote, None, 0),
+        (0, Step::Precommit, Some(A), 0),
+        (1, Step::Prevote, Some(A), 0),
+    ];
+    assert_powers_for(&rt, &tally, &powers);
+    assert_same(&rt, &tally.power_any(0, Step::Prevote), &2);
+    assert_same(&rt, &tally.power_any(0, Step::Precommit), &0);
+}
+
+/// Adds empty prevotes, by round and sender, and finds that this becomes of each.
+fn assert_added(
+    rt: &impl Abort,
+    tally: &mut Tally,
+    votes: &[(u32, u16)],
+    answer: Result<(), TallyFault>,
+) {
+    for (round, sender) in votes {
+        assert_same(rt, &tally.add(prevote(*round, *sender, None)), &answer);
+    }
 }
 
 #[test]
-fn a_voter_has_512_messages(rt: HostRuntime) -> Result<(), Fail> {
-    let mut tally = tally_of(rt.alloc(), 3)?;
+fn a_voter_has_512_messages(rt: HostRuntime) {
+    let mut tally = tally_of(&rt, rt.alloc(), 3);
     for round in 0..512 {
-        assert_eq!(rt; tally.add(prevote(round, 0, None)), Ok(()));
-        assert_eq!(rt; tally.add(prevote(round, 3, None)), Ok(()));
+        assert_added(&rt, &mut tally, &[(round, 0), (round, 3)], Ok(()));
     }
-    assert_eq!(rt;
-        tally.add(prevote(512, 0, None)),
-        Err(TallyFault::VoterFull)
+    let full = Err(TallyFault::VoterFull);
+    assert_added(&rt, &mut tally, &[(512, 0)], full);
+    assert_added(&rt, &mut tally, &[(511, 0)], Err(TallyFault::Repeat));
+    assert_same(
+        &rt,
+        &propose(&rt, rt.alloc(), &mut tally, 0, 0, None),
+        &full,
     );
-    assert_eq!(rt; tally.add(prevote(511, 0, None)), Err(TallyFault::Repeat));
-    let proposed = proposal(rt.alloc(), 0, 0, None)?;
-    assert_eq!(rt; tally.add_proposal(&proposed), Err(TallyFault::VoterFull));
-    assert_eq!(rt; tally.add(prevote(512, 1, None)), Ok(()));
-    assert_eq!(rt; tally.add(prevote(512, 3, None)), Ok(()));
-    Ok(())
+    assert_added(&rt, &mut tally, &[(512, 1), (512, 3)], Ok(()));
 }
 
-#[test]
-fn two_proposals_of_a_round(rt: HostRuntime) -> Result<(), Fail> {
-    for me in [3u16, 0] {
-        let mut tally = tally_of(rt.alloc(), me)?;
-        let first = proposal(rt.alloc(), 5, 0, None)?;
-        let third = proposal(rt.alloc(), 5, 0, Some(2))?;
-        assert_eq!(rt; tally.add_proposal(&first), Ok(()));
-        assert_eq!(rt; tally.add_proposal(&first), Err(TallyFault::Repeat));
-        assert_eq!(rt;
-            tally.add_proposal(&proposal(rt.alloc(), 5, 0, Some(1))?),
-            Ok(())
-        );
-        assert_eq!(rt;
-            tally.fault_of_proposal(&third),
-            Some(TallyFault::VoterFull)
-        );
-        assert_eq!(rt; tally.add_proposal(&third), Err(TallyFault::VoterFull));
-        assert_eq!(rt;
-            tally.add_proposal(&proposal(rt.alloc(), 6, 0, Some(2))?),
-            Ok(())
-        );
-        assert_eq!(rt;
-            tally.add_proposal(&proposal(rt.alloc(), 5, 1, Some(2))?),
-            Ok(())
-        );
+/// Of the proposals of a sender in a round two are taken, each once.
+fn assert_two_taken(rt: &impl Abort, alloc: Global, tally: &mut Tally) {
+    let full = Err(TallyFault::VoterFull);
+    let third = proposal(rt, alloc, 5, 0, Some(2));
+    for (valid_round, answer) in [
+        (None, Ok(())),
+        (None, Err(TallyFault::Repeat)),
+        (Some(1), Ok(())),
+    ] {
+        assert_same(rt, &propose(rt, alloc, tally, 5, 0, valid_round), &answer);
     }
-    Ok(())
+    assert_same(rt, &tally.fault_of_proposal(&third), &full.err());
+    assert_same(rt, &tally.add_proposal(&third), &full);
 }
 
 #[test]
-fn messages_of_one_round(rt: HostRuntime) -> Result<(), Fail> {
-    let mut tally = tally_of(rt.alloc(), 3)?;
-    tally.keep_proposal(&proposal(rt.alloc(), 7, 0, None)?)?;
-    tally.keep(prevote(7, 0, None))?;
-    tally.keep(prevote(7, 1, Some(A)))?;
-    tally.keep(prevote(8, 2, Some(A)))?;
-    assert_eq!(rt; tally.power_above(6), 0);
-    assert_eq!(rt; tally.power_above(7), 2);
-    assert_eq!(rt; tally.power_above(8), 1);
-    tally.keep_proposal(&proposal(rt.alloc(), 8, 3, None)?)?;
-    assert_eq!(rt; tally.power_above(8), 2);
-    Ok(())
+fn two_proposals_of_a_round(rt: HostRuntime) {
+    for me in [3u16, 0] {
+        let mut tally = tally_of(&rt, rt.alloc(), me);
+        assert_two_taken(&rt, rt.alloc(), &mut tally);
+        for (round, sender) in [(6, 0), (5, 1)] {
+            let told = propose(&rt, rt.alloc(), &mut tally, round, sender, Some(2));
+            assert_same(&rt, &told, &Ok(()));
+        }
+    }
+}
+
+/// The power of all with a message of each of these rounds.
+fn assert_powers_above(rt: &impl Abort, tally: &Tally, powers: &[(u32, u64)]) {
+    for (round, power) in powers {
+        assert_same(rt, &tally.power_above(*round), power);
+    }
 }
 
 #[test]
-fn copies_and_clears(rt: HostRuntime) -> Result<(), Fail> {
-    let mut tally = tally_of(rt.alloc(), 3)?;
-    tally.keep(prevote(0, 1, Some(A)))?;
-    tally.keep_proposal(&proposal(rt.alloc(), 0, 0, None)?)?;
-    let copy = tally.copy()?;
+fn messages_of_one_round(rt: HostRuntime) {
+    let mut tally = tally_of(&rt, rt.alloc(), 3);
+    keep_proposal(&rt, rt.alloc(), &mut tally, 7, 0);
+    let votes = [(7, 0, None), (7, 1, Some(A)), (8, 2, Some(A))];
+    keep_prevotes(&rt, &mut tally, &votes);
+    assert_powers_above(&rt, &tally, &[(6, 0), (7, 2), (8, 1)]);
+    keep_proposal(&rt, rt.alloc(), &mut tally, 8, 3);
+    assert_powers_above(&rt, &tally, &[(8, 2)]);
+}
+
+#[test]
+fn copies_and_clears(rt: HostRuntime) {
+    let mut tally = tally_of(&rt, rt.alloc(), 3);
+    let vote = prevote(0, 1, Some(A));
+    tally.keep(vote).expect(&rt, "no memory");
+    keep_proposal(&rt, rt.alloc(), &mut tally, 0, 0);
+    let copy = tally.copy().expect(&rt, "no memory");
     tally.clear();
-    assert_eq!(rt; tally.power_above(0), 0);
-    assert_eq!(rt; tally.powers().count(), 4);
-    assert_eq!(rt; copy.power_above(0), 2);
-    assert_eq!(rt; copy.me(), 3);
-    assert_eq!(rt; tally.add(prevote(0, 1, Some(A))), Ok(()));
-    Ok(())
+    assert_same(&rt, &tally.power_above(0), &0);
+    assert_same(&rt, &tally.powers().count(), &4);
+    assert_same(&rt, &copy.power_above(0), &2);
+    assert_same(&rt, &copy.me(), &3);
+    assert_same(&rt, &tally.add(vote), &Ok(()));
 }
 
 /// Numbers that look random, the same in each run.
@@ -308,91 +383,111 @@ fn agrees_of(tally: &Tally, votes: &[Vote], vote: &Vote) -> bool {
     is_repeat == votes.contains(vote)
 }
 
-/// Adds a vote to a tally, and to the list where it is kept.
-fn add_to(tally: &mut Tally, votes: &mut Vec<Vote>, vote: Vote) -> Result<bool, Fail> {
-    let known = agrees_of(tally, votes, &vote);
-    if tally.add(vote).is_ok() {
-        votes.push(vote)?;
-    }
-    Ok(known)
+/// The long run: a tally, and lists of what it kept.
+#[derive(Drop)]
+struct Run {
+    tally: Tally,
+    votes: Vec<Vote>,
+    /// The kept proposals, by round and sender.
+    proposals: Vec<(u32, u16)>,
+    dice: Dice,
 }
 
-/// Adds a proposal to a tally, and to the list where it is kept.
-fn propose_to(
-    tally: &mut Tally,
-    proposals: &mut Vec<(u32, u16)>,
-    proposed: &Proposal,
-) -> Result<(), Fail> {
-    if tally.add_proposal(proposed).is_ok() {
-        proposals.push((proposed.round, proposed.sender))?;
+/// The run that begins, of validators with the powers of the long run.
+fn run_of(rt: &impl Abort, alloc: Global) -> Run {
+    Run {
+        tally: tally_among(rt, alloc, &[5, 1, 2, 4], 3),
+        votes: Vec::new(alloc),
+        proposals: Vec::new(alloc),
+        dice: Dice(1),
     }
-    Ok(())
 }
 
-/// One message of the long run: whether the tally tells what the lists do after it.
-fn one_more(
-    alloc: Global,
-    dice: &mut Dice,
-    tally: &mut Tally,
-    votes: &mut Vec<Vote>,
-    proposals: &mut Vec<(u32, u16)>,
-) -> Result<bool, Fail> {
-    let vote = dice.vote();
-    if dice.roll(7) > 0 {
-        let known = add_to(tally, votes, vote)?;
-        return Ok(known && agrees(tally, votes, proposals));
+impl Run {
+    /// Whether all that the tally tells is what the lists do.
+    fn agrees(&self) -> bool {
+        agrees(&self.tally, &self.votes, &self.proposals)
     }
-    let valid_round = Some(dice.roll(1));
-    let proposed = proposal(alloc, vote.round, vote.sender, valid_round)?;
-    propose_to(tally, proposals, &proposed)?;
-    Ok(agrees(tally, votes, proposals))
+
+    /// Adds a vote: whether the tally knew if it is a repeat.
+    fn add(&mut self, rt: &impl Abort, vote: Vote) -> bool {
+        let known = agrees_of(&self.tally, &self.votes, &vote);
+        if self.tally.add(vote).is_ok() {
+            self.votes.push(vote).expect(rt, "no memory");
+        }
+        known
+    }
+
+    /// Adds a proposal of the round and the sender of a vote.
+    fn propose(&mut self, rt: &impl Abort, alloc: Global, vote: &Vote) {
+        let Vote { round, sender, .. } = *vote;
+        let valid_round = Some(self.dice.roll(1));
+        if propose(rt, alloc, &mut self.tally, round, sender, valid_round).is_ok() {
+            self.proposals.push((round, sender)).expect(rt, "no memory");
+        }
+    }
+
+    /// Adds one message: whether the tally tells what the lists do after it.
+    fn one_more(&mut self, rt: &impl Abort, alloc: Global) -> bool {
+        let vote = self.dice.vote();
+        if self.dice.roll(7) > 0 {
+            return self.add(rt, vote) && self.agrees();
+        }
+        self.propose(rt, alloc, &vote);
+        self.agrees()
+    }
 }
 
 #[test]
-fn sums_of_a_long_run(rt: HostRuntime) -> Result<(), Fail> {
-    let powers = Powers::new(vec![in rt.alloc(); 5, 1, 2, 4]?)?;
-    let mut tally = Tally::new(rt.alloc(), powers, 3);
-    let mut votes = Vec::new(rt.alloc());
-    let mut proposals = Vec::new(rt.alloc());
-    let mut dice = Dice(1);
+fn sums_of_a_long_run(rt: HostRuntime) {
+    let mut run = run_of(&rt, rt.alloc());
     let mut plain = true;
     for _ in 0..300 {
-        plain &= one_more(
-            rt.alloc(),
-            &mut dice,
-            &mut tally,
-            &mut votes,
-            &mut proposals,
-        )?;
+        plain &= run.one_more(&rt, rt.alloc());
     }
     assert!(rt; plain);
-    assert!(rt; votes.len() > 100);
-    assert!(rt; proposals.len() > 20);
-    Ok(())
+    assert!(rt; run.votes.len() > 100);
+    assert!(rt; run.proposals.len() > 20);
+}
+
+/// Keeps these prevotes, and finds this highest round in which more than a third spoke.
+fn assert_highest(
+    rt: &impl Abort,
+    tally: &mut Tally,
+    votes: &[(u32, u16, Option<Id>)],
+    highest: Option<u32>,
+) {
+    keep_prevotes(rt, tally, votes);
+    assert_same(rt, &tally.highest_weak(), &highest);
 }
 
 #[test]
-fn the_highest_weak_round(rt: HostRuntime) -> Result<(), Fail> {
-    let mut tally = tally_of(rt.alloc(), 3)?;
-    assert_eq!(rt; tally.highest_weak(), None);
-    tally.keep(prevote(5, 0, None))?;
-    tally.keep(prevote(9, 0, None))?;
-    assert_eq!(rt; tally.highest_weak(), None);
-    tally.keep(prevote(5, 1, Some(A)))?;
-    assert_eq!(rt; tally.highest_weak(), Some(5));
-    tally.keep(prevote(2, 0, None))?;
-    tally.keep(prevote(2, 1, None))?;
-    assert_eq!(rt; tally.highest_weak(), Some(5));
-    tally.keep_proposal(&proposal(rt.alloc(), 9, 2, None)?)?;
-    assert_eq!(rt; tally.highest_weak(), Some(9));
+fn the_highest_weak_round(rt: HostRuntime) {
+    let mut tally = tally_of(&rt, rt.alloc(), 3);
+    assert_highest(&rt, &mut tally, &[], None);
+    assert_highest(&rt, &mut tally, &[(5, 0, None), (9, 0, None)], None);
+    assert_highest(&rt, &mut tally, &[(5, 1, Some(A))], Some(5));
+    assert_highest(&rt, &mut tally, &[(2, 0, None), (2, 1, None)], Some(5));
+    keep_proposal(&rt, rt.alloc(), &mut tally, 9, 2);
+    assert_highest(&rt, &mut tally, &[], Some(9));
     tally.clear();
-    assert_eq!(rt; tally.highest_weak(), None);
-    Ok(())
+    assert_highest(&rt, &mut tally, &[], None);
+}
+
+/// Keeps these precommits, by round, sender and content.
+fn keep_precommits(rt: &impl Abort, tally: &mut Tally, votes: &[(u32, u16, Id)]) {
+    for (round, sender, content) in votes {
+        let vote = Vote {
+            step: Step::Precommit,
+            ..prevote(*round, *sender, Some(*content))
+        };
+        tally.keep(vote).expect(rt, "no memory");
+    }
 }
 
 #[test]
-fn the_decisive_rounds(rt: HostRuntime) -> Result<(), Fail> {
-    let mut tally = tally_of(rt.alloc(), 3)?;
+fn the_decisive_rounds(rt: HostRuntime) {
+    let mut tally = tally_of(&rt, rt.alloc(), 3);
     let votes = [
         (7, 0, A),
         (5, 0, A),
@@ -401,115 +496,131 @@ fn the_decisive_rounds(rt: HostRuntime) -> Result<(), Fail> {
         (5, 1, A),
         (5, 3, A),
     ];
-    for (round, sender, content) in votes {
-        tally.keep(Vote {
-            step: Step::Precommit,
-            ..prevote(round, sender, Some(content))
-        })?;
-    }
-    assert_eq!(rt; tally.decisive(), [5].as_slice());
+    keep_precommits(&rt, &mut tally, &votes);
+    assert_same(&rt, &tally.decisive(), &[5].as_slice());
     tally.clear();
     assert!(rt; tally.decisive().is_empty());
-    Ok(())
 }
 
 #[test]
 fn numbers_of_faults(rt: HostRuntime) {
-    assert_eq!(rt; TallyFault::Repeat.number(), 1);
-    assert_eq!(rt; TallyFault::OutOfMemory.number(), 3);
+    assert_same(&rt, &TallyFault::Repeat.number(), &1);
+    assert_same(&rt, &TallyFault::OutOfMemory.number(), &3);
 }
 
 /// The empty tally of validator 1 among 128 of power 1.
-fn tally_of_128(alloc: Global) -> Result<Tally, Fail> {
-    let powers = Powers::new(vec![in alloc; 1; 128]?)?;
-    Ok(Tally::new(alloc, powers, 1))
+fn tally_of_128(rt: &impl Abort, alloc: Global) -> Tally {
+    tally_among(rt, alloc, &[1; 128], 1)
 }
 
 /// Each of the senders is another validator than those before it: with its vote there is this much power.
-fn assert_apart(rt: &impl Abort, alloc: Global, votes: &[(u64, u16)]) -> Result<(), Fail> {
-    let mut tally = tally_of_128(alloc)?;
+fn assert_apart(rt: &impl Abort, tally: &mut Tally, votes: &[(u64, u16)]) {
     for (power, sender) in votes {
         assert!(rt; !tally.has_voted(*sender, 0, Step::Prevote, Some(A)));
-        assert_eq!(rt; tally.add(prevote(0, *sender, Some(A))), Ok(()));
-        assert_eq!(rt; tally.power_for(0, Step::Prevote, Some(A)), *power);
-        assert_eq!(rt; tally.power_any(0, Step::Prevote), *power);
-        assert_eq!(rt; tally.power_above(0), *power);
+        assert_same(rt, &tally.add(prevote(0, *sender, Some(A))), &Ok(()));
+        assert_powers(rt, tally, *power, 0, *power);
+        assert_same(rt, &tally.power_any(0, Step::Prevote), power);
     }
-    Ok(())
 }
 
 #[test]
-fn both_halves_of_the_masks(rt: HostRuntime) -> Result<(), Fail> {
-    assert_apart(&rt, rt.alloc(), &[(1, 64), (2, 0), (3, 127), (4, 63)])?;
-    assert_apart(&rt, rt.alloc(), &[(1, 0), (2, 64), (3, 63), (4, 127)])
+fn both_halves_of_the_masks(rt: HostRuntime) {
+    for votes in [
+        [(1, 64), (2, 0), (3, 127), (4, 63)],
+        [(1, 0), (2, 64), (3, 63), (4, 127)],
+    ] {
+        let mut tally = tally_of_128(&rt, rt.alloc());
+        assert_apart(&rt, &mut tally, &votes);
+    }
 }
 
 /// The tally tells these powers of the prevotes and precommits for A, and this of all messages of the round.
 fn assert_powers(rt: &impl Abort, tally: &Tally, prevotes: u64, precommits: u64, all: u64) {
-    assert_eq!(rt; tally.power_for(0, Step::Prevote, Some(A)), prevotes);
-    assert_eq!(rt; tally.power_for(0, Step::Precommit, Some(A)), precommits);
-    assert_eq!(rt; tally.power_above(0), all);
+    assert_same(rt, &tally.power_for(0, Step::Prevote, Some(A)), &prevotes);
+    assert_same(
+        rt,
+        &tally.power_for(0, Step::Precommit, Some(A)),
+        &precommits,
+    );
+    assert_same(rt, &tally.power_above(0), &all);
+}
+
+/// Keeps a prevote and a precommit for A of a validator, behind those of all validators before it.
+fn keep_both(rt: &impl Abort, tally: &mut Tally, sender: u16) {
+    let before = u64::from(sender);
+    assert_powers(rt, tally, before, before, before);
+    let vote = prevote(0, sender, Some(A));
+    tally.keep(vote).expect(rt, "no memory");
+    assert_powers(rt, tally, before + 1, before, before + 1);
+    keep_precommits(rt, tally, &[(0, sender, A)]);
+    assert_same(rt, &tally.highest_weak().is_some(), &(before >= 42));
+    assert_same(rt, &tally.decisive().is_empty(), &(before < 85));
 }
 
 #[test]
-fn all_128_validators(rt: HostRuntime) -> Result<(), Fail> {
-    let mut tally = tally_of_128(rt.alloc())?;
+fn all_128_validators(rt: HostRuntime) {
+    let mut tally = tally_of_128(&rt, rt.alloc());
     for sender in 0..128u16 {
-        let before = u64::from(sender);
-        assert_powers(&rt, &tally, before, before, before);
-        let vote = prevote(0, sender, Some(A));
-        tally.keep(vote)?;
-        assert_powers(&rt, &tally, before + 1, before, before + 1);
-        let step = Step::Precommit;
-        tally.keep(Vote { step, ..vote })?;
-        assert_eq!(rt; tally.highest_weak().is_some(), before >= 42);
-        assert_eq!(rt; tally.decisive().is_empty(), before < 85);
+        keep_both(&rt, &mut tally, sender);
     }
     for sender in [0u16, 63, 64, 127] {
         let again = tally.fault_of(&prevote(0, sender, Some(A)));
-        assert_eq!(rt; again, Some(TallyFault::Repeat));
+        assert_same(&rt, &again, &Some(TallyFault::Repeat));
     }
     assert_powers(&rt, &tally, 128, 128, 128);
-    Ok(())
 }
 
-#[test]
-fn the_last_validator(rt: HostRuntime) -> Result<(), Fail> {
-    let mut tally = tally_of_128(rt.alloc())?;
-    for sender in [127u16, 0, 64, 128] {
-        assert_eq!(rt; tally.add(prevote(0, sender, Some(A))), Ok(()));
-        assert_eq!(rt;
-            tally.add(prevote(0, sender, Some(A))),
-            Err(TallyFault::Repeat)
-        );
+/// Adds the same prevote twice for each sender: the second one is a repeat.
+fn add_twice(rt: &impl Abort, tally: &mut Tally, senders: &[u16]) {
+    for sender in senders {
+        let vote = prevote(0, *sender, Some(A));
+        assert_same(rt, &tally.add(vote), &Ok(()));
+        assert_same(rt, &tally.add(vote), &Err(TallyFault::Repeat));
     }
-    assert_eq!(rt; tally.power_for(0, Step::Prevote, Some(A)), 3);
-    assert_eq!(rt; tally.power_for(0, Step::Precommit, Some(A)), 0);
-    assert!(rt; tally.has_voted(128, 0, Step::Prevote, Some(A)));
-    assert!(rt; !tally.has_voted(126, 0, Step::Prevote, Some(A)));
-    Ok(())
-}
-
-/// A vote and a proposal that are kept in room that was made before, and room that nothing takes.
-fn keep_in_room(rt: &impl Abort, tally: &mut Tally, proposed: Proposal) -> Result<(), Fail> {
-    let vote = prevote(0, 1, Some(A));
-    tally.reserve_vote(&vote)?;
-    assert_eq!(rt; tally.power_for(0, Step::Prevote, Some(A)), 0);
-    tally.keep_reserved_vote(vote);
-    assert_eq!(rt; tally.power_for(0, Step::Prevote, Some(A)), 1);
-    tally.reserve_proposal(proposed.round)?;
-    assert_eq!(rt; tally.power_above(7), 0);
-    tally.keep_reserved_proposal(proposed);
-    assert_eq!(rt; tally.power_above(7), 1);
-    tally.reserve_vote(&prevote(0, 2, Some(A)))?;
-    tally.forget_reserved();
-    assert_eq!(rt; tally.power_any(0, Step::Prevote), 1);
-    Ok(())
 }
 
 #[test]
-fn room_before_a_message(rt: HostRuntime) -> Result<(), Fail> {
-    let mut tally = tally_of(rt.alloc(), 3)?;
-    let proposed = proposal(rt.alloc(), 7, 2, None)?;
-    keep_in_room(&rt, &mut tally, proposed)
+fn the_last_validator(rt: HostRuntime) {
+    let mut tally = tally_of_128(&rt, rt.alloc());
+    add_twice(&rt, &mut tally, &[127, 0, 64, 128]);
+    assert_same(&rt, &tally.power_for(0, Step::Prevote, Some(A)), &3);
+    assert_same(&rt, &tally.power_for(0, Step::Precommit, Some(A)), &0);
+    let voters = [(128, Step::Prevote, true), (126, Step::Prevote, false)];
+    assert_voters(&rt, &tally, &voters);
+}
+
+/// A vote that is kept in room that was made before.
+fn keep_vote_in_room(rt: &impl Abort, tally: &mut Tally) {
+    let vote = prevote(0, 1, Some(A));
+    tally.reserve_vote(&vote).expect(rt, "no memory");
+    assert_same(rt, &tally.power_for(0, Step::Prevote, Some(A)), &0);
+    tally.keep_reserved_vote(vote);
+    assert_same(rt, &tally.power_for(0, Step::Prevote, Some(A)), &1);
+}
+
+/// A proposal of round 7 that is kept in room that was made before.
+fn keep_proposal_in_room(rt: &impl Abort, tally: &mut Tally, proposed: Proposal) {
+    tally
+        .reserve_proposal(proposed.round)
+        .expect(rt, "no memory");
+    assert_same(rt, &tally.power_above(7), &0);
+    tally.keep_reserved_proposal(proposed);
+    assert_same(rt, &tally.power_above(7), &1);
+}
+
+/// Room that nothing takes.
+fn forget_room(rt: &impl Abort, tally: &mut Tally) {
+    tally
+        .reserve_vote(&prevote(0, 2, Some(A)))
+        .expect(rt, "no memory");
+    tally.forget_reserved();
+    assert_same(rt, &tally.power_any(0, Step::Prevote), &1);
+}
+
+#[test]
+fn room_before_a_message(rt: HostRuntime) {
+    let mut tally = tally_of(&rt, rt.alloc(), 3);
+    keep_vote_in_room(&rt, &mut tally);
+    keep_proposal_in_room(&rt, &mut tally, proposal(&rt, rt.alloc(), 7, 2, None));
+    forget_room(&rt, &mut tally);
 }

@@ -2,7 +2,7 @@ mod limits;
 mod parts;
 mod sessions;
 
-use std::alloc::{AllocError, Global};
+use std::fmt::Debug;
 use std::process::Abort;
 use transactions::*;
 
@@ -20,201 +20,159 @@ const LATER: [u8; 19] = [2, 0, 7, 0, 0, 0, 1, 0, 0, 0, 0, 0, 0, 0, 1, 0, 0, 1, b
 /// The body of client 7's transaction 2, which is a close.
 const CLOSE: [u8; 12] = [1, 0, 7, 0, 0, 0, 0, 0, 0, 0, 2, 1];
 
-/// What was looked at is so.
-fn assert_holds(rt: &impl Abort, outcome: Result<bool, Fault>) {
-    assert_eq!(rt; outcome, Ok(true));
+/// Ends the test where what was found is not what is wanted, and shows both.
+fn assert_same<R: Abort, T: PartialEq + Debug>(rt: &R, found: &T, wanted: &T) {
+    assert_eq!(rt; found, wanted);
+}
+
+/// Ends the test where other bytes were found than are wanted.
+fn assert_bytes<R: Abort>(rt: &R, found: &[u8], wanted: &[u8]) {
+    assert!(rt; found == wanted);
 }
 
 /// This fault was found.
-fn assert_fault(rt: &impl Abort, found: Option<Fault>, wanted: Fault) {
-    assert_eq!(rt; found, Some(wanted));
+fn assert_fault<R: Abort + AllocGlobal>(rt: &R, found: Option<Fault>, wanted: Fault) {
+    assert_same(rt, &found, &Some(wanted));
+}
+
+/// These, one behind the other.
+fn joined<R: Abort + AllocGlobal>(rt: &R, parts: &[&[u8]]) -> Vec<u8> {
+    let mut bytes = Vec::new(rt.alloc());
+    for part in parts {
+        bytes.extend_from_slice(part).expect(rt, "they have room");
+    }
+    bytes
 }
 
 /// Tags of nines.
-fn nines(alloc: Global, count: usize) -> Result<Seq<[u8; 32]>, AllocError> {
-    let mut tags = Seq::new(alloc);
+fn nines<R: Abort + AllocGlobal>(rt: &R, count: usize) -> Seq<[u8; 32]> {
+    let mut tags = Seq::new(rt.alloc());
     for _ in 0..count {
-        tags.push([9u8; 32])?;
+        tags.push([9; 32]).expect(rt, "the tags have room");
     }
-    Ok(tags)
+    tags
 }
 
 /// A transaction of the last session with this many bytes and tags.
-fn sized(alloc: Global, bytes: usize, tags: usize) -> Result<Tx, AllocError> {
-    let mut contents = Seq::new(alloc);
-    for _ in 0..bytes {
-        contents.push(b'a')?;
-    }
-    Ok(Tx {
+fn sized<R: Abort + AllocGlobal>(rt: &R, bytes: usize, tags: usize) -> Tx {
+    let contents = vec![in rt.alloc(); b'a'; bytes].expect(rt, "the bytes have room");
+    Tx {
         client: 1023,
         session: 0xffff_ffff,
         number: 0x1_0000_0000_0000,
-        op: Op::Bytes(contents),
-        tags: nines(alloc, tags)?,
-    })
-}
-
-/// Adds so many copies of a transaction.
-fn put_copies(txs: &mut Vec<Tx>, alloc: Global, count: usize, tx: &Tx) -> Result<(), AllocError> {
-    for _ in 0..count {
-        txs.push(tx.copy(alloc)?)?;
+        op: Op::Bytes(Seq::from_vec(contents)),
+        tags: nines(rt, tags),
     }
-    Ok(())
 }
 
 /// Adds so many transactions of one size.
-fn put_sized(
+fn put_sized<R: Abort + AllocGlobal>(
+    rt: &R,
     txs: &mut Vec<Tx>,
-    alloc: Global,
     count: usize,
     size: (usize, usize),
-) -> Result<(), AllocError> {
-    let tx = sized(alloc, size.0, size.1)?;
-    put_copies(txs, alloc, count, &tx)
-}
-
-/// So many transactions of one size, and one more.
-fn txs_of(
-    alloc: Global,
-    count: usize,
-    each: (usize, usize),
-    last: (usize, usize),
-) -> Result<Vec<Tx>, AllocError> {
-    let mut txs = Vec::new(alloc);
-    put_sized(&mut txs, alloc, count, each)?;
-    put_sized(&mut txs, alloc, 1, last)?;
-    Ok(txs)
+) {
+    let tx = sized(rt, size.0, size.1);
+    for _ in 0..count {
+        let copy = tx.copy(rt.alloc()).expect(rt, "the copy has room");
+        txs.push(copy).expect(rt, "the copies have room");
+    }
 }
 
 /// A value of so many transactions of one size, and one more; a size is of bytes and tags.
-fn value_of(
-    alloc: Global,
+fn value_of<R: Abort + AllocGlobal>(
+    rt: &R,
     count: usize,
     each: (usize, usize),
     last: (usize, usize),
-) -> Result<Value, AllocError> {
-    let txs = txs_of(alloc, count, each, last)?;
-    Ok(Value {
-        txs: Shared::from_vec(alloc, txs)?,
-    })
-}
-
-/// Adds a body with one tag, of nines.
-fn put_with_tag(out: &mut Vec<u8>, body: &[u8]) -> Result<(), AllocError> {
-    out.extend_from_slice(body)?;
-    out.push(1)?;
-    out.extend_from_slice(&[9u8; 32])
+) -> Value {
+    let mut txs = Vec::new(rt.alloc());
+    put_sized(rt, &mut txs, count, each);
+    put_sized(rt, &mut txs, 1, last);
+    Value {
+        txs: Shared::from_vec(rt.alloc(), txs).expect(rt, "the value has room"),
+    }
 }
 
 /// A body with one tag, of nines.
-fn with_tag(alloc: Global, body: &[u8]) -> Result<Vec<u8>, AllocError> {
-    let mut bytes = Vec::new(alloc);
-    put_with_tag(&mut bytes, body)?;
-    Ok(bytes)
+fn with_tag<R: Abort + AllocGlobal>(rt: &R, body: &[u8]) -> Vec<u8> {
+    joined(rt, &[body, &[1], &[9; 32]])
 }
 
-/// What is so of the transaction that these bytes spell.
-fn of_spelled_tx<F: FnOnce(&Tx) -> Result<bool, Fault>>(
-    alloc: Global,
-    bytes: &[u8],
-    look: F,
-) -> Result<bool, Fault>
-    requires { F.IsAlwaysCallable look }
-{
-    let tx = read_tx(alloc, bytes)?;
-    look(&tx)
+/// The transaction of this body with one tag, of nines.
+fn tx_of<R: Abort + AllocGlobal>(rt: &R, body: &[u8]) -> Tx {
+    read_tx(rt.alloc(), &with_tag(rt, body)).expect(rt, "it is a transaction")
 }
 
-/// What is so of the transaction of this body with one tag, of nines.
-fn of_tx<F: FnOnce(&Tx) -> Result<bool, Fault>>(
-    alloc: Global,
-    body: &[u8],
-    look: F,
-) -> Result<bool, Fault>
-    requires { F.IsAlwaysCallable look }
-{
-    let bytes = with_tag(alloc, body)?;
-    of_spelled_tx(alloc, &bytes, look)
+/// The value that these bytes spell.
+fn value_read<R: Abort + AllocGlobal>(rt: &R, bytes: &[u8]) -> Value {
+    read_value(rt.alloc(), bytes).expect(rt, "it is a value")
 }
 
-/// What is so of the value that these bytes spell.
-fn of_value<F: FnOnce(&Value) -> Result<bool, Fault>>(
-    alloc: Global,
-    bytes: &[u8],
-    look: F,
-) -> Result<bool, Fault>
-    requires { F.IsAlwaysCallable look }
-{
-    let value = read_value(alloc, bytes)?;
-    look(&value)
+/// The empty value.
+fn empty<R: Abort + AllocGlobal>(rt: &R) -> Value {
+    value_read(rt, &[0, 0])
 }
 
 /// Why these bytes are no transaction.
-fn tx_fault(alloc: Global, bytes: &[u8]) -> Option<Fault> {
-    read_tx(alloc, bytes).err()
+fn tx_fault<R: Abort + AllocGlobal>(rt: &R, bytes: &[u8]) -> Option<Fault> {
+    read_tx(rt.alloc(), bytes).err()
 }
 
 /// Why these bytes are no value.
-fn value_fault(alloc: Global, bytes: &[u8]) -> Option<Fault> {
-    read_value(alloc, bytes).err()
+fn value_fault<R: Abort + AllocGlobal>(rt: &R, bytes: &[u8]) -> Option<Fault> {
+    read_value(rt.alloc(), bytes).err()
 }
 
-/// Whether the transaction's spelling is these bytes.
-fn is_spelling_of_tx(alloc: Global, bytes: &[u8], tx: &Tx) -> Result<bool, Fault> {
-    Ok(spell_tx(alloc, tx)?.as_slice() == bytes)
+/// The transaction's spelling is these bytes.
+fn assert_spelling_of_tx<R: Abort + AllocGlobal>(rt: &R, tx: &Tx, bytes: &[u8]) {
+    let found = spell_tx(rt.alloc(), tx).expect(rt, "it has a spelling");
+    assert_bytes(rt, &found, bytes);
 }
 
-/// Whether the transaction's spelling is this body with one tag, of nines.
-fn is_spelled_with_tag(alloc: Global, body: &[u8], tx: &Tx) -> Result<bool, Fault> {
-    let bytes = with_tag(alloc, body)?;
-    is_spelling_of_tx(alloc, &bytes, tx)
+/// The transaction's spelling is this body with one tag, of nines.
+fn assert_spelled_with_tag<R: Abort + AllocGlobal>(rt: &R, tx: &Tx, body: &[u8]) {
+    assert_spelling_of_tx(rt, tx, &with_tag(rt, body));
 }
 
-/// Whether the value's spelling is these bytes.
-fn is_spelling_of_value(alloc: Global, bytes: &[u8], value: &Value) -> Result<bool, Fault> {
-    Ok(spell_value(alloc, value)?.as_slice() == bytes)
+/// The value's spelling is these bytes.
+fn assert_spelling_of_value<R: Abort + AllocGlobal>(rt: &R, value: &Value, bytes: &[u8]) {
+    let found = spell_value(rt.alloc(), value).expect(rt, "it has a spelling");
+    assert_bytes(rt, &found, bytes);
+}
+
+/// A copy of the value.
+fn copied<R: Abort + AllocGlobal>(rt: &R, value: &Value) -> Value {
+    value.copy(rt.alloc()).expect(rt, "the copy has room")
 }
 
 /// Whether a copy of the value is the same value.
-fn is_same_as_its_copy(alloc: Global, value: &Value) -> Result<bool, Fault> {
-    Ok(same_value(value, &value.copy(alloc)?))
+fn is_same_as_its_copy<R: Abort + AllocGlobal>(rt: &R, value: &Value) -> bool {
+    same_value(value, &copied(rt, value))
 }
 
-/// Whether the value is empty, and has the spelling and the id of the empty one.
-fn is_empty_value(alloc: Global, value: &Value) -> Result<bool, Fault> {
-    Ok(
-        value.txs.len() == 0
-            && is_spelling_of_value(alloc, &[0, 0], value)?
-            && value_id(alloc, value)? == EMPTY_ID,
-    )
+/// The id of the value.
+fn id_of<R: Abort + AllocGlobal>(rt: &R, value: &Value) -> Id {
+    value_id(rt.alloc(), value).expect(rt, "it has an id")
 }
 
-/// Whether a copy of the value is empty.
-fn is_empty_copied(alloc: Global, value: &Value) -> Result<bool, Fault> {
-    let again = value.copy(alloc)?;
-    is_empty_value(alloc, &again)
+/// The value is empty, and has the spelling and the id of the empty one.
+fn assert_empty<R: Abort + AllocGlobal>(rt: &R, value: &Value) {
+    assert_same(rt, &value.txs.len(), &0);
+    assert_spelling_of_value(rt, value, &[0, 0]);
+    assert_bytes(rt, &id_of(rt, value), &EMPTY_ID);
 }
 
 #[test]
 fn empty_value(rt: HostRuntime) {
-    let alloc = rt.alloc();
-    assert_holds(
-        &rt,
-        of_value(alloc, &[0, 0], |value| is_empty_value(alloc, value)),
-    );
+    assert_empty(&rt, &empty(&rt));
 }
 
 #[test]
 fn copy_of_the_empty_value(rt: HostRuntime) {
-    let alloc = rt.alloc();
-    assert_holds(
-        &rt,
-        of_value(alloc, &[0, 0], |value| is_same_as_its_copy(alloc, value)),
-    );
-    assert_holds(
-        &rt,
-        of_value(alloc, &[0, 0], |value| is_empty_copied(alloc, value)),
-    );
+    let value = empty(&rt);
+    assert_same(&rt, &is_same_as_its_copy(&rt, &value), &true);
+    assert_empty(&rt, &copied(&rt, &value));
 }
 
 /// Whether this is client 7's transaction 1, which asks for the byte `a`, with one tag, of nines.
@@ -228,16 +186,9 @@ fn is_one_byte(tx: &Tx) -> bool {
 
 #[test]
 fn transaction_of_one_byte(rt: HostRuntime) {
-    let alloc = rt.alloc();
-    assert_holds(&rt, of_tx(alloc, &ONE_BYTE, |tx| Ok(is_one_byte(tx))));
-    assert_holds(
-        &rt,
-        of_tx(
-            alloc,
-            &ONE_BYTE,
-            |tx| is_spelled_with_tag(alloc, &ONE_BYTE, tx),
-        ),
-    );
+    let tx = tx_of(&rt, &ONE_BYTE);
+    assert_same(&rt, &is_one_byte(&tx), &true);
+    assert_spelled_with_tag(&rt, &tx, &ONE_BYTE);
 }
 
 /// Whether this is client 7's transaction 1 of session 1, which asks for the byte `b`, with one tag, of nines.
@@ -251,12 +202,9 @@ fn is_later(tx: &Tx) -> bool {
 
 #[test]
 fn transaction_of_a_later_session(rt: HostRuntime) {
-    let alloc = rt.alloc();
-    assert_holds(&rt, of_tx(alloc, &LATER, |tx| Ok(is_later(tx))));
-    assert_holds(
-        &rt,
-        of_tx(alloc, &LATER, |tx| is_spelled_with_tag(alloc, &LATER, tx)),
-    );
+    let tx = tx_of(&rt, &LATER);
+    assert_same(&rt, &is_later(&tx), &true);
+    assert_spelled_with_tag(&rt, &tx, &LATER);
 }
 
 /// Whether this is client 7's transaction 2, which is a close.
@@ -266,182 +214,106 @@ fn is_close(tx: &Tx) -> bool {
 
 #[test]
 fn closing_transaction(rt: HostRuntime) {
-    let alloc = rt.alloc();
-    assert_holds(&rt, of_tx(alloc, &CLOSE, |tx| Ok(is_close(tx))));
-    assert_holds(
-        &rt,
-        of_tx(alloc, &CLOSE, |tx| is_spelled_with_tag(alloc, &CLOSE, tx)),
-    );
-}
-
-/// The transaction of this body with one tag, of nines, and a byte behind it.
-fn read_longer(alloc: Global, body: &[u8]) -> Result<Tx, Fault> {
-    let mut bytes = with_tag(alloc, body)?;
-    bytes.push(0)?;
-    read_tx(alloc, &bytes)
+    let tx = tx_of(&rt, &CLOSE);
+    assert_same(&rt, &is_close(&tx), &true);
+    assert_spelled_with_tag(&rt, &tx, &CLOSE);
 }
 
 #[test]
 fn byte_after_a_transaction(rt: HostRuntime) {
-    assert_fault(
-        &rt,
-        read_longer(rt.alloc(), &CLOSE).err(),
-        Fault::BadSpelling,
-    );
+    let bytes = joined(&rt, &[&with_tag(&rt, &CLOSE), &[0]]);
+    assert_fault(&rt, tx_fault(&rt, &bytes), Fault::BadSpelling);
 }
 
 /// The spelling of the value of the two transactions.
-fn spelling_of_two(alloc: Global) -> Result<Vec<u8>, AllocError> {
-    let mut bytes = Vec::new(alloc);
-    bytes.extend_from_slice(&[0, 2])?;
-    put_with_tag(&mut bytes, &ONE_BYTE)?;
-    put_with_tag(&mut bytes, &CLOSE)?;
-    Ok(bytes)
-}
-
-/// What is so of the value of the two transactions.
-fn of_two<F: FnOnce(&Value) -> Result<bool, Fault>>(alloc: Global, look: F) -> Result<bool, Fault>
-    requires { F.IsAlwaysCallable look }
-{
-    let bytes = spelling_of_two(alloc)?;
-    of_value(alloc, &bytes, look)
-}
-
-/// Whether the value is spelled as that of the two transactions.
-fn is_spelled_as_two(alloc: Global, value: &Value) -> Result<bool, Fault> {
-    let bytes = spelling_of_two(alloc)?;
-    is_spelling_of_value(alloc, &bytes, value)
+fn spelling_of_two<R: Abort + AllocGlobal>(rt: &R) -> Vec<u8> {
+    joined(
+        rt,
+        &[&[0, 2], &with_tag(rt, &ONE_BYTE), &with_tag(rt, &CLOSE)],
+    )
 }
 
 #[test]
 fn value_of_two(rt: HostRuntime) {
-    let alloc = rt.alloc();
-    assert_holds(&rt, of_two(alloc, |value| Ok(value.txs.len() == 2)));
-    assert_holds(&rt, of_two(alloc, |value| is_spelled_as_two(alloc, value)));
-}
-
-/// Whether the value is another than the empty one.
-fn is_not_empty(alloc: Global, value: &Value) -> Result<bool, Fault> {
-    Ok(!same_value(value, &read_value(alloc, &[0, 0])?))
+    let bytes = spelling_of_two(&rt);
+    let value = value_read(&rt, &bytes);
+    assert_same(&rt, &value.txs.len(), &2);
+    assert_spelling_of_value(&rt, &value, &bytes);
 }
 
 #[test]
 fn value_of_two_is_compared(rt: HostRuntime) {
-    let alloc = rt.alloc();
-    assert_holds(
-        &rt,
-        of_two(alloc, |value| is_same_as_its_copy(alloc, value)),
-    );
-    assert_holds(&rt, of_two(alloc, |value| is_not_empty(alloc, value)));
+    let value = value_read(&rt, &spelling_of_two(&rt));
+    assert_same(&rt, &is_same_as_its_copy(&rt, &value), &true);
+    assert_same(&rt, &same_value(&value, &empty(&rt)), &false);
 }
 
-/// Whether each beginning of the bytes is too short for a transaction.
-fn are_short_for_tx(alloc: Global, bytes: &[u8]) -> bool {
+/// Each beginning of the bytes is too short for a transaction.
+fn assert_short_for_tx<R: Abort + AllocGlobal>(rt: &R, bytes: &[u8]) {
     for cut in 0..bytes.len() {
-        if tx_fault(alloc, &bytes[..cut]) != Some(Fault::Truncated) {
-            return false;
-        }
+        assert_fault(rt, tx_fault(rt, &bytes[..cut]), Fault::Truncated);
     }
-    true
 }
 
-/// Whether each beginning of the bytes is too short for a value.
-fn are_short_for_value(alloc: Global, bytes: &[u8]) -> bool {
+/// Each beginning of the bytes is too short for a value.
+fn assert_short_for_value<R: Abort + AllocGlobal>(rt: &R, bytes: &[u8]) {
     for cut in 0..bytes.len() {
-        if value_fault(alloc, &bytes[..cut]) != Some(Fault::Truncated) {
-            return false;
-        }
+        assert_fault(rt, value_fault(rt, &bytes[..cut]), Fault::Truncated);
     }
-    true
-}
-
-/// Whether each beginning of this body with one tag is too short for a transaction.
-fn are_short_with_tag(alloc: Global, body: &[u8]) -> Result<bool, Fault> {
-    let bytes = with_tag(alloc, body)?;
-    Ok(are_short_for_tx(alloc, &bytes))
 }
 
 #[test]
 fn beginnings_of_transactions_are_truncated(rt: HostRuntime) {
-    assert_holds(&rt, are_short_with_tag(rt.alloc(), &ONE_BYTE));
-    assert_holds(&rt, are_short_with_tag(rt.alloc(), &CLOSE));
-    assert_holds(&rt, are_short_with_tag(rt.alloc(), &LATER));
-}
-
-/// Whether each beginning of the two transactions is too short for a value.
-fn are_short_for_two(alloc: Global) -> Result<bool, Fault> {
-    let bytes = spelling_of_two(alloc)?;
-    Ok(are_short_for_value(alloc, &bytes))
+    assert_short_for_tx(&rt, &with_tag(&rt, &ONE_BYTE));
+    assert_short_for_tx(&rt, &with_tag(&rt, &CLOSE));
+    assert_short_for_tx(&rt, &with_tag(&rt, &LATER));
 }
 
 #[test]
 fn beginnings_of_values_are_truncated(rt: HostRuntime) {
-    assert_holds(&rt, are_short_for_two(rt.alloc()));
-    assert!(rt; are_short_for_value(rt.alloc(), &[0, 0]));
+    assert_short_for_value(&rt, &spelling_of_two(&rt));
+    assert_short_for_value(&rt, &[0, 0]);
 }
 
-/// Whether the fault has this number and this text.
-fn is_told(alloc: Global, fault: Fault, number: u8, text: &str) -> Result<bool, Fault> {
-    Ok(fault as u8 == number && fault.to_string(alloc)?.as_str() == text)
-}
-
-/// Whether each fault has its number and its text.
-fn are_told(alloc: Global, told: &[(Fault, u8, &str)]) -> Result<bool, Fault> {
-    for (fault, number, text) in told {
-        if !is_told(alloc, *fault, *number, text)? {
-            return Ok(false);
-        }
-    }
-    Ok(true)
+/// The fault has this number and this text.
+fn assert_told<R: Abort + AllocGlobal>(rt: &R, fault: Fault, number: u8, text: &str) {
+    assert_same(rt, &(fault as u8), &number);
+    let found = fault.to_string(rt.alloc()).expect(rt, "the text has room");
+    assert_bytes(rt, found.as_bytes(), text.as_bytes());
 }
 
 #[test]
 fn messages_of_faults(rt: HostRuntime) {
-    let told = &[
-        (Fault::Truncated, 1, "the bytes end within a field"),
-        (
-            Fault::TooLong,
-            2,
-            "a count, a length or a total is above its limit",
-        ),
-        (Fault::BadSpelling, 3, "a field is outside its range"),
-        (Fault::OutOfMemory, 4, "out of memory"),
-        (Fault::BadKind, 5, "no such kind of message"),
-    ];
-    assert_holds(&rt, are_told(rt.alloc(), told));
+    assert_told(&rt, Fault::Truncated, 1, "the bytes end within a field");
+    assert_told(
+        &rt,
+        Fault::TooLong,
+        2,
+        "a count, a length or a total is above its limit",
+    );
+    assert_told(&rt, Fault::BadSpelling, 3, "a field is outside its range");
+    assert_told(&rt, Fault::OutOfMemory, 4, "out of memory");
+    assert_told(&rt, Fault::BadKind, 5, "no such kind of message");
 }
 
 /// The empty value with its id.
-fn named_empty_value(alloc: Global) -> Result<Named, Fault> {
-    let value = read_value(alloc, &[0, 0])?;
-    let id = value_id(alloc, &value)?;
-    Ok(Named::new(value, id))
+fn named_empty_value<R: Abort + AllocGlobal>(rt: &R) -> Named {
+    let value = empty(rt);
+    let id = value_id(rt.alloc(), &value).expect(rt, "it has an id");
+    Named::new(value, id)
 }
 
-/// Whether this is the empty value with its id.
-fn is_named_empty(named: &Named) -> bool {
-    named.value().txs.len() == 0 && named.id() == EMPTY_ID
-}
-
-/// Whether a copy is the empty value with its id.
-fn is_named_empty_copied(alloc: Global, named: &Named) -> Result<bool, Fault> {
-    let again = named.copy(alloc)?;
-    Ok(is_named_empty(&again))
-}
-
-/// How many transactions the empty value has, taken from its id.
-fn len_of_unnamed(alloc: Global) -> Result<usize, Fault> {
-    Ok(named_empty_value(alloc)?.into_value().txs.len())
-}
-
-/// Whether the empty value has its id, and its copy too.
-fn empty_is_named(alloc: Global) -> Result<bool, Fault> {
-    let named = named_empty_value(alloc)?;
-    Ok(is_named_empty(&named) && is_named_empty_copied(alloc, &named)?)
+/// This is the empty value with its id.
+fn assert_named_empty<R: Abort + AllocGlobal>(rt: &R, named: &Named) {
+    assert_same(rt, &named.value().txs.len(), &0);
+    assert_bytes(rt, &named.id(), &EMPTY_ID);
 }
 
 #[test]
 fn value_with_its_id(rt: HostRuntime) {
-    assert_holds(&rt, empty_is_named(rt.alloc()));
-    assert!(rt; len_of_unnamed(rt.alloc()) == Ok(0));
+    let named = named_empty_value(&rt);
+    assert_named_empty(&rt, &named);
+    let again = named.copy(rt.alloc()).expect(&rt, "the copy has room");
+    assert_named_empty(&rt, &again);
+    assert_same(&rt, &named.into_value().txs.len(), &0);
 }

@@ -6,8 +6,15 @@ mod worlds;
 
 use powers::Powers;
 use std::alloc::Global;
+use std::fmt::Debug;
+use std::process::Abort;
 use std::test::Fail;
 use world_schedule::{Event, Report, World};
+
+/// Ends the test where what was found is not what is wanted, and shows both.
+fn assert_same<R: Abort, T: PartialEq + Debug>(rt: &R, found: &T, wanted: &T) {
+    assert_eq!(rt; found, wanted);
+}
 
 /// Four validators, of whom these lie, and eight clients.
 fn world(alloc: Global, liars: &[u16]) -> Result<World, Fail> {

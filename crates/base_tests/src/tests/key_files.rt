@@ -18,15 +18,8 @@ const THREE_LINES: &str = "v0 v0 K\nv1 v0 K\nv0 v1 L\n";
 
 /// The text with a key of ones for each `K`, and one of twos for each `L`.
 fn with_keys(alloc: Global, text: &str) -> Result<String, AllocError> {
-    let mut keys = String::new(alloc);
-    for letter in text.chars() {
-        match letter {
-            'K' => keys.push_str(ONES)?,
-            'L' => keys.push_str(TWOS)?,
-            _ => keys.push(letter)?,
-        }
-    }
-    Ok(keys)
+    let ones = text.replace(alloc, 'K', ONES)?;
+    ones.replace(alloc, 'L', TWOS)
 }
 
 /// What a text gives to a party; `K` stands for a key of ones in it, and `L` for one of twos.

@@ -1,5 +1,6 @@
 //! The numbers and the texts of the refusals.
 
+use super::assert_same;
 use protocol::{JudgeFault, Refusal, SubmitFault};
 use std::alloc::{AllocError, Global};
 use std::process::Abort;
@@ -35,11 +36,12 @@ const NUMBERS: [(Refusal, u8, u8); 27] = [
     (Refusal::JournalFailed, 17, 0),
 ];
 
+/// Each refusal has its number, and its inner fault has its own.
 fn assert_numbers(rt: &impl Abort, numbers: &[(Refusal, u8, u8)]) {
     for row in numbers {
         let (refusal, number, inner) = *row;
-        assert_eq!(rt; refusal.number(), number);
-        assert_eq!(rt; refusal.inner(), inner);
+        assert_same(rt, &refusal.number(), &number);
+        assert_same(rt, &refusal.inner(), &inner);
     }
 }
 

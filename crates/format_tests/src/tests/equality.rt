@@ -1,9 +1,10 @@
 //! Votes and proposals that agree, and that differ in one field.
 
-use super::{assert_holds, value_of};
+use super::value_of;
 use messages::{Proposal, Step, Vote, same_proposal, same_vote};
-use std::alloc::{AllocError, Global};
-use transactions::{Duplicate, Fault};
+use std::alloc::Global;
+use std::process::Abort;
+use transactions::Duplicate;
 
 /// A prevote with a value.
 const VOTE: Vote = Vote {
@@ -42,98 +43,74 @@ fn votes_that_differ(rt: HostRuntime) {
 }
 
 /// A proposal of a value of so many transactions.
-fn proposal_of(alloc: Global, txs: usize) -> Result<Proposal, AllocError> {
-    Ok(Proposal {
+fn proposal_of(rt: &impl Abort, alloc: Global, txs: usize) -> Proposal {
+    Proposal {
         height: 1,
         round: 2,
         sender: 3,
         valid_round: Some(1),
-        value: value_of(alloc, txs)?,
-    })
+        value: value_of(rt, alloc, txs),
+    }
 }
 
-/// Whether a proposal agrees with its copy.
-fn same_as_copy(alloc: Global, proposal: &Proposal) -> Result<bool, Fault> {
-    let again = proposal.copy(alloc)?;
-    Ok(same_proposal(proposal, &again))
-}
-
-/// Whether a proposal agrees with one of a value of so many transactions.
-fn same_as_of(alloc: Global, proposal: &Proposal, txs: usize) -> Result<bool, Fault> {
-    let other = proposal_of(alloc, txs)?;
-    Ok(same_proposal(proposal, &other))
+/// A proposal agrees with its copy.
+fn assert_same_as_copy(rt: &impl Abort, alloc: Global, proposal: &Proposal) {
+    let again = proposal.copy(alloc).expect(rt, "the copy has room");
+    assert!(rt; same_proposal(proposal, &again));
 }
 
 /// The fields of a proposal beside its value: height, round, sender and valid round.
 type Fields = (u64, u32, u16, Option<u32>);
 
-/// Whether a proposal agrees with one of the same value that has these fields.
-fn same_with(alloc: Global, proposal: &Proposal, fields: &Fields) -> Result<bool, Fault> {
-    let other = Proposal {
+/// A proposal of the same value that has these fields.
+fn with_fields(rt: &impl Abort, alloc: Global, proposal: &Proposal, fields: &Fields) -> Proposal {
+    Proposal {
         height: fields.0,
         round: fields.1,
         sender: fields.2,
         valid_round: fields.3,
-        value: proposal.value.copy(alloc)?,
-    };
-    Ok(same_proposal(proposal, &other))
-}
-
-/// Whether a proposal agrees with none that has the same value and some of these fields.
-fn differs_with_each(alloc: Global, proposal: &Proposal, others: &[Fields]) -> Result<bool, Fault> {
-    for fields in others {
-        if same_with(alloc, proposal, fields)? {
-            return Ok(false);
-        }
+        value: proposal.value.copy(alloc).expect(rt, "the copy has room"),
     }
-    Ok(true)
 }
 
-/// What is so of a proposal of a value of one transaction.
-fn of_proposal<F: FnOnce(&Proposal) -> Result<bool, Fault>>(
-    alloc: Global,
-    look: F,
-) -> Result<bool, Fault>
-    requires { F.IsAlwaysCallable look }
-{
-    let proposal = proposal_of(alloc, 1)?;
-    look(&proposal)
+/// Whether a proposal agrees with one of the same value that has these fields.
+fn is_same_with(rt: &impl Abort, alloc: Global, proposal: &Proposal, fields: &Fields) -> bool {
+    same_proposal(proposal, &with_fields(rt, alloc, proposal, fields))
+}
+
+/// A proposal agrees with none that has the same value and some of these fields.
+fn assert_differs(rt: &impl Abort, alloc: Global, proposal: &Proposal, others: &[Fields]) {
+    for fields in others {
+        assert!(rt;
+            !is_same_with(rt, alloc, proposal, fields),
+            "with {fields:?}"
+        );
+    }
 }
 
 #[test]
 fn proposals_that_agree(rt: HostRuntime) {
-    let alloc = rt.alloc();
-    assert_holds(
-        &rt,
-        of_proposal(alloc, |proposal| same_as_copy(alloc, proposal)),
-    );
+    let proposal = proposal_of(&rt, rt.alloc(), 1);
+    assert_same_as_copy(&rt, rt.alloc(), &proposal);
     let same = &(1, 2, 3, Some(1));
-    assert_holds(
-        &rt,
-        of_proposal(alloc, |proposal| same_with(alloc, proposal, same)),
-    );
+    assert!(&rt; is_same_with(&rt, rt.alloc(), &proposal, same));
 }
 
 #[test]
 fn proposals_that_differ(rt: HostRuntime) {
-    let alloc = rt.alloc();
     let others = &[
         (2, 2, 3, Some(1)),
         (1, 3, 3, Some(1)),
         (1, 2, 4, Some(1)),
         (1, 2, 3, None),
     ];
-    assert_holds(
-        &rt,
-        of_proposal(alloc, |proposal| differs_with_each(alloc, proposal, others)),
-    );
+    let proposal = proposal_of(&rt, rt.alloc(), 1);
+    assert_differs(&rt, rt.alloc(), &proposal, others);
 }
 
 #[test]
 fn proposals_of_two_values_differ(rt: HostRuntime) {
-    let alloc = rt.alloc();
-    assert_holds(
-        &rt,
-        of_proposal(alloc, |proposal| Ok(!same_as_of(alloc, proposal, 0)?)),
-    );
+    let proposal = proposal_of(&rt, rt.alloc(), 1);
+    let other = proposal_of(&rt, rt.alloc(), 0);
+    assert!(&rt; !same_proposal(&proposal, &other));
 }

@@ -1,11 +1,11 @@
 //! Bytes that spell no body, and bodies without a spelling.
 
 use super::{
-    BUNDLE_FRONT, PREVOTE, VECTORS, assert_fault, assert_holds, nines, of_body, spelled_bundle,
-    there_and_back, value_of,
+    BUNDLE_FRONT, PREVOTE, VECTORS, assert_fault, assert_there_and_back, body_of, nines,
+    spelled_bundle, value_of,
 };
 use messages::{Body, Proposal, read_body, spell_body};
-use std::alloc::{AllocError, Global};
+use std::alloc::Global;
 use std::process::Abort;
 use transactions::{Fault, Op, Tx};
 
@@ -33,24 +33,25 @@ fn beginnings_are_truncated(rt: HostRuntime) {
 }
 
 #[test]
-fn beginnings_of_a_bundle_are_truncated(rt: HostRuntime) -> Result<(), Fault> {
-    let bytes = spelled_bundle(rt.alloc(), 0, 2, 1)?;
+fn beginnings_of_a_bundle_are_truncated(rt: HostRuntime) {
+    let bytes = spelled_bundle(&rt, rt.alloc(), 0, 2, 1).expect(&rt, "it has a spelling");
     assert_beginnings_truncated(&rt, rt.alloc(), &bytes);
-    Ok(())
 }
 
 /// The fault at these bytes with these behind them.
-fn fault_behind(alloc: Global, front: &[u8], behind: &[u8]) -> Result<Option<Fault>, AllocError> {
-    let mut bytes = front.to_vec(alloc)?;
-    bytes.extend_from_slice(behind)?;
-    Ok(body_fault(alloc, &bytes))
+fn fault_behind(rt: &impl Abort, alloc: Global, front: &[u8], behind: &[u8]) -> Option<Fault> {
+    let mut bytes = front.to_vec(alloc).expect(rt, "the bytes have room");
+    bytes
+        .extend_from_slice(behind)
+        .expect(rt, "those behind them have room");
+    body_fault(alloc, &bytes)
 }
 
 /// Bytes behind others make this fault.
 fn assert_fault_behind(rt: &impl Abort, alloc: Global, front: &[u8], behind: &[u8], fault: Fault) {
     assert_eq!(rt;
-        fault_behind(alloc, front, behind),
-        Ok(Some(fault)),
+        fault_behind(rt, alloc, front, behind),
+        Some(fault),
         "{behind:?} behind {front:?}"
     );
 }
@@ -96,16 +97,13 @@ fn counts_of_precommits(rt: HostRuntime) {
     assert_fault_behind(&rt, rt.alloc(), &BUNDLE_FRONT, &[128], Fault::Truncated);
 }
 
-/// Whether a bundle without precommits is read, and spelled so.
-fn bundle_of_none(alloc: Global) -> Result<bool, Fault> {
-    let mut bytes = BUNDLE_FRONT.to_vec(alloc)?;
-    bytes.push(0)?;
-    there_and_back(alloc, &bytes)
-}
-
 #[test]
 fn bundle_without_precommits(rt: HostRuntime) {
-    assert_holds(&rt, bundle_of_none(rt.alloc()));
+    let mut bytes = BUNDLE_FRONT
+        .to_vec(rt.alloc())
+        .expect(&rt, "the bytes have room");
+    bytes.push(0).expect(&rt, "the count has room");
+    assert_there_and_back(&rt, rt.alloc(), &bytes);
 }
 
 #[test]
@@ -130,7 +128,7 @@ fn tags_of_precommits(rt: HostRuntime) {
 fn assert_no_bundles(rt: &impl Abort, alloc: Global, cases: &[(usize, usize, usize, Fault)]) {
     for (txs, precommits, tags, fault) in cases {
         assert_eq!(rt;
-            spelled_bundle(alloc, *txs, *precommits, *tags).err(),
+            spelled_bundle(rt, alloc, *txs, *precommits, *tags).err(),
             Some(*fault),
             "{txs} transactions, {precommits} precommits, {tags} tags"
         );
@@ -151,20 +149,23 @@ fn bundles_without_spelling(rt: HostRuntime) {
 }
 
 /// A proposal of the empty value with this valid round.
-fn proposal_of(alloc: Global, valid_round: Option<u32>) -> Result<Body, AllocError> {
-    Ok(Body::Proposal(Proposal {
+fn proposal_of(rt: &impl Abort, alloc: Global, valid_round: Option<u32>) -> Proposal {
+    Proposal {
         height: 1,
         round: 2,
         sender: 3,
         valid_round,
-        value: value_of(alloc, 0)?,
-    }))
+        value: value_of(rt, alloc, 0),
+    }
 }
 
 /// Its spelling.
-fn proposal_with(alloc: Global, valid_round: Option<u32>) -> Result<Vec<u8>, Fault> {
-    let body = proposal_of(alloc, valid_round)?;
-    spell_body(alloc, &body)
+fn proposal_with(
+    rt: &impl Abort,
+    alloc: Global,
+    valid_round: Option<u32>,
+) -> Result<Vec<u8>, Fault> {
+    spell_body(alloc, &Body::Proposal(proposal_of(rt, alloc, valid_round)))
 }
 
 /// Whether the body is a proposal with this valid round.
@@ -172,49 +173,56 @@ fn has_valid_round(body: &Body, valid_round: Option<u32>) -> bool {
     matches!(body, Body::Proposal(proposal) if proposal.valid_round == valid_round)
 }
 
-/// Whether a proposal with this valid round is read with it again.
-fn valid_round_is_read(alloc: Global, valid_round: Option<u32>) -> Result<bool, Fault> {
-    let bytes = proposal_with(alloc, valid_round)?;
-    of_body(alloc, &bytes, |body| Ok(has_valid_round(body, valid_round)))
+/// These bytes spell a proposal with this valid round.
+fn assert_valid_round(rt: &impl Abort, alloc: Global, bytes: &[u8], valid_round: Option<u32>) {
+    let body = body_of(rt, alloc, bytes);
+    assert!(rt; has_valid_round(&body, valid_round), "{valid_round:?}");
+}
+
+/// A proposal with this valid round is read with it again.
+fn assert_valid_round_is_read(rt: &impl Abort, alloc: Global, valid_round: Option<u32>) {
+    let bytes = proposal_with(rt, alloc, valid_round).expect(rt, "it has a spelling");
+    assert_valid_round(rt, alloc, &bytes, valid_round);
 }
 
 #[test]
 fn valid_rounds(rt: HostRuntime) {
-    assert_holds(&rt, valid_round_is_read(rt.alloc(), None));
-    assert_holds(&rt, valid_round_is_read(rt.alloc(), Some(0)));
-    assert_holds(&rt, valid_round_is_read(rt.alloc(), Some(u32::MAX - 1)));
-    let too_late = proposal_with(rt.alloc(), Some(u32::MAX)).err();
+    for valid_round in [None, Some(0), Some(u32::MAX - 1)] {
+        assert_valid_round_is_read(&rt, rt.alloc(), valid_round);
+    }
+    let too_late = proposal_with(&rt, rt.alloc(), Some(u32::MAX)).err();
     assert_fault(&rt, too_late, Fault::BadSpelling);
 }
 
 /// A close of this client, with this number and so many tags.
-fn close_of(alloc: Global, client: u16, number: u64, tags: usize) -> Result<Body, AllocError> {
-    Ok(Body::Tx(Tx {
+fn close_of(rt: &impl Abort, alloc: Global, client: u16, number: u64, tags: usize) -> Tx {
+    Tx {
         client,
         session: 0,
         number,
         op: Op::Close,
-        tags: nines(alloc, tags)?,
-    }))
+        tags: nines(rt, alloc, tags),
+    }
 }
 
 /// The fault at spelling a close of this client, with this number and so many tags.
 fn fault_of_close(
+    rt: &impl Abort,
     alloc: Global,
     client: u16,
     number: u64,
     tags: usize,
-) -> Result<Option<Fault>, AllocError> {
-    let body = close_of(alloc, client, number, tags)?;
-    Ok(spell_body(alloc, &body).err())
+) -> Option<Fault> {
+    let body = Body::Tx(close_of(rt, alloc, client, number, tags));
+    spell_body(alloc, &body).err()
 }
 
 /// Closes of these clients, with these numbers and so many tags, have a spelling, or none for this cause.
 fn assert_closes(rt: &impl Abort, alloc: Global, cases: &[(u16, u64, usize, Option<Fault>)]) {
     for (client, number, tags, fault) in cases {
         assert_eq!(rt;
-            fault_of_close(alloc, *client, *number, *tags),
-            Ok(*fault),
+            fault_of_close(rt, alloc, *client, *number, *tags),
+            *fault,
             "client {client}, number {number}, {tags} tags"
         );
     }

@@ -1,6 +1,6 @@
 //! Frames out of streams that are cut in any way.
 
-use super::frames::of_frame;
+use super::frames::frame_of_four;
 use super::{assert_fault, assert_holds};
 use messages::FrameReader;
 use std::alloc::Global;
@@ -88,11 +88,8 @@ fn with_reply_cut_anywhere(alloc: Global, frame: &[u8]) -> Result<bool, Fault> {
 
 #[test]
 fn cut_at_each_place(rt: HostRuntime) {
-    let alloc = rt.alloc();
-    assert_holds(
-        &rt,
-        of_frame(alloc, |frame| with_reply_cut_anywhere(alloc, frame)),
-    );
+    let frame = frame_of_four(&rt, rt.alloc());
+    assert_holds(&rt, with_reply_cut_anywhere(rt.alloc(), &frame));
 }
 
 /// Two frames, and the beginning of a third.

@@ -2,13 +2,13 @@
 
 ghost use Rattle.std.specs.Prelude.{◌≡◌};
 
-use super::refused_save;
+use super::journals::{joined, powers};
+use super::{assert_bytes, assert_same, refused_save};
 use journal_file::{FileFault, FileStore};
 use powers::Powers;
 use protocol::{Act, OwnMessage, Record};
-use std::alloc::Global;
-use std::fs;
-use std::test::Fail;
+use std::fs::{self, File, Files};
+use std::process::Abort;
 use vote_journal::{Journal, Store};
 
 const FOLDER: &str = "journal_file_test";
@@ -25,6 +25,7 @@ const BYTES: [u8; 55] = [
     0, 0, 0, 0, 0, 0, 2, 0, 0, 0, 0, 0x11, 1, 0x11, 0, 0, 0, 0, 0, 0, 0, 0, 0, 0, 0, 1, 0, 2, 0,
 ];
 
+/// The record of a prevote for nil.
 fn prevote(round: u32) -> Record {
     Record::Own(OwnMessage {
         height: 0,
@@ -33,46 +34,48 @@ fn prevote(round: u32) -> Record {
     })
 }
 
-fn powers(rt: &HostRuntime) -> Result<Powers, Fail> {
-    Ok(Powers::new(vec![in rt.alloc(); 1, 1, 1, 1]?)?)
-}
-
 /// How many own messages the file's journal has, once it is opened.
-fn count(rt: &HostRuntime, powers: &Powers) -> Result<usize, Fail> {
-    match Journal::open(rt.alloc(), FileStore::open(rt, PATH)?, 2, powers) {
-        Ok(opened) => Ok(opened.own.len()),
-        Err(refused) => Err(refused.fault.into()),
+fn count<R: Abort + AllocGlobal + Files<File = File>>(rt: &R, powers: &Powers) -> usize {
+    match Journal::open(rt.alloc(), store_at(rt, PATH), 2, powers) {
+        Ok(opened) => opened.own.len(),
+        Err(_) => rt.panic("not opened"),
     }
 }
 
-/// Saves a prevote in an open journal. Answers whether that is done.
-fn saves(alloc: Global, journal: &mut Journal<FileStore>, round: u32) -> Result<bool, Fail>
+/// The store in this file.
+fn store_at<R: Abort + AllocGlobal + Files<File = File>>(rt: &R, path: &str) -> FileStore {
+    FileStore::open(rt, path).expect(rt, "the file is free")
+}
+
+/// Saves a prevote in an open journal.
+fn assert_saved<R: Abort + AllocGlobal + Files<File = File>>(
+    rt: &R,
+    journal: &mut Journal<FileStore>,
+    round: u32,
+)
     requires { journal.old.me ≡ 2 }
     ensures { journal.new.me ≡ 2 }
 {
-    if journal.has_failed() {
-        return Ok(false);
-    }
-    Ok(refused_save(alloc, journal, prevote(round))?.is_none())
+    assert!(rt; !journal.has_failed());
+    assert_same(rt, &refused_save(rt, journal, prevote(round)), &None);
 }
 
-/// Whether two prevotes are saved in an empty file.
-fn saves_both(rt: &HostRuntime) -> Result<bool, Fail> {
-    match Journal::open(rt.alloc(), FileStore::open(rt, PATH)?, 2, &powers(rt)?) {
+/// Two prevotes are saved in an empty file.
+fn assert_both_saved<R: Abort + AllocGlobal + Files<File = File>>(rt: &R) {
+    match Journal::open(rt.alloc(), store_at(rt, PATH), 2, &powers(rt)) {
         Ok(opened) => {
             let mut journal = opened.journal;
-            let first = saves(rt.alloc(), &mut journal, 0)?;
-            let second = saves(rt.alloc(), &mut journal, 1)?;
-            Ok(first && second)
+            assert_saved(rt, &mut journal, 0);
+            assert_saved(rt, &mut journal, 1);
         }
-        Err(refused) => Err(refused.fault.into()),
+        Err(_) => rt.panic("not opened"),
     }
 }
 
-/// Whether the file holds these bytes.
-fn holds(rt: &HostRuntime, bytes: &[u8]) -> Result<bool, Fail> {
-    let found = fs::read(rt, PATH)?;
-    Ok(found.as_slice() == bytes)
+/// The file holds these bytes.
+fn assert_held<R: Abort + AllocGlobal + Files<File = File>>(rt: &R, bytes: &[u8]) {
+    let found = fs::read(rt, PATH).expect(rt, "the file is read");
+    assert_bytes(rt, &found, bytes);
 }
 
 /// How many records are whole in so many bytes.
@@ -80,87 +83,123 @@ fn whole_records(len: usize) -> usize {
     len.saturating_sub(13) / 21
 }
 
-/// Whether the first bytes, so many, open with the records that are whole in them, and just these are kept.
-fn opens_cut(rt: &HostRuntime, powers: &Powers, len: usize) -> Result<bool, Fail> {
+/// The bytes of a file open with so many own messages, and just these bytes are kept.
+fn assert_opens<R: Abort + AllocGlobal + Files<File = File>>(
+    rt: &R,
+    powers: &Powers,
+    bytes: &[u8],
+    own: usize,
+    kept: &[u8],
+) {
+    fs::write(rt, PATH, bytes).expect(rt, "the file is written");
+    assert_same(rt, &count(rt, powers), &own);
+    assert_held(rt, kept);
+}
+
+/// The first bytes, so many, open with the records that are whole in them, and just these are kept.
+fn assert_opens_cut<R: Abort + AllocGlobal + Files<File = File>>(
+    rt: &R,
+    powers: &Powers,
+    len: usize,
+) {
     let whole = whole_records(len);
     let kept = whole.saturating_mul(21).saturating_add(13);
-    fs::write(rt, PATH, &BYTES[..len.min(55)])?;
-    Ok(count(rt, powers)? == whole && holds(rt, &BYTES[..kept.min(55)])?)
+    assert_opens(
+        rt,
+        powers,
+        &BYTES[..len.min(55)],
+        whole,
+        &BYTES[..kept.min(55)],
+    );
 }
 
-fn opens_cut_anywhere(rt: &HostRuntime) -> Result<bool, Fail> {
-    let powers = powers(rt)?;
+/// The file opens wherever it is cut.
+fn assert_opens_cut_anywhere<R: Abort + AllocGlobal + Files<File = File>>(rt: &R, powers: &Powers) {
     for len in 0..56 {
-        if !opens_cut(rt, &powers, len)? {
-            return Ok(false);
-        }
+        assert_opens_cut(rt, powers, len);
     }
-    Ok(true)
 }
 
-/// Whether a file of the two records without a mark, which may be cut short, opens with both, and has it then.
-fn old_file_is_marked(rt: &HostRuntime) -> Result<bool, Fail> {
-    let powers = powers(rt)?;
-    let mut wanted = BYTES[..4].to_vec(rt.alloc())?;
-    wanted.extend_from_slice(&BYTES[13..])?;
-    wanted.extend_from_slice(&BYTES[4..13])?;
+/// A file of the two records without a mark, which may be cut short, opens with both, and has it then.
+fn assert_old_file_is_marked<R: Abort + AllocGlobal + Files<File = File>>(rt: &R, powers: &Powers) {
+    let wanted = joined(rt, &[&BYTES[..4], &BYTES[13..], &BYTES[4..13]]);
     for len in 46..56 {
-        fs::write(rt, PATH, &wanted[..len.min(wanted.len())])?;
-        if count(rt, &powers)? != 2 || !holds(rt, &wanted)? {
-            return Ok(false);
-        }
+        let cut = wanted.get(..len).expect(rt, "there are 55 bytes");
+        assert_opens(rt, powers, cut, 2, &wanted);
     }
-    Ok(true)
 }
 
-fn begin(rt: &HostRuntime, folder: &str) -> Result<(), Fail> {
+/// Makes the folder anew.
+fn begin<R: Abort + AllocGlobal + Files<File = File>>(rt: &R, folder: &str) {
     let _ = fs::remove_dir_all(rt, folder);
-    fs::create_dir(rt, folder)?;
-    Ok(())
+    fs::create_dir(rt, folder).expect(rt, "the folder is made");
 }
 
-fn is_unusable(rt: &HostRuntime, path: &str) -> bool {
+/// Removes the folder.
+fn end<R: Abort + AllocGlobal + Files<File = File>>(rt: &R, folder: &str) {
+    fs::remove_dir_all(rt, folder).expect(rt, "the folder is removed");
+}
+
+/// Whether no store can be opened at this path.
+fn is_unusable<R: Abort + AllocGlobal + Files<File = File>>(rt: &R, path: &str) -> bool {
     matches!(FileStore::open(rt, path), Err(FileFault::Unusable(_)))
 }
 
-fn is_busy(rt: &HostRuntime, path: &str) -> bool {
+/// Whether another store holds the file.
+fn is_busy<R: Abort + AllocGlobal + Files<File = File>>(rt: &R, path: &str) -> bool {
     matches!(FileStore::open(rt, path), Err(FileFault::Busy))
 }
 
-/// Whether a store gives what it holds once, and from a failed call on does nothing.
-fn reads_once(rt: &HostRuntime, path: &str) -> Result<bool, Fail> {
-    let mut store = FileStore::open(rt, path)?;
-    let is_open = store.append(b"ab").is_ok() && store.sync().is_ok() && store.failures() == 0;
-    let is_read_late = store.read(rt.alloc()).is_err() && store.failures() == 1;
-    let is_shut = store.append(b"c").is_err() && store.cut(0).is_err() && store.sync().is_err();
-    Ok(is_open && is_read_late && is_shut && store.failures() == 4 && is_busy(rt, path))
+/// A store that was written gives nothing it holds any more, and from that failed call on does nothing.
+fn assert_shut<R: Abort + AllocGlobal + Files<File = File>>(rt: &R, store: &mut FileStore) {
+    assert!(rt; store.append(b"ab").is_ok());
+    assert!(rt; store.sync().is_ok());
+    assert_same(rt, &store.failures(), &0);
+    assert!(rt; store.read(rt.alloc()).is_err());
+    assert_same(rt, &store.failures(), &1);
+    assert!(rt; store.append(b"c").is_err());
+    assert!(rt; store.cut(0).is_err());
+    assert!(rt; store.sync().is_err());
+    assert_same(rt, &store.failures(), &4);
 }
 
-/// Whether a store reads these bytes.
-fn reads(rt: &HostRuntime, path: &str, bytes: &[u8]) -> Result<bool, Fail> {
-    let mut store = FileStore::open(rt, path)?;
-    Ok(store.read(rt.alloc())?.as_slice() == bytes)
+/// A store gives what it holds once, and is held by one alone.
+fn assert_read_once<R: Abort + AllocGlobal + Files<File = File>>(rt: &R, path: &str) {
+    let mut store = store_at(rt, path);
+    assert_shut(rt, &mut store);
+    assert_same(rt, &is_busy(rt, path), &true);
+    drop(store);
+}
+
+/// A store reads these bytes.
+fn assert_read<R: Abort + AllocGlobal + Files<File = File>>(rt: &R, path: &str, bytes: &[u8]) {
+    let mut store = store_at(rt, path);
+    let found = store.read(rt.alloc()).expect(rt, "the store is read");
+    assert_bytes(rt, &found, bytes);
 }
 
 #[test]
-fn journals_in_files(rt: HostRuntime) -> Result<(), Fail> {
-    begin(&rt, FOLDER)?;
-    assert!(rt; saves_both(&rt)?);
-    assert!(rt; holds(&rt, &BYTES)?);
-    assert!(rt; opens_cut_anywhere(&rt)?);
-    assert!(rt; old_file_is_marked(&rt)?);
-    fs::remove_dir_all(&rt, FOLDER)?;
-    Ok(())
+fn journals_in_files(rt: HostRuntime) {
+    let powers = powers(&rt);
+    begin(&rt, FOLDER);
+    assert_both_saved(&rt);
+    assert_held(&rt, &BYTES);
+    assert_opens_cut_anywhere(&rt, &powers);
+    assert_old_file_is_marked(&rt, &powers);
+    end(&rt, FOLDER);
 }
 
 #[test]
-fn refusals(rt: HostRuntime) -> Result<(), Fail> {
-    begin(&rt, OTHER_FOLDER)?;
+fn refusals(rt: HostRuntime) {
+    begin(&rt, OTHER_FOLDER);
     // A directory that is not there, and one where a file is wanted.
-    assert!(rt; is_unusable(&rt, "journal_file_refusals/missing/journal"));
-    assert!(rt; is_unusable(&rt, OTHER_FOLDER));
-    assert!(rt; reads_once(&rt, OTHER_PATH)?);
-    assert!(rt; reads(&rt, OTHER_PATH, b"ab")?);
-    fs::remove_dir_all(&rt, OTHER_FOLDER)?;
-    Ok(())
+    assert_same(
+        &rt,
+        &is_unusable(&rt, "journal_file_refusals/missing/journal"),
+        &true,
+    );
+    assert_same(&rt, &is_unusable(&rt, OTHER_FOLDER), &true);
+    assert_read_once(&rt, OTHER_PATH);
+    assert_read(&rt, OTHER_PATH, b"ab");
+    end(&rt, OTHER_FOLDER);
 }

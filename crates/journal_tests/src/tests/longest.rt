@@ -1,109 +1,113 @@
 //! The longest record: a decision of 500,000 bytes, with 128 precommits of 128 tags each.
 
+use super::journals::{joined, value_of};
+use super::{assert_bytes, assert_same};
 use messages::{Bundle, Precommit};
 use protocol::Record;
-use std::alloc::{AllocError, Global};
-use std::test::Fail;
-use transactions::{Duplicate, Op, Seq, Shared, Tx, Value, value_id};
+use std::process::Abort;
+use transactions::{Duplicate, Op, Seq, Tx, Value, value_id};
 use vote_journal::{JournalFault, read_record, spell_record};
 
-fn nines(alloc: Global, count: usize) -> Result<Seq<[u8; 32]>, AllocError> {
-    let mut tags = Seq::new(alloc);
+/// Tags of nines.
+fn nines<R: Abort + AllocGlobal>(rt: &R, count: usize) -> Seq<[u8; 32]> {
+    let mut tags = Seq::new(rt.alloc());
     for _ in 0..count {
-        tags.push([9u8; 32])?;
+        tags.push([9u8; 32]).expect(rt, "the tags have room");
     }
-    Ok(tags)
+    tags
 }
 
 /// A transaction of the last session, with so many bytes and tags.
-fn tx_of(alloc: Global, count: usize, tags: usize) -> Result<Tx, AllocError> {
-    let mut contents = Seq::new(alloc);
-    for _ in 0..count {
-        contents.push(b'a')?;
-    }
-    Ok(Tx {
+fn tx_of<R: Abort + AllocGlobal>(rt: &R, count: usize, tags: usize) -> Tx {
+    let contents = vec![in rt.alloc(); b'a'; count].expect(rt, "the bytes have room");
+    Tx {
         client: 1023,
         session: 0xffff_ffff,
         number: 1,
-        op: Op::Bytes(contents),
-        tags: nines(alloc, tags)?,
-    })
+        op: Op::Bytes(Seq::from_vec(contents)),
+        tags: nines(rt, tags),
+    }
+}
+
+/// Adds so many copies of a transaction.
+fn put_copies<R: Abort + AllocGlobal>(rt: &R, txs: &mut Vec<Tx>, count: usize, tx: &Tx) {
+    for _ in 0..count {
+        let copy = tx.copy(rt.alloc()).expect(rt, "the copy has room");
+        txs.push(copy).expect(rt, "the copies have room");
+    }
 }
 
 /// A value of 500,000 bytes: the count, 97 transactions of 5,139 bytes, and one of 1,515.
-fn longest_value(alloc: Global) -> Result<Value, AllocError> {
-    let tx = tx_of(alloc, 1024, 128)?;
-    let mut txs = Vec::new(alloc);
-    for _ in 0..97 {
-        txs.push(tx.copy(alloc)?)?;
-    }
-    txs.push(tx_of(alloc, 1016, 15)?)?;
-    Ok(Value {
-        txs: Shared::from_vec(alloc, txs)?,
-    })
+fn longest_value<R: Abort + AllocGlobal>(rt: &R) -> Value {
+    let mut txs = Vec::new(rt.alloc());
+    put_copies(rt, &mut txs, 97, &tx_of(rt, 1024, 128));
+    put_copies(rt, &mut txs, 1, &tx_of(rt, 1016, 15));
+    value_of(rt, txs)
 }
 
 /// A precommit of each of 128 validators.
-fn certificate(alloc: Global) -> Result<Seq<Precommit>, AllocError> {
-    let mut precommits = Seq::new(alloc);
+fn certificate<R: Abort + AllocGlobal>(rt: &R) -> Seq<Precommit> {
+    let mut precommits = Seq::new(rt.alloc());
     for sender in 0..128u16 {
-        let tags = nines(alloc, 128)?;
-        precommits.push(Precommit { sender, tags })?;
+        let tags = nines(rt, 128);
+        precommits
+            .push(Precommit { sender, tags })
+            .expect(rt, "the precommits have room");
     }
-    Ok(precommits)
+    precommits
 }
 
-fn longest_record(alloc: Global) -> Result<Record, Fail> {
-    let value = longest_value(alloc)?;
-    let id = value_id(alloc, &value)?;
-    Ok(Record::Decided(Bundle {
+/// The decision of that value, with these precommits.
+fn longest_record<R: Abort + AllocGlobal>(rt: &R) -> Record {
+    let value = longest_value(rt);
+    let id = value_id(rt.alloc(), &value).expect(rt, "the value has an id");
+    Record::Decided(Bundle {
         height: 1,
         sender: 2,
         round: 3,
         id,
         value,
-        precommits: certificate(alloc)?,
-    }))
+        precommits: certificate(rt),
+    })
 }
 
-/// Whether the record has 1,024,721 bytes behind its length, and is read and spelled again.
-fn longest_is_kept(alloc: Global) -> Result<bool, Fail> {
-    let bytes = spell_record(alloc, 2, &longest_record(alloc)?)?;
-    let [0x00, 0x0f, 0xa2, 0xd1, content @ ..] = bytes.as_slice() else {
-        return Ok(false);
-    };
-    let again = match read_record(alloc, 2, content) {
-        Ok(record) => spell_record(alloc, 2, &record)?,
-        Err(_) => return Ok(false),
-    };
-    Ok(content.len() == 1_024_721 && again.as_slice() == bytes.as_slice())
+/// Bytes of a record of validator 2.
+fn spelled<R: Abort + AllocGlobal>(rt: &R, record: &Record) -> Vec<u8> {
+    spell_record(rt.alloc(), 2, record).expect(rt, "the record has room")
 }
 
-/// Why the record is none where one more precommit stands at its end, and is counted.
-fn fault_of_one_more(alloc: Global) -> Result<Option<JournalFault>, Fail> {
-    let mut bytes = spell_record(alloc, 2, &longest_record(alloc)?)?;
+/// The record that stands behind its length, spelled again.
+fn spelled_again<R: Abort + AllocGlobal>(rt: &R, content: &[u8]) -> Vec<u8> {
+    let record = read_record(rt.alloc(), 2, content);
+    spelled(rt, &record.expect(rt, "it is a record"))
+}
+
+/// The record has 1,024,721 bytes behind its length, and is read and spelled again.
+#[test]
+fn longest_there_and_back(rt: HostRuntime) {
+    let bytes = spelled(&rt, &longest_record(&rt));
+    let (len, content) = bytes.split_at(4.min(bytes.len()));
+    assert_bytes(&rt, len, &[0x00, 0x0f, 0xa2, 0xd1]);
+    assert_same(&rt, &content.len(), &1_024_721);
+    assert_bytes(&rt, &spelled_again(&rt, content), &bytes);
+}
+
+/// The longest record with one more precommit at its end, which is counted.
+fn with_one_more<R: Abort + AllocGlobal>(rt: &R) -> Vec<u8> {
+    let mut bytes = spelled(rt, &longest_record(rt));
     // The count stands behind the length, both kinds, 46 bytes and the value.
     if let Some(count) = bytes.get_mut(4 + 1 + 1 + 46 + 500_000) {
         *count = 129;
     }
-    bytes.extend_from_slice(&[0, 128, 1])?;
-    bytes.extend_from_slice(&[9u8; 32])?;
-    let [_, _, _, _, content @ ..] = bytes.as_slice() else {
-        return Ok(None);
-    };
-    Ok(read_record(alloc, 2, content).err())
+    joined(rt, &[&bytes, &[0, 128, 1], &[9; 32]])
 }
 
 #[test]
-fn longest_there_and_back(rt: HostRuntime) -> Result<(), Fail> {
-    assert!(rt; longest_is_kept(rt.alloc())?);
-    Ok(())
-}
-
-#[test]
-fn one_more_precommit_is_no_record(rt: HostRuntime) -> Result<(), Fail> {
-    assert!(rt; fault_of_one_more(rt.alloc())? == Some(JournalFault::BadRecord));
-    Ok(())
+fn one_more_precommit_is_no_record(rt: HostRuntime) {
+    let bytes = with_one_more(&rt);
+    let content = bytes.get(4..).expect(&rt, "the length stands before");
+    let fault = read_record(rt.alloc(), 2, content).err();
+    assert_same(&rt, &fault, &Some(JournalFault::BadRecord));
 }
 
 #[test]

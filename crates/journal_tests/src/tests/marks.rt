@@ -1,14 +1,14 @@
 //! The mark of the form with sessions: where it stands, what may stand before it, and how an old journal gets it.
 
 use super::journals::{
-    HEADER, MARKED, PREVOTE, decision, decision_of, has_opened, lock_of, opened, outcome_of, own,
-    precommit, prevote, save_at, two_sessions,
+    HEADER, MARKED, PREVOTE, assert_opened, decision, decision_of, joined, lock_of, opened,
+    outcome_of, own, powers, precommit, prevote, save_at, spelled, store, two_sessions,
 };
-use powers::Powers;
-use protocol::{Act, Record};
-use std::alloc::Global;
-use std::test::Fail;
-use vote_journal::{Journal, MemoryStore, Opened, spell_record};
+use super::{assert_bytes, assert_same};
+use messages::Bundle;
+use protocol::{Act, OwnMessage, Record};
+use std::process::Abort;
+use vote_journal::{Journal, MemoryStore, Opened};
 
 /// The length of what the mark has behind it, its kind, and the number of the form.
 const MARK: [u8; 9] = [0, 0, 0, 5, 4, 0, 0, 0, 2];
@@ -24,286 +24,231 @@ const NO_MARKS: [&[u8]; 5] = [
 ];
 
 /// The header, and these behind it.
-fn journal_of(alloc: Global, parts: &[&[u8]]) -> Result<Vec<u8>, Fail> {
-    let mut bytes = HEADER.to_vec(alloc)?;
-    for part in parts {
-        bytes.extend_from_slice(part)?;
-    }
-    Ok(bytes)
+fn journal_of<R: Abort + AllocGlobal>(rt: &R, parts: &[&[u8]]) -> Vec<u8> {
+    joined(rt, &[&HEADER, &joined(rt, parts)])
 }
 
 /// What a journal is opened with, spelled again: the decisions, and then the own messages.
-fn kept_of(alloc: Global, opened: Opened<MemoryStore>) -> Result<Vec<u8>, Fail> {
+fn kept_of<R: Abort + AllocGlobal>(rt: &R, opened: Opened<MemoryStore>) -> Vec<u8> {
     let Opened {
         journal: _,
         decisions,
         own,
     } = opened;
-    let mut bytes = Vec::new(alloc);
+    let mut bytes = Vec::new(rt.alloc());
+    put_decisions(rt, &mut bytes, decisions);
+    put_messages(rt, &mut bytes, own);
+    bytes
+}
+
+/// Adds the record of validator 3, spelled again.
+fn put_record<R: Abort + AllocGlobal>(rt: &R, bytes: &mut Vec<u8>, record: &Record) {
+    bytes
+        .extend_from_slice(&spelled(rt, record))
+        .expect(rt, "the record has room");
+}
+
+/// Adds the records of these decisions.
+fn put_decisions<R: Abort + AllocGlobal>(rt: &R, bytes: &mut Vec<u8>, decisions: Vec<Bundle>) {
     for bundle in decisions {
-        bytes.extend_from_slice(&spell_record(alloc, 3, &Record::Decided(bundle))?)?;
+        put_record(rt, bytes, &Record::Decided(bundle));
     }
+}
+
+/// Adds the records of these own messages.
+fn put_messages<R: Abort + AllocGlobal>(rt: &R, bytes: &mut Vec<u8>, own: Vec<OwnMessage>) {
     for message in own {
-        bytes.extend_from_slice(&spell_record(alloc, 3, &Record::Own(message))?)?;
-    }
-    Ok(bytes)
-}
-
-/// Whether the journal of validator 3 opens with just these records.
-fn keeps(alloc: Global, bytes: &[u8], records: &[u8]) -> Result<bool, Fail> {
-    let powers = Powers::new(vec![in alloc; 1, 1, 1, 1]?)?;
-    let store = MemoryStore::new(bytes.to_vec(alloc)?, 0, 0);
-    match Journal::open(alloc, store, 3, &powers) {
-        Ok(opened) => Ok(kept_of(alloc, opened)?.as_slice() == records),
-        Err(refused) => Err(refused.fault.into()),
+        put_record(rt, bytes, &Record::Own(message));
     }
 }
 
-/// Whether opening the journal of validator 3 keeps these records and leaves these bytes.
-fn opens_as(alloc: Global, bytes: &[u8], records: &[u8], left: &[u8]) -> Result<bool, Fail> {
-    let found = opened(alloc, bytes, 3)?;
-    Ok(keeps(alloc, bytes, records)? && found.bytes.as_slice() == left)
+/// What the journal of validator 3 is opened with, spelled again.
+fn kept<R: Abort + AllocGlobal>(rt: &R, bytes: &[u8]) -> Vec<u8> {
+    match Journal::open(rt.alloc(), store(rt, bytes, 0, 0), 3, &powers(rt)) {
+        Ok(opened) => kept_of(rt, opened),
+        Err(_) => rt.panic("not opened"),
+    }
 }
 
-/// Whether each beginning of the bytes that is so long or longer opens with these records, and as all of the bytes.
-fn each_cut_opens(
-    alloc: Global,
+/// Opening the journal of validator 3 keeps these records and leaves these bytes.
+fn assert_opens_as<R: Abort + AllocGlobal>(rt: &R, bytes: &[u8], records: &[u8], left: &[u8]) {
+    assert_bytes(rt, &opened(rt, bytes, 3).bytes, left);
+    assert_bytes(rt, &kept(rt, bytes), records);
+}
+
+/// Each beginning of the bytes that is so long or longer opens with these records, and as all of the bytes.
+fn assert_each_cut_opens<R: Abort + AllocGlobal>(
+    rt: &R,
     whole: &[u8],
     shortest: usize,
     records: &[u8],
-) -> Result<bool, Fail> {
+) {
     for len in shortest..=whole.len() {
-        if !opens_as(alloc, &whole[..len.min(whole.len())], records, whole)? {
-            return Ok(false);
-        }
+        assert_opens_as(rt, &whole[..len.min(whole.len())], records, whole);
     }
-    Ok(true)
 }
 
-/// Whether the journal is refused as a bad one, and stays as it was.
-fn refuses(alloc: Global, parts: &[&[u8]]) -> Result<bool, Fail> {
-    let bytes = journal_of(alloc, parts)?;
-    let found = opened(alloc, &bytes, 3)?;
-    Ok(found.fault == 3 && found.bytes.as_slice() == bytes.as_slice())
+/// The journal is refused as a bad one, and stays as it was.
+fn assert_refused<R: Abort + AllocGlobal>(rt: &R, parts: &[&[u8]]) {
+    let bytes = journal_of(rt, parts);
+    let found = opened(rt, &bytes, 3);
+    assert_same(rt, &found.fault, &3);
+    assert_bytes(rt, &found.bytes, &bytes);
 }
 
 /// A journal that was begun before there was a mark: validator 3 prevoted and precommitted a value, and decided it.
-fn old_journal(alloc: Global) -> Result<Vec<u8>, Fail> {
-    journal_of(
-        alloc,
-        &[&prevote(alloc)?, &precommit(alloc)?, &decision(alloc, 1)?],
-    )
+fn old_journal<R: Abort + AllocGlobal>(rt: &R) -> Vec<u8> {
+    journal_of(rt, &[&prevote(rt), &precommit(rt), &decision(rt, 1)])
 }
 
 /// That journal with the mark behind its records.
-fn carried_over(alloc: Global) -> Result<Vec<u8>, Fail> {
-    let mut bytes = old_journal(alloc)?;
-    bytes.extend_from_slice(&MARK)?;
-    Ok(bytes)
+fn carried_over<R: Abort + AllocGlobal>(rt: &R) -> Vec<u8> {
+    joined(rt, &[&old_journal(rt), &MARK])
 }
 
-/// Whether that journal of 848 bytes gets the mark behind its records, also where the mark was cut short, and keeps its
-/// decision.
-fn decision_is_carried_over(alloc: Global) -> Result<bool, Fail> {
-    let whole = carried_over(alloc)?;
-    Ok(whole.len() == 857 && each_cut_opens(alloc, &whole, 848, &decision(alloc, 1)?)?)
+/// A record is refused where no mark stands before it, and is kept where one does.
+fn assert_wants_the_mark<R: Abort + AllocGlobal>(rt: &R, record: &[u8]) {
+    let marked = journal_of(rt, &[&MARK, record]);
+    assert_refused(rt, &[record]);
+    assert_refused(rt, &[record, &MARK]);
+    assert_opens_as(rt, &marked, record, &marked);
 }
 
-/// The same of a journal of 256 bytes that has own messages and no decision.
-fn messages_are_carried_over(alloc: Global) -> Result<bool, Fail> {
-    let prevote = prevote(alloc)?;
-    let precommit = precommit(alloc)?;
-    let whole = journal_of(alloc, &[&prevote, &precommit, &MARK])?;
-    let mut said = prevote.as_slice().to_vec(alloc)?;
-    said.extend_from_slice(&precommit)?;
-    Ok(whole.len() == 265 && each_cut_opens(alloc, &whole, 256, &said)?)
-}
-
-/// Whether a journal of one prevote, cut to nine bytes, gets the mark for what was cut short, and then the prevote anew.
-fn prevote_is_saved_behind_the_mark(alloc: Global) -> Result<bool, Fail> {
-    let old = journal_of(alloc, &[&PREVOTE])?;
-    let torn = &old.as_slice()[..9.min(old.len())];
-    let wanted = journal_of(alloc, &[&MARK, &PREVOTE])?;
-    Ok(
-        old.len() == 25
-            && wanted.len() == 34
-            && has_opened(&opened(alloc, torn, 2)?, 0, 0, &MARKED)
-            && has_opened(&save_at(alloc, torn, 0)?, 0, 0, &wanted),
-    )
-}
-
-/// Whether a journal with the mark at any place opens as it stands, with its decision.
-fn mark_stands_anywhere(alloc: Global) -> Result<bool, Fail> {
-    let prevote = prevote(alloc)?;
-    let precommit = precommit(alloc)?;
-    let decision = decision(alloc, 1)?;
-    let orders: [[&[u8]; 4]; 4] = [
-        [&MARK, &prevote, &precommit, &decision],
-        [&prevote, &MARK, &precommit, &decision],
-        [&prevote, &precommit, &MARK, &decision],
-        [&prevote, &precommit, &decision, &MARK],
-    ];
-    for parts in &orders {
-        let bytes = journal_of(alloc, parts)?;
-        if !opens_as(alloc, &bytes, &decision, &bytes)? {
-            return Ok(false);
-        }
-    }
-    Ok(true)
-}
-
-fn second_mark_is_refused(alloc: Global) -> Result<bool, Fail> {
-    let prevote = prevote(alloc)?;
-    Ok(
-        refuses(alloc, &[&MARK, &MARK])?
-            && refuses(alloc, &[&MARK, &prevote, &MARK])?
-            && refuses(alloc, &[&prevote, &MARK, &MARK])?
-            && refuses(alloc, &[&MARK, &MARK, &prevote])?,
-    )
-}
-
-fn other_marks_are_refused(alloc: Global) -> Result<bool, Fail> {
-    for bytes in &NO_MARKS {
-        if !refuses(alloc, &[bytes])? || !refuses(alloc, &[&MARK, bytes])? {
-            return Ok(false);
-        }
-    }
-    Ok(true)
-}
-
-/// Whether a record is refused where no mark stands before it, and is kept where one does.
-fn wants_the_mark(alloc: Global, record: &[u8]) -> Result<bool, Fail> {
-    let marked = journal_of(alloc, &[&MARK, record])?;
-    Ok(
-        refuses(alloc, &[record])?
-            && refuses(alloc, &[record, &MARK])?
-            && opens_as(alloc, &marked, record, &marked)?,
-    )
-}
-
-/// Whether a proposal, a precommit for a value and a decision want the mark where they have a transaction of a later
-/// session. A prevote has none.
-fn later_sessions_want_the_mark(alloc: Global) -> Result<bool, Fail> {
-    let proposal = own(Act::Proposing(None, two_sessions(alloc)?));
-    Ok(
-        wants_the_mark(alloc, &spell_record(alloc, 3, &proposal)?)?
-            && wants_the_mark(alloc, &lock_of(alloc, two_sessions(alloc)?)?)?
-            && wants_the_mark(alloc, &decision_of(alloc, two_sessions(alloc)?)?)?,
-    )
-}
-
-/// Whether opening the journal of validator 3 fails, where the call of this number does and keeps so many bytes of what it
+/// Opening the journal of validator 3 fails, where the call of this number does and keeps so many bytes of what it
 /// appends, and leaves these bytes.
-fn stops(
-    alloc: Global,
+fn assert_stops<R: Abort + AllocGlobal>(
+    rt: &R,
     bytes: &[u8],
     failing: u64,
     keep: usize,
     left: &[u8],
-) -> Result<bool, Fail> {
-    let powers = Powers::new(vec![in alloc; 1, 1, 1, 1]?)?;
-    let store = MemoryStore::new(bytes.to_vec(alloc)?, failing, keep);
-    let found = outcome_of(alloc, Journal::open(alloc, store, 3, &powers))?;
-    Ok(found.fault == 1 && found.bytes.as_slice() == left)
+) {
+    let store = store(rt, bytes, failing, keep);
+    let found = outcome_of(rt, Journal::open(rt.alloc(), store, 3, &powers(rt)));
+    assert_same(rt, &found.fault, &1);
+    assert_bytes(rt, &found.bytes, left);
 }
 
-/// Whether the call of this number, which appends the mark that `whole` ends with, may leave any beginning of it, and what
-/// stands then opens with these records, as `whole`.
-fn each_stop_is_made_good(
-    alloc: Global,
+/// The call of this number, which appends the mark that `whole` ends with, may leave any beginning of it, and what stands
+/// then opens with these records, as `whole`.
+fn assert_each_stop_is_made_good<R: Abort + AllocGlobal>(
+    rt: &R,
     bytes: &[u8],
     failing: u64,
     whole: &[u8],
     records: &[u8],
-) -> Result<bool, Fail> {
+) {
     for keep in 0..=MARK.len() {
         let len = whole.len().saturating_sub(MARK.len()).saturating_add(keep);
         let left = &whole[..len.min(whole.len())];
-        if !stops(alloc, bytes, failing, keep, left)? || !opens_as(alloc, left, records, whole)? {
-            return Ok(false);
-        }
+        assert_stops(rt, bytes, failing, keep, left);
+        assert_opens_as(rt, left, records, whole);
     }
-    Ok(true)
 }
 
-/// Whether a stop within the append of the mark, or at the sync behind it, loses nothing of an old journal, also of one with
-/// a record that was cut short, which is cut away first.
-fn stops_of_the_carrying_over(alloc: Global) -> Result<bool, Fail> {
-    let old = old_journal(alloc)?;
-    let whole = carried_over(alloc)?;
-    let decision = decision(alloc, 1)?;
-    let mut torn = old.as_slice().to_vec(alloc)?;
-    torn.extend_from_slice(&PREVOTE[..20])?;
-    Ok(
-        each_stop_is_made_good(alloc, &old, 1, &whole, &decision)?
-            && stops(alloc, &old, 2, 0, &whole)?
-            && stops(alloc, &torn, 1, 0, &torn)?
-            && each_stop_is_made_good(alloc, &torn, 2, &whole, &decision)?
-            && stops(alloc, &torn, 3, 0, &whole)?,
-    )
+/// That journal of 848 bytes gets the mark behind its records, also where the mark was cut short, and keeps its decision.
+#[test]
+fn decision_of_an_old_journal(rt: HostRuntime) {
+    let whole = carried_over(&rt);
+    assert_same(&rt, &whole.len(), &857);
+    assert_each_cut_opens(&rt, &whole, 848, &decision(&rt, 1));
+}
+
+/// The same of a journal of 256 bytes that has own messages and no decision.
+#[test]
+fn messages_of_an_old_journal(rt: HostRuntime) {
+    let said = joined(&rt, &[&prevote(&rt), &precommit(&rt)]);
+    let whole = journal_of(&rt, &[&said, &MARK]);
+    assert_same(&rt, &whole.len(), &265);
+    assert_each_cut_opens(&rt, &whole, 256, &said);
+}
+
+/// A journal of one prevote, cut to nine bytes, gets the mark for what was cut short, and then the prevote anew.
+#[test]
+fn old_prevote_cut_short(rt: HostRuntime) {
+    let old = journal_of(&rt, &[&PREVOTE]);
+    let torn = &old.as_slice()[..9.min(old.len())];
+    let wanted = journal_of(&rt, &[&MARK, &PREVOTE]);
+    assert_same(&rt, &old.len(), &25);
+    assert_same(&rt, &wanted.len(), &34);
+    assert_opened(&rt, &opened(&rt, torn, 2), 0, 0, &MARKED);
+    assert_opened(&rt, &save_at(&rt, torn, 0), 0, 0, &wanted);
+}
+
+/// A journal of these parts opens as it stands, with this decision.
+fn assert_stands<R: Abort + AllocGlobal>(rt: &R, parts: &[&[u8]], decision: &[u8]) {
+    let bytes = journal_of(rt, parts);
+    assert_opens_as(rt, &bytes, decision, &bytes);
+}
+
+/// A journal with the mark at any place opens as it stands, with its decision.
+#[test]
+fn mark_at_any_place(rt: HostRuntime) {
+    let said = [prevote(&rt), precommit(&rt), decision(&rt, 1)];
+    let [prevote, precommit, decision] = &said;
+    assert_stands(&rt, &[&MARK, prevote, precommit, decision], decision);
+    assert_stands(&rt, &[prevote, &MARK, precommit, decision], decision);
+    assert_stands(&rt, &[prevote, precommit, &MARK, decision], decision);
+    assert_stands(&rt, &[prevote, precommit, decision, &MARK], decision);
+}
+
+#[test]
+fn second_mark(rt: HostRuntime) {
+    let prevote = prevote(&rt);
+    assert_refused(&rt, &[&MARK, &MARK]);
+    assert_refused(&rt, &[&MARK, &prevote, &MARK]);
+    assert_refused(&rt, &[&prevote, &MARK, &MARK]);
+    assert_refused(&rt, &[&MARK, &MARK, &prevote]);
+}
+
+#[test]
+fn marks_of_another_form(rt: HostRuntime) {
+    for bytes in &NO_MARKS {
+        assert_refused(&rt, &[bytes]);
+        assert_refused(&rt, &[&MARK, bytes]);
+    }
+}
+
+/// A proposal, a precommit for a value and a decision want the mark where they have a transaction of a later session. A
+/// prevote has none.
+#[test]
+fn later_sessions_before_the_mark(rt: HostRuntime) {
+    let proposal = own(Act::Proposing(None, two_sessions(&rt)));
+    assert_wants_the_mark(&rt, &spelled(&rt, &proposal));
+    assert_wants_the_mark(&rt, &lock_of(&rt, two_sessions(&rt)));
+    assert_wants_the_mark(&rt, &decision_of(&rt, two_sessions(&rt)));
+}
+
+/// A stop within the append of the mark, or at the sync behind it, loses nothing of an old journal.
+fn assert_stops_of_an_old_journal<R: Abort + AllocGlobal>(rt: &R, whole: &[u8], decision: &[u8]) {
+    let old = old_journal(rt);
+    assert_each_stop_is_made_good(rt, &old, 1, whole, decision);
+    assert_stops(rt, &old, 2, 0, whole);
+}
+
+/// Nor of one with a record that was cut short, which is cut away first.
+fn assert_stops_of_a_torn_journal<R: Abort + AllocGlobal>(rt: &R, whole: &[u8], decision: &[u8]) {
+    let torn = joined(rt, &[&old_journal(rt), &PREVOTE[..20]]);
+    assert_stops(rt, &torn, 1, 0, &torn);
+    assert_each_stop_is_made_good(rt, &torn, 2, whole, decision);
+    assert_stops(rt, &torn, 3, 0, whole);
+}
+
+#[test]
+fn stops_within_the_carrying_over(rt: HostRuntime) {
+    let whole = carried_over(&rt);
+    let decision = decision(&rt, 1);
+    assert_stops_of_an_old_journal(&rt, &whole, &decision);
+    assert_stops_of_a_torn_journal(&rt, &whole, &decision);
 }
 
 /// The same of a journal that is begun: its mark is an append of its own, behind that of the header.
-fn stops_of_the_beginning(alloc: Global) -> Result<bool, Fail> {
+#[test]
+fn stops_within_the_beginning(rt: HostRuntime) {
     for keep in 0..HEADER.len() {
         let left = &HEADER[..keep.min(4)];
-        if !stops(alloc, &[], 1, keep, left)? || !opens_as(alloc, left, &[], &MARKED)? {
-            return Ok(false);
-        }
+        assert_stops(&rt, &[], 1, keep, left);
+        assert_opens_as(&rt, left, &[], &MARKED);
     }
-    each_stop_is_made_good(alloc, &[], 2, &MARKED, &[])
-}
-
-#[test]
-fn decision_of_an_old_journal(rt: HostRuntime) -> Result<(), Fail> {
-    assert!(rt; decision_is_carried_over(rt.alloc())?);
-    Ok(())
-}
-
-#[test]
-fn messages_of_an_old_journal(rt: HostRuntime) -> Result<(), Fail> {
-    assert!(rt; messages_are_carried_over(rt.alloc())?);
-    Ok(())
-}
-
-#[test]
-fn old_prevote_cut_short(rt: HostRuntime) -> Result<(), Fail> {
-    assert!(rt; prevote_is_saved_behind_the_mark(rt.alloc())?);
-    Ok(())
-}
-
-#[test]
-fn mark_at_any_place(rt: HostRuntime) -> Result<(), Fail> {
-    assert!(rt; mark_stands_anywhere(rt.alloc())?);
-    Ok(())
-}
-
-#[test]
-fn second_mark(rt: HostRuntime) -> Result<(), Fail> {
-    assert!(rt; second_mark_is_refused(rt.alloc())?);
-    Ok(())
-}
-
-#[test]
-fn marks_of_another_form(rt: HostRuntime) -> Result<(), Fail> {
-    assert!(rt; other_marks_are_refused(rt.alloc())?);
-    Ok(())
-}
-
-#[test]
-fn later_sessions_before_the_mark(rt: HostRuntime) -> Result<(), Fail> {
-    assert!(rt; later_sessions_want_the_mark(rt.alloc())?);
-    Ok(())
-}
-
-#[test]
-fn stops_within_the_carrying_over(rt: HostRuntime) -> Result<(), Fail> {
-    assert!(rt; stops_of_the_carrying_over(rt.alloc())?);
-    Ok(())
-}
-
-#[test]
-fn stops_within_the_beginning(rt: HostRuntime) -> Result<(), Fail> {
-    assert!(rt; stops_of_the_beginning(rt.alloc())?);
-    Ok(())
+    assert_each_stop_is_made_good(&rt, &[], 2, &MARKED, &[]);
 }

@@ -1,10 +1,12 @@
 //! Journals that are looked at, in pieces of any length.
 
-use super::journals::{MARKED, PREVOTE, decided, value};
+use super::journals::{MARKED, PREVOTE, decided, joined, value};
+use super::{assert_bytes, assert_same};
 use journal_reader::{Found, JournalReader};
 use printed_lines::{End, EndLine, ItemLine, Json, RecordLine};
 use std::alloc::{AllocError, Global};
-use std::test::Fail;
+use std::fmt::Write;
+use std::process::Abort;
 use transactions::value_id;
 use vote_journal::JournalFault;
 
@@ -17,16 +19,17 @@ struct Told {
     fault: u8,
 }
 
-/// The line of an entry, behind those before it.
-fn with_line(alloc: Global, lines: &str, found: &Found) -> Result<String, AllocError> {
-    format!(in alloc; "{lines}{}\n", RecordLine::of(alloc, found)?)
+/// Adds the line of an entry.
+fn put_line(alloc: Global, lines: &mut String, found: &Found) -> Result<(), AllocError> {
+    let line = RecordLine::of(alloc, found)?;
+    writeln!(lines, "{line}")
 }
 
 /// Tells what was fed, as far as it goes.
 fn tell_fed(alloc: Global, reader: &mut JournalReader, told: &mut Told) -> Result<(), AllocError> {
     for _ in 0..10 {
         match reader.next_entry(alloc) {
-            Ok(Some(found)) => told.lines = with_line(alloc, &told.lines, &found)?,
+            Ok(Some(found)) => put_line(alloc, &mut told.lines, &found)?,
             Ok(None) => break,
             Err(fault) => {
                 told.fault = fault as u8;
@@ -38,152 +41,174 @@ fn tell_fed(alloc: Global, reader: &mut JournalReader, told: &mut Told) -> Resul
     Ok(())
 }
 
+/// Tells a journal that is fed in pieces of this length.
+fn tell_pieces<R: Abort + AllocGlobal>(
+    rt: &R,
+    reader: &mut JournalReader,
+    told: &mut Told,
+    bytes: &[u8],
+    len: usize,
+) {
+    let mut has_begun = false;
+    for piece in bytes.chunks(len.max(1)) {
+        reader.feed(piece).expect(rt, "the piece has room");
+        has_begun = has_begun || reader.read_header().expect(rt, "it is a header");
+        if has_begun && told.fault == 0 {
+            tell_fed(rt.alloc(), reader, told).expect(rt, "the lines have room");
+        }
+    }
+}
+
 /// What is told of a journal that is read in pieces of this length.
-fn told_in(alloc: Global, bytes: &[u8], len: usize) -> Result<Told, Fail> {
-    let mut reader = JournalReader::new(alloc);
+fn told_in<R: Abort + AllocGlobal>(rt: &R, bytes: &[u8], len: usize) -> Told {
+    let mut reader = JournalReader::new(rt.alloc());
     let mut told = Told {
-        lines: String::new(alloc),
+        lines: String::new(rt.alloc()),
         left: 0,
         fault: 0,
     };
-    let mut has_begun = false;
-    for piece in bytes.chunks(len.max(1)) {
-        reader.feed(piece)?;
-        has_begun = has_begun || reader.read_header()?;
-        if has_begun && told.fault == 0 {
-            tell_fed(alloc, &mut reader, &mut told)?;
-        }
-    }
-    Ok(told)
+    tell_pieces(rt, &mut reader, &mut told, bytes, len);
+    told
 }
 
 /// The same for pieces of one byte, of seven, and of all.
-fn told_of(alloc: Global, bytes: &[u8]) -> Result<Option<Told>, Fail> {
-    let whole = told_in(alloc, bytes, bytes.len().max(1))?;
-    let is_same = told_in(alloc, bytes, 1)? == whole && told_in(alloc, bytes, 7)? == whole;
-    Ok(if is_same { Some(whole) } else { None })
+fn told_of<R: Abort + AllocGlobal>(rt: &R, bytes: &[u8]) -> Told {
+    let whole = told_in(rt, bytes, bytes.len());
+    assert_same(rt, &told_in(rt, bytes, 1), &whole);
+    assert_same(rt, &told_in(rt, bytes, 7), &whole);
+    whole
 }
 
 /// The header, the mark, and these behind it.
-fn behind_mark(alloc: Global, parts: &[&[u8]]) -> Result<Vec<u8>, AllocError> {
-    let mut bytes = MARKED.to_vec(alloc)?;
-    for part in parts {
-        bytes.extend_from_slice(part)?;
-    }
-    Ok(bytes)
+fn behind_mark<R: Abort + AllocGlobal>(rt: &R, parts: &[&[u8]]) -> Vec<u8> {
+    joined(rt, &[&MARKED, &joined(rt, parts)])
 }
 
 /// The digest of the value as digits.
-fn digits(alloc: Global) -> Result<String, Fail> {
-    let mut text = String::new(alloc);
-    for byte in value_id(alloc, &value(alloc, 1)?)? {
-        text = format!(in alloc; "{text}{byte:02x}")?;
+fn digits<R: Abort + AllocGlobal>(rt: &R) -> String {
+    let id = value_id(rt.alloc(), &value(rt, 1)).expect(rt, "the value has an id");
+    let mut text = String::new(rt.alloc());
+    for byte in id {
+        write!(text, "{byte:02x}").expect(rt, "the digits have room");
     }
-    Ok(text)
+    text
+}
+
+/// What was told is these lines, with so many bytes left, and no fault.
+fn assert_told<R: Abort + AllocGlobal>(rt: &R, told: &Told, lines: &str, left: usize) {
+    assert_bytes(rt, told.lines.as_bytes(), lines.as_bytes());
+    assert_same(rt, &told.left, &left);
+    assert_same(rt, &told.fault, &0);
 }
 
 #[test]
-fn prevote_for_nil(rt: HostRuntime) -> Result<(), Fail> {
-    let alloc = rt.alloc();
-    let told = told_of(alloc, &behind_mark(alloc, &[&PREVOTE])?)?;
-    assert!(rt;
-        told.is_some_and(|told| {
-            told.lines.as_str() == "4 9 mark\n13 21 0 0 prevote nil\n"
-                && told.left == 0
-                && told.fault == 0
-        })
-    );
-    Ok(())
+fn prevote_for_nil(rt: HostRuntime) {
+    let told = told_of(&rt, &behind_mark(&rt, &[&PREVOTE]));
+    assert_told(&rt, &told, "4 9 mark\n13 21 0 0 prevote nil\n", 0);
 }
 
-#[test]
-fn a_height(rt: HostRuntime) -> Result<(), Fail> {
-    let alloc = rt.alloc();
-    let id = digits(alloc)?;
-    let wanted = format!(in alloc;
+/// The lines of a journal that decided the value with these digits.
+fn lines_of_a_height<R: Abort + AllocGlobal>(rt: &R, id: &str) -> String {
+    format!(in rt.alloc();
         "4 9 mark\n13 53 0 0 prevote {id}\n66 199 0 0 precommit {id} items 1\n265 592 0 0 decide {id} items 1 by 0,1,3\n"
-    )?;
-    let told = told_of(alloc, &decided(alloc)?)?;
-    assert!(rt; told.is_some_and(|told| told.lines == wanted && told.left == 0 && told.fault == 0));
-    Ok(())
+    ).expect(rt, "the lines have room")
 }
 
 #[test]
-fn torn_within_a_decision(rt: HostRuntime) -> Result<(), Fail> {
-    let alloc = rt.alloc();
-    let whole = decided(alloc)?;
-    let told = told_of(alloc, whole.get(..300).unwrap_or(&[]))?;
-    assert!(rt; told.is_some_and(|told| told.left == 35 && told.fault == 0));
-    Ok(())
+fn a_height(rt: HostRuntime) {
+    let wanted = lines_of_a_height(&rt, &digits(&rt));
+    let told = told_of(&rt, &decided(&rt));
+    assert_told(&rt, &told, &wanted, 0);
 }
 
 #[test]
-fn a_record_of_another_validator(rt: HostRuntime) -> Result<(), Fail> {
-    let alloc = rt.alloc();
-    let whole = decided(alloc)?;
-    let mixed = behind_mark(alloc, &[&PREVOTE, whole.get(13..).unwrap_or(&[])])?;
-    let told = told_of(alloc, &mixed)?;
-    assert!(rt;
-        told.is_some_and(|told| {
-            told.lines.as_str() == "4 9 mark\n13 21 0 0 prevote nil\n" && told.fault == 3
-        })
+fn torn_within_a_decision(rt: HostRuntime) {
+    let whole = decided(&rt);
+    let told = told_of(&rt, whole.get(..300).unwrap_or(&[]));
+    assert_same(&rt, &told.left, &35);
+    assert_same(&rt, &told.fault, &0);
+}
+
+#[test]
+fn a_record_of_another_validator(rt: HostRuntime) {
+    let whole = decided(&rt);
+    let mixed = behind_mark(&rt, &[&PREVOTE, whole.get(13..).unwrap_or(&[])]);
+    let told = told_of(&rt, &mixed);
+    assert_bytes(
+        &rt,
+        told.lines.as_bytes(),
+        b"4 9 mark\n13 21 0 0 prevote nil\n",
     );
-    Ok(())
+    assert_same(&rt, &told.fault, &3);
 }
 
 #[test]
-fn another_header(rt: HostRuntime) -> Result<(), Fail> {
+fn another_header(rt: HostRuntime) {
     let mut reader = JournalReader::new(rt.alloc());
-    reader.feed(b"TMJ2")?;
+    reader.feed(b"TMJ2").expect(&rt, "the header has room");
     assert!(rt; reader.read_header() == Err(JournalFault::BadRecord));
-    assert_eq!(rt; reader.offset(), 0);
-    Ok(())
+    assert_same(&rt, &reader.offset(), &0);
+}
+
+/// The object of the second record that the reader was fed.
+fn object_of_the_second<R: Abort + AllocGlobal>(rt: &R, reader: &mut JournalReader) -> String {
+    let _mark = reader.next_entry(rt.alloc()).expect(rt, "it is a record");
+    let found = reader.next_entry(rt.alloc()).expect(rt, "it is a record");
+    let found = found.expect(rt, "there is a vote");
+    let line = RecordLine::of(rt.alloc(), &found).expect(rt, "the line has room");
+    format!(in rt.alloc(); "{}", Json(line)).expect(rt, "the object has room")
 }
 
 #[test]
-fn objects(rt: HostRuntime) -> Result<(), Fail> {
-    let alloc = rt.alloc();
-    let mut reader = JournalReader::new(alloc);
-    reader.feed(&behind_mark(alloc, &[&PREVOTE])?)?;
-    assert!(rt; reader.read_header()?);
-    let _mark = reader.next_entry(alloc)?;
-    let Some(found) = reader.next_entry(alloc)? else {
-        return Err("no vote".into());
-    };
-    let object = format!(in alloc; "{}", Json(RecordLine::of(alloc, &found)?))?;
-    assert!(rt;
-        object.as_str()
-            == r#"{"offset":13,"bytes":21,"height":0,"round":0,"step":"prevote","content":null}"#
+fn objects(rt: HostRuntime) {
+    let mut reader = JournalReader::new(rt.alloc());
+    reader
+        .feed(&behind_mark(&rt, &[&PREVOTE]))
+        .expect(&rt, "the journal has room");
+    let has_begun = reader.read_header().expect(&rt, "it is a header");
+    assert_same(&rt, &has_begun, &true);
+    assert_bytes(
+        &rt,
+        object_of_the_second(&rt, &mut reader).as_bytes(),
+        br#"{"offset":13,"bytes":21,"height":0,"round":0,"step":"prevote","content":null}"#,
     );
-    Ok(())
 }
 
-#[test]
-fn ends(rt: HostRuntime) -> Result<(), Fail> {
-    let alloc = rt.alloc();
-    let mut line = EndLine {
+/// The end of a journal is told so.
+fn assert_end<R: Abort + AllocGlobal>(rt: &R, end: End, is_json: bool, wanted: &[u8]) {
+    let line = EndLine {
         offset: 34,
-        end: End::Torn(5),
-        is_json: false,
+        end,
+        is_json,
     };
-    assert!(rt; format!(in alloc; "{line}")?.as_str() == "34 5 torn");
-    line.is_json = true;
-    assert!(rt;
-        format!(in alloc; "{line}")?.as_str() == r#"{"offset":34,"bytes":5,"step":"torn"}"#
-    );
-    line.end = End::Bad;
-    assert!(rt; format!(in alloc; "{line}")?.as_str() == r#"{"offset":34,"step":"bad"}"#);
-    Ok(())
+    let text = format!(in rt.alloc(); "{line}").expect(rt, "the line has room");
+    assert_bytes(rt, text.as_bytes(), wanted);
 }
 
 #[test]
-fn item_of_a_transaction(rt: HostRuntime) -> Result<(), Fail> {
-    let alloc = rt.alloc();
-    let value = value(alloc, 1)?;
-    let Some(tx) = value.txs.as_slice().first() else {
-        return Err("no transaction".into());
-    };
-    let line = format!(in alloc; "{}", ItemLine::of_tx(5, tx))?;
-    assert!(rt; line.as_str() == "5 7 1 61");
-    Ok(())
+fn ends(rt: HostRuntime) {
+    assert_end(&rt, End::Torn(5), false, b"34 5 torn");
+    assert_end(
+        &rt,
+        End::Torn(5),
+        true,
+        br#"{"offset":34,"bytes":5,"step":"torn"}"#,
+    );
+    assert_end(&rt, End::Bad, true, br#"{"offset":34,"step":"bad"}"#);
+}
+
+#[test]
+fn item_of_a_transaction(rt: HostRuntime) {
+    let value = value(&rt, 1);
+    let tx = value
+        .txs
+        .as_slice()
+        .first()
+        .expect(&rt, "there is a transaction");
+    let line = format!(in rt.alloc(); "{}", ItemLine::of_tx(5, tx));
+    assert_bytes(
+        &rt,
+        line.expect(&rt, "the line has room").as_bytes(),
+        b"5 7 1 61",
+    );
 }

@@ -7,10 +7,10 @@ ghost use Rattle.protocol.specs.State.{Node as ProtocolNode};
 ghost use Rattle.node_core.specs.Core.{Stands};
 ghost use Rattle.locked_node.specs.Locked.{count_of};
 
-use super::core_of;
 use super::frames::{bundle, close, next_session, own_bodies, proposal, vote};
 use super::leaving::Shown;
 use super::taking::{assert_first, next_of};
+use super::{MEMORY, assert_same, core_of};
 use locked_node::{Event, LockedNode, SubscribeFault, Subscription, words_for};
 use messages::{Step as VoteStep, spell_body};
 use node_core::NodeCore;
@@ -20,7 +20,6 @@ use std::alloc::Global;
 use std::marker::Brand;
 use std::process::Abort;
 use std::sync::Wait;
-use std::test::Fail;
 use subscriber_ring::{Delivered, Nothing};
 use vote_journal::MemoryStore;
 
@@ -35,27 +34,23 @@ const ONE: Status = Status {
 };
 
 /// Each call with a first seat answers `Ok`, and a second one, which no call has, sees what was published too.
-fn follows<J: Node, R: Abort + Wait>(
-    rt: &R,
-    alloc: Global,
-    node: &LockedNode<MemoryStore, J>,
-) -> Result<(), Fail> {
+fn follows<J: Node, R: Abort + Wait>(rt: &R, alloc: Global, node: &LockedNode<MemoryStore, J>) {
     let mut first = node.seat(rt);
     let mut second = node.seat(rt);
-    assert_eq!(rt; node.status(&mut first), NOTHING);
-    takes(rt, node, &mut first, &proposal(rt, alloc)?);
+    assert_same(rt, &node.status(&mut first), &NOTHING);
+    takes(rt, node, &mut first, &proposal(rt, alloc));
     for (step, sender, key) in [
         (VoteStep::Prevote, 0, 0x00),
         (VoteStep::Prevote, 1, 0x11),
         (VoteStep::Precommit, 0, 0x00),
         (VoteStep::Precommit, 1, 0x11),
     ] {
-        takes(rt, node, &mut first, &vote(rt, alloc, step, sender, key)?);
+        takes(rt, node, &mut first, &vote(rt, alloc, step, sender, key));
     }
-    assert_eq!(rt; node.status(&mut first), ONE);
-    assert_eq!(rt; node.status(&mut second), ONE);
+    assert_same(rt, &node.status(&mut first), &ONE);
+    assert_same(rt, &node.status(&mut second), &ONE);
     is_at_its_beginning(rt, node);
-    releases(rt, alloc, node, &mut first)
+    releases(rt, alloc, node, &mut first);
 }
 
 /// It is in the first step of round 0, and no transaction waits.
@@ -71,7 +66,7 @@ fn takes<J: Node, R: Abort + Wait>(
     seat: &mut Seat<J>,
     frame: &[u8],
 ) {
-    assert_eq!(rt; node.handle(rt, seat, frame).answer(), Ok(()));
+    assert_same(rt, &node.handle(rt, seat, frame).answer(), &Ok(()));
 }
 
 /// A ring that was there before the first call is offered what they deliver.
@@ -79,12 +74,11 @@ fn follows_with_a_ring<J: Node, R: Abort + Wait>(
     rt: &R,
     alloc: Global,
     node: &LockedNode<MemoryStore, J>,
-) -> Result<(), Fail> {
-    let mut subscription = node.subscribe(rt, 0, 2)?;
-    follows(rt, alloc, node)?;
+) {
+    let mut subscription = subscribe(rt, node, 0);
+    follows(rt, alloc, node);
     let delivered = next_of(rt, &mut subscription);
     assert_first(rt, &delivered);
-    Ok(())
 }
 
 /// Of a node that decided height 0: two votes, one more after its timeout, which is shown as that call goes on, an ask, and the last vote
@@ -94,26 +88,41 @@ fn releases<J: Node, R: Abort + Wait>(
     alloc: Global,
     node: &LockedNode<MemoryStore, J>,
     seat: &mut Seat<J>,
-) -> Result<(), Fail> {
+) {
+    assert_same(rt, &node.settle(rt, seat).answer(), &Ok(()));
+    let shown = Shown::new(alloc);
+    times_out(rt, node, seat, &shown);
+    assert_same(rt, &node.ask(rt, seat).answer(), &Ok(()));
+    assert_same(rt, &node.resend(rt, seat).answer(), &Ok(()));
+    let frames = node.hold(rt).take_released().frames;
+    are_own(rt, alloc, &frames);
+    assert!(rt; shown.has_one(rt, frames.get(2)));
+    assert_same(rt, &node.take_outgoing(rt).len(), &0);
+}
+
+/// The proposal of height 1 is due, in a call whose frames are shown.
+fn times_out<J: Node, R: Abort + Wait>(
+    rt: &R,
+    node: &LockedNode<MemoryStore, J>,
+    seat: &mut Seat<J>,
+    shown: &Shown,
+) {
     let due = Timeout {
         kind: Step::Propose,
         height: 1,
         round: 0,
     };
-    assert_eq!(rt; node.settle(rt, seat).answer(), Ok(()));
-    let shown = Shown::new(alloc);
-    let done = node.hold(rt).call(rt, &shown, seat, Event::Timeout(due));
-    assert_eq!(rt; done.answer(), Ok(()));
-    assert_eq!(rt; node.ask(rt, seat).answer(), Ok(()));
-    assert_eq!(rt; node.resend(rt, seat).answer(), Ok(()));
-    let frames = node.hold(rt).take_released().frames;
-    assert_eq!(rt; frames.len(), 5);
-    assert!(rt; shown.has_one(rt, frames.get(2)));
-    for (frame, body) in frames.iter().zip(own_bodies(alloc)?.iter()) {
-        assert!(rt; frame.len() > 4 && frame[4..].starts_with(&spell_body(alloc, body)?));
+    let done = node.hold(rt).call(rt, shown, seat, Event::Timeout(due));
+    assert_same(rt, &done.answer(), &Ok(()));
+}
+
+/// The frames are those of what the validator says, in this order.
+fn are_own(rt: &impl Abort, alloc: Global, frames: &[Vec<u8>]) {
+    assert_same(rt, &frames.len(), &5);
+    for (frame, body) in frames.iter().zip(own_bodies(rt, alloc).iter()) {
+        let spelled = spell_body(alloc, body).expect(rt, "it has a spelling");
+        assert!(rt; frame.len() > 4 && frame[4..].starts_with(&spelled));
     }
-    assert_eq!(rt; node.take_outgoing(rt).len(), 0);
-    Ok(())
 }
 
 fn with_status<J: Node, R: Abort + Wait>(
@@ -121,21 +130,21 @@ fn with_status<J: Node, R: Abort + Wait>(
     alloc: Global,
     opened: Opened,
     core: NodeCore<MemoryStore>,
-) -> Result<(), Fail>
+)
     requires named { opened_table opened ≡ J.table }
     requires words { opened_words opened ≡ opened_at core.machine.state.height (count_of core) }
     requires stands { (n : ProtocolNode) × Stands n core }
 {
     let node = LockedNode::<MemoryStore, J>::new(alloc, opened, core);
-    follows_with_a_ring(rt, alloc, &node)
+    follows_with_a_ring(rt, alloc, &node);
 }
 
 #[test]
-fn each_seat_sees_what_is_published(rt: HostRuntime) -> Result<(), Fail> {
+fn each_seat_sees_what_is_published(rt: HostRuntime) {
     let alloc = rt.alloc();
-    let core = core_of(&rt, alloc)?;
-    let opened = words_for(alloc, &core)?;
-    with_status::<Brand, _>(&rt, alloc, opened, core)
+    let core = core_of(&rt, alloc);
+    let opened = words_for(alloc, &core).expect(&rt, MEMORY);
+    with_status::<Brand, _>(&rt, alloc, opened, core);
 }
 
 /// Five heights are decided, an item each.
@@ -143,13 +152,12 @@ fn delivers_five<J: Node, R: Abort + Wait>(
     rt: &R,
     alloc: Global,
     node: &LockedNode<MemoryStore, J>,
-) -> Result<(), Fail> {
+) {
     let mut seat = node.seat(rt);
-    assert_eq!(rt; node.settle(rt, &mut seat).answer(), Ok(()));
+    assert_same(rt, &node.settle(rt, &mut seat).answer(), &Ok(()));
     for height in 0..5u8 {
-        takes(rt, node, &mut seat, &bundle(rt, alloc, height)?);
+        takes(rt, node, &mut seat, &bundle(rt, alloc, height));
     }
-    Ok(())
 }
 
 /// The position of the next item, where its number is the next one.
@@ -162,42 +170,54 @@ fn taken<R: Wait>(rt: &R, subscription: &mut Subscription) -> Option<u64> {
     }
 }
 
-/// A ring of two that is filled as it is emptied.
-fn fills_from_the_beginning<J: Node, R: Abort + Wait>(
+/// A ring of two from this position on.
+pub(super) fn subscribe<J: Node, R: Abort + Wait>(
     rt: &R,
     node: &LockedNode<MemoryStore, J>,
-) -> Result<(), Fail> {
-    let mut subscription = node.subscribe(rt, 0, 2)?;
-    assert_eq!(rt; node.fill(rt, &subscription)?, 2);
+    from: u64,
+) -> Subscription {
+    node.subscribe(rt, from, 2).expect(rt, "there is a ring")
+}
+
+/// The ring is filled with so many items.
+fn fills<J: Node, R: Abort + Wait>(
+    rt: &R,
+    node: &LockedNode<MemoryStore, J>,
+    subscription: &Subscription,
+    items: u64,
+) {
+    let filled = node.fill(rt, subscription).expect(rt, MEMORY);
+    assert_same(rt, &filled, &items);
+}
+
+/// A ring of two that is filled as it is emptied.
+fn fills_from_the_beginning<J: Node, R: Abort + Wait>(rt: &R, node: &LockedNode<MemoryStore, J>) {
+    let mut subscription = subscribe(rt, node, 0);
+    fills(rt, node, &subscription, 2);
     for position in 0..3 {
-        assert_eq!(rt; taken(rt, &mut subscription), Some(position));
-        assert_eq!(rt; node.fill(rt, &subscription)?, 1);
+        assert_same(rt, &taken(rt, &mut subscription), &Some(position));
+        fills(rt, node, &subscription, 1);
     }
-    assert_eq!(rt; taken(rt, &mut subscription), Some(3));
+    assert_same(rt, &taken(rt, &mut subscription), &Some(3));
     let Some(last) = subscription.take_or_learn::<Nothing, R>(rt) else {
         panic!(rt; "an item waits");
     };
-    assert_eq!(rt; last.position, 4);
-    assert_eq!(rt; node.fill(rt, &subscription)?, 0);
+    assert_same(rt, &last.position, &4);
+    fills(rt, node, &subscription, 0);
     assert!(rt; subscription.take_or_learn::<Nothing, R>(rt).is_none());
-    Ok(())
 }
 
 /// A ring that begins within the list.
-fn fills_from_within<J: Node, R: Abort + Wait>(
-    rt: &R,
-    node: &LockedNode<MemoryStore, J>,
-) -> Result<(), Fail> {
-    let mut subscription = node.subscribe(rt, 3, 2)?;
-    assert_eq!(rt; node.fill(rt, &subscription)?, 2);
+fn fills_from_within<J: Node, R: Abort + Wait>(rt: &R, node: &LockedNode<MemoryStore, J>) {
+    let mut subscription = subscribe(rt, node, 3);
+    fills(rt, node, &subscription, 2);
     let mut two = [
         next_of(rt, &mut subscription),
         next_of(rt, &mut subscription),
     ];
     are_met(rt, node, &mut two);
-    assert_eq!(rt; taken(rt, &mut subscription), None);
-    assert_eq!(rt; node.fill(rt, &subscription)?, 0);
-    Ok(())
+    assert_same(rt, &taken(rt, &mut subscription), &None);
+    fills(rt, node, &subscription, 0);
 }
 
 /// The items of positions 3 and 4 are a piece of the delivered list, and with another number or another session for the
@@ -207,14 +227,14 @@ fn are_met<J: Node, R: Abort + Wait>(
     node: &LockedNode<MemoryStore, J>,
     two: &mut [Delivered; 2],
 ) {
-    assert_eq!(rt; (two[0].position, two[1].position), (3, 4));
+    assert_same(rt, &(two[0].position, two[1].position), &(3, 4));
     assert!(rt; node.meet(rt, &*two).yes());
     assert!(rt; node.meet(rt, &[]).yes());
-    assert_eq!(rt; two[1].item.number, 5);
+    assert_same(rt, &two[1].item.number, &5);
     two[1].item.number = 6;
     assert!(rt; !node.meet(rt, &*two).yes());
     two[1].item.number = 5;
-    assert_eq!(rt; two[1].item.session, 0);
+    assert_same(rt, &two[1].item.session, &0);
     two[1].item.session = 1;
     assert!(rt; !node.meet(rt, &*two).yes());
 }
@@ -224,35 +244,30 @@ fn sees_the_next_session<J: Node, R: Abort + Wait>(
     rt: &R,
     alloc: Global,
     node: &LockedNode<MemoryStore, J>,
-) -> Result<(), Fail> {
+) {
     let mut seat = node.seat(rt);
-    takes(rt, node, &mut seat, &close(rt, alloc)?);
-    takes(rt, node, &mut seat, &next_session(rt, alloc)?);
-    let mut subscription = node.subscribe(rt, 5, 2)?;
-    assert_eq!(rt; node.fill(rt, &subscription)?, 2);
+    takes(rt, node, &mut seat, &close(rt, alloc));
+    takes(rt, node, &mut seat, &next_session(rt, alloc));
+    let mut subscription = subscribe(rt, node, 5);
+    fills(rt, node, &subscription, 2);
     let mut two = [
         next_of(rt, &mut subscription),
         next_of(rt, &mut subscription),
     ];
-    assert_eq!(rt; (two[0].item.session, two[0].item.number), (0, 6));
-    assert_eq!(rt; (two[1].item.session, two[1].item.number), (1, 1));
+    assert_same(rt, &(two[0].item.session, two[0].item.number), &(0, 6));
+    assert_same(rt, &(two[1].item.session, two[1].item.number), &(1, 1));
     assert!(rt; node.meet(rt, &two).yes());
     two[1].item.session = 0;
     assert!(rt; !node.meet(rt, &two).yes());
-    Ok(())
 }
 
 /// Rings at the list's end, behind it, and of no capacity.
-fn refuses_rings<J: Node, R: Abort + Wait>(
-    rt: &R,
-    node: &LockedNode<MemoryStore, J>,
-) -> Result<(), Fail> {
-    let subscription = node.subscribe(rt, 5, 2)?;
-    assert_eq!(rt; node.fill(rt, &subscription)?, 0);
-    assert_eq!(rt; fault_of(rt, node, 6, 0), Some((1, Some(5))));
-    assert_eq!(rt; fault_of(rt, node, 0, 0), Some((3, None)));
-    assert_eq!(rt; SubscribeFault::OutOfMemory.number(), 2);
-    Ok(())
+fn refuses_rings<J: Node, R: Abort + Wait>(rt: &R, node: &LockedNode<MemoryStore, J>) {
+    let subscription = subscribe(rt, node, 5);
+    fills(rt, node, &subscription, 0);
+    assert_same(rt, &fault_of(rt, node, 6, 0), &Some((1, Some(5))));
+    assert_same(rt, &fault_of(rt, node, 0, 0), &Some((3, None)));
+    assert_same(rt, &SubscribeFault::OutOfMemory.number(), &2);
 }
 
 /// The number of the fault of such a ring, and where it lies ahead how many items were delivered.
@@ -275,23 +290,23 @@ fn with_rings<J: Node, R: Abort + Wait>(
     alloc: Global,
     opened: Opened,
     core: NodeCore<MemoryStore>,
-) -> Result<(), Fail>
+)
     requires named { opened_table opened ≡ J.table }
     requires words { opened_words opened ≡ opened_at core.machine.state.height (count_of core) }
     requires stands { (n : ProtocolNode) × Stands n core }
 {
     let node = LockedNode::<MemoryStore, J>::new(alloc, opened, core);
-    delivers_five(rt, alloc, &node)?;
-    fills_from_the_beginning(rt, &node)?;
-    fills_from_within(rt, &node)?;
-    refuses_rings(rt, &node)?;
-    sees_the_next_session(rt, alloc, &node)
+    delivers_five(rt, alloc, &node);
+    fills_from_the_beginning(rt, &node);
+    fills_from_within(rt, &node);
+    refuses_rings(rt, &node);
+    sees_the_next_session(rt, alloc, &node);
 }
 
 #[test]
-fn rings_are_filled(rt: HostRuntime) -> Result<(), Fail> {
+fn rings_are_filled(rt: HostRuntime) {
     let alloc = rt.alloc();
-    let core = core_of(&rt, alloc)?;
-    let opened = words_for(alloc, &core)?;
-    with_rings::<Brand, _>(&rt, alloc, opened, core)
+    let core = core_of(&rt, alloc);
+    let opened = words_for(alloc, &core).expect(&rt, MEMORY);
+    with_rings::<Brand, _>(&rt, alloc, opened, core);
 }

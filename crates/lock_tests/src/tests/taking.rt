@@ -1,5 +1,6 @@
 //! Taking items.
 
+use super::assert_same;
 use locked_node::Subscription;
 use std::process::Abort;
 use std::sync::Wait;
@@ -16,8 +17,8 @@ pub(super) fn next_of<R: Abort + Wait>(rt: &R, subscription: &mut Subscription) 
 
 /// It is client 7's first, at position 0.
 pub(super) fn assert_first<R: Abort>(rt: &R, delivered: &Delivered) {
-    assert_eq!(rt; delivered.position, 0);
-    assert_eq!(rt; (delivered.item.client, delivered.item.number), (7, 1));
+    assert_same(rt, &delivered.position, &0);
+    assert_same(rt, &(delivered.item.client, delivered.item.number), &(7, 1));
     let Op::Bytes(contents) = &delivered.item.op else {
         panic!(rt; "it has contents");
     };

@@ -7,8 +7,9 @@ ghost use Rattle.protocol.specs.State.{Node as ProtocolNode};
 ghost use Rattle.node_core.specs.Core.{Stands};
 ghost use Rattle.locked_node.specs.Locked.{count_of};
 
-use super::core_of;
 use super::frames::bundle;
+use super::sharing::subscribe;
+use super::{MEMORY, assert_same, core_of};
 use locked_node::{LockedNode, Subscription, words_for};
 use node_core::NodeCore;
 use status_words::{Node, Opened, Status};
@@ -16,7 +17,6 @@ use std::alloc::{AllocError, Global};
 use std::marker::Brand;
 use std::process::Abort;
 use std::sync::Wait;
-use std::test::Fail;
 use std::thread;
 use std::thread::Threads;
 use subscriber_ring::Delivered;
@@ -100,26 +100,30 @@ fn beside<J: Node + Send + Sync, R: Threads + Wait + Sync>(
     )
 }
 
+/// The bundles of these heights.
+fn bundles(rt: &impl Abort, alloc: Global, heights: &[u8]) -> Vec<Vec<u8>> {
+    let mut frames = Vec::new(alloc);
+    for height in heights {
+        assert!(rt; frames.push(bundle(rt, alloc, *height)).is_ok());
+    }
+    frames
+}
+
 /// Five heights, whose bundles two threads hand in by turns, and a ring with room for two.
 fn shares<J: Node + Send + Sync, R: Abort + Threads + Wait + Sync>(
     rt: &R,
     alloc: Global,
     node: &LockedNode<MemoryStore, J>,
-) -> Result<(), Fail> {
+) {
     let mut seat = node.seat(rt);
-    assert_eq!(rt; node.settle(rt, &mut seat).answer(), Ok(()));
-    let even = vec![in alloc;
-        bundle(rt, alloc, 0)?,
-        bundle(rt, alloc, 2)?,
-        bundle(rt, alloc, 4)?,
-    ]?;
-    let odd = vec![in alloc; bundle(rt, alloc, 1)?, bundle(rt, alloc, 3)?]?;
-    let mut subscription = node.subscribe(rt, 0, 2)?;
+    assert_same(rt, &node.settle(rt, &mut seat).answer(), &Ok(()));
+    let even = bundles(rt, alloc, &[0, 2, 4]);
+    let odd = bundles(rt, alloc, &[1, 3]);
+    let mut subscription = subscribe(rt, node, 0);
     let mut taken = Vec::new(alloc);
     let told = beside(rt, node, &even, &odd, &mut subscription, &mut taken);
-    assert_eq!(rt; told, ((true, true), true));
+    assert_same(rt, &told, &((true, true), true));
     assert!(rt; node.meet(rt, &taken).yes());
-    Ok(())
 }
 
 fn with_threads<J: Node + Send + Sync, R: Abort + Threads + Wait + Sync>(
@@ -127,21 +131,21 @@ fn with_threads<J: Node + Send + Sync, R: Abort + Threads + Wait + Sync>(
     alloc: Global,
     opened: Opened,
     core: NodeCore<MemoryStore>,
-) -> Result<(), Fail>
+)
     requires named { opened_table opened ≡ J.table }
     requires words { opened_words opened ≡ opened_at core.machine.state.height (count_of core) }
     requires stands { (n : ProtocolNode) × Stands n core }
 {
     let node = LockedNode::<MemoryStore, J>::new(alloc, opened, core);
-    shares(rt, alloc, &node)
+    shares(rt, alloc, &node);
 }
 
 #[test]
-fn what_a_thread_takes_is_met(rt: HostRuntime) -> Result<(), Fail> {
+fn what_a_thread_takes_is_met(rt: HostRuntime) {
     let alloc = rt.alloc();
-    let core = core_of(&rt, alloc)?;
-    let opened = words_for(alloc, &core)?;
-    with_threads::<Brand, _>(&rt, alloc, opened, core)
+    let core = core_of(&rt, alloc);
+    let opened = words_for(alloc, &core).expect(&rt, MEMORY);
+    with_threads::<Brand, _>(&rt, alloc, opened, core);
 }
 
 /// How many heights eight threads decide, an item each.
@@ -177,13 +181,13 @@ fn eight<J: Node + Send + Sync, R: Threads + Wait + Sync>(
 }
 
 /// The bundles of each fourth height from this one on, 25 of them.
-fn each_fourth(rt: &impl Abort, alloc: Global, first: u8) -> Result<Vec<Vec<u8>>, Fail> {
+fn each_fourth(rt: &impl Abort, alloc: Global, first: u8) -> Vec<Vec<u8>> {
     let mut frames = Vec::new(alloc);
     for turn in 0..25u8 {
         let height = turn.saturating_mul(4).saturating_add(first);
-        frames.push(bundle(rt, alloc, height)?)?;
+        assert!(rt; frames.push(bundle(rt, alloc, height)).is_ok());
     }
-    Ok(frames)
+    frames
 }
 
 /// A hundred heights, whose bundles four threads hand in by turns, and four subscribers beside them.
@@ -191,23 +195,23 @@ fn shares_among_eight<J: Node + Send + Sync, R: Abort + Threads + Wait + Sync>(
     rt: &R,
     alloc: Global,
     node: &LockedNode<MemoryStore, J>,
-) -> Result<(), Fail> {
+) {
     let mut seat = node.seat(rt);
-    assert_eq!(rt; node.settle(rt, &mut seat).answer(), Ok(()));
+    assert_same(rt, &node.settle(rt, &mut seat).answer(), &Ok(()));
     let lists = vec![in alloc;
-        each_fourth(rt, alloc, 0)?,
-        each_fourth(rt, alloc, 1)?,
-        each_fourth(rt, alloc, 2)?,
-        each_fourth(rt, alloc, 3)?,
-    ]?;
-    let told = eight(rt, alloc, node, &lists)?;
-    assert_eq!(rt; told.iter().filter(|did| **did).count(), 8);
+        each_fourth(rt, alloc, 0),
+        each_fourth(rt, alloc, 1),
+        each_fourth(rt, alloc, 2),
+        each_fourth(rt, alloc, 3),
+    ]
+    .expect(rt, MEMORY);
+    let told = eight(rt, alloc, node, &lists).expect(rt, MEMORY);
+    assert_same(rt, &told.iter().filter(|did| **did).count(), &8);
     let all = Status {
         height: 100,
         delivered: 100,
     };
-    assert_eq!(rt; node.status(&mut seat), all);
-    Ok(())
+    assert_same(rt, &node.status(&mut seat), &all);
 }
 
 fn with_eight_threads<J: Node + Send + Sync, R: Abort + Threads + Wait + Sync>(
@@ -215,19 +219,19 @@ fn with_eight_threads<J: Node + Send + Sync, R: Abort + Threads + Wait + Sync>(
     alloc: Global,
     opened: Opened,
     core: NodeCore<MemoryStore>,
-) -> Result<(), Fail>
+)
     requires named { opened_table opened ≡ J.table }
     requires words { opened_words opened ≡ opened_at core.machine.state.height (count_of core) }
     requires stands { (n : ProtocolNode) × Stands n core }
 {
     let node = LockedNode::<MemoryStore, J>::new(alloc, opened, core);
-    shares_among_eight(rt, alloc, &node)
+    shares_among_eight(rt, alloc, &node);
 }
 
 #[test]
-fn a_hundred_heights_among_eight_threads(rt: HostRuntime) -> Result<(), Fail> {
+fn a_hundred_heights_among_eight_threads(rt: HostRuntime) {
     let alloc = rt.alloc();
-    let core = core_of(&rt, alloc)?;
-    let opened = words_for(alloc, &core)?;
-    with_eight_threads::<Brand, _>(&rt, alloc, opened, core)
+    let core = core_of(&rt, alloc);
+    let opened = words_for(alloc, &core).expect(&rt, MEMORY);
+    with_eight_threads::<Brand, _>(&rt, alloc, opened, core);
 }

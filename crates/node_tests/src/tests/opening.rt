@@ -1,16 +1,15 @@
 //! A validator that comes back over the bytes of a store.
 
-ghost use Rattle.std.specs.Prelude.{◌≡◌, ◌<◌, false, IfOk, IfErr, length};
+ghost use Rattle.std.specs.Prelude.{◌≡◌, ◌<◌, false, IfErr, length};
 ghost use Rattle.node_core.specs.Opening.{IsRead};
 
 use super::timeouts::due;
-use super::{powers_of, ring_of};
+use super::{assert_same, four_powers, ring_of};
 use node_core::{Config, NodeCore};
 use powers::Powers;
 use protocol::Step;
 use std::alloc::{AllocFailed, Global};
 use std::process::Abort;
-use std::test::Fail;
 use vote_journal::{Journal, MemoryStore, Opened};
 
 /// Validator 2's ring among the four, whose keys only its own messages need.
@@ -41,19 +40,20 @@ type Comeback = Result<NodeCore<MemoryStore>, AllocFailed<Opened<MemoryStore>>>;
 
 /// What validator `me` finds in these bytes.
 fn opened_of(
+    rt: &impl Abort,
     alloc: Global,
     me: u16,
     powers: &Powers,
     bytes: &[u8],
-) -> Result<Opened<MemoryStore>, Fail>
-    ensures state { IfOk result (λ o. (o.journal.me ≡ me) × (o.journal.failed ≡ false)) }
-    ensures read { IfOk result (λ o. IsRead powers.now me o.journal.store.bytes.items o.decisions.items o.own.items) }
+) -> Opened<MemoryStore>
+    ensures state { (result.journal.me ≡ me) × (result.journal.failed ≡ false) }
+    ensures read { IsRead powers.now me result.journal.store.bytes.items result.decisions.items result.own.items }
 {
-    let store = MemoryStore::new(bytes.to_vec(alloc)?, 0, 0);
-    match Journal::open(alloc, store, me, powers) {
-        Ok(opened) => Ok(opened),
-        Err(refused) => Err(refused.fault)?,
-    }
+    let bytes = bytes.to_vec(alloc).expect(rt, "the bytes have room");
+    let Ok(opened) = Journal::open(alloc, MemoryStore::new(bytes, 0, 0), me, powers) else {
+        panic!(rt; "the store opens");
+    };
+    opened
 }
 
 /// Validator `me` comes back over what was opened.
@@ -64,15 +64,15 @@ fn come_back(
     me: u16,
     powers: &Powers,
     opened: Opened<MemoryStore>,
-) -> Result<Comeback, Fail>
+) -> Comeback
     requires me { me < length powers.now }
     requires state { (opened.journal.me ≡ me) × (opened.journal.failed ≡ false) }
     requires read { IsRead powers.now me opened.journal.store.bytes.items opened.decisions.items opened.own.items }
-    ensures back { IfOk result (λ comeback. IfErr comeback (λ e. e.value ≡ opened)) }
+    ensures back { IfErr result (λ e. e.value ≡ opened) }
 {
-    let ring = ring_of(rt, alloc, keys, me, powers.count())?;
-    let powers = powers.copy(alloc)?;
-    Ok(NodeCore::open(alloc, Config { me, powers }, ring, opened))
+    let ring = ring_of(rt, alloc, keys, me, powers.count());
+    let powers = powers.copy(alloc).expect(rt, "the powers have room");
+    NodeCore::open(alloc, Config { me, powers }, ring, opened)
 }
 
 /// Validator `me` of four of power 1 over these bytes. What a refusal hands back serves once more.
@@ -82,48 +82,50 @@ fn node_over(
     keys: &[u8],
     me: u16,
     bytes: &[u8],
-) -> Result<NodeCore<MemoryStore>, Fail>
+) -> NodeCore<MemoryStore>
     requires { me < 4 }
 {
-    let powers = powers_of(rt, vec![in alloc; 1, 1, 1, 1]?)?;
-    let opened = opened_of(alloc, me, &powers, bytes)?;
-    match come_back(rt, alloc, keys, me, &powers, opened)? {
-        Ok(core) => Ok(core),
-        Err(refused) => Ok(come_back(rt, alloc, keys, me, &powers, refused.value)??),
-    }
+    let powers = four_powers(rt, alloc);
+    let opened = opened_of(rt, alloc, me, &powers, bytes);
+    let refused = match come_back(rt, alloc, keys, me, &powers, opened) {
+        Ok(core) => return core,
+        Err(refused) => refused,
+    };
+    let Ok(core) = come_back(rt, alloc, keys, me, &powers, refused.value) else {
+        panic!(rt; "it comes back");
+    };
+    core
 }
 
 /// It prevotes as its timeout of proposals comes due.
 fn prevotes_anew(rt: &impl Abort, core: &mut NodeCore<MemoryStore>) {
-    assert_eq!(rt; core.height(), 0);
-    assert_eq!(rt; core.settle(), Ok(()));
-    assert_eq!(rt; core.outgoing().len(), 0);
-    assert_eq!(rt; core.fire_timeout(due(Step::Propose, 0, 0)), Ok(()));
-    assert_eq!(rt; core.outgoing().len(), 1);
+    assert_same(rt, &core.height(), &0);
+    assert_same(rt, &core.settle(), &Ok(()));
+    assert_same(rt, &core.outgoing().len(), &0);
+    assert_same(rt, &core.fire_timeout(due(Step::Propose, 0, 0)), &Ok(()));
+    assert_same(rt, &core.outgoing().len(), &1);
 }
 
 /// The record of a prevote was cut short: it was never sent, and is saved anew.
 #[test]
-fn a_cut_vote_is_said_anew(rt: HostRuntime) -> Result<(), Fail> {
-    let mut core = node_over(&rt, rt.alloc(), KEYS, 2, &NIL_PREVOTE[..18])?;
+fn a_cut_vote_is_said_anew(rt: HostRuntime) {
+    let mut core = node_over(&rt, rt.alloc(), KEYS, 2, &NIL_PREVOTE[..18]);
     prevotes_anew(&rt, &mut core);
-    assert_eq!(&rt; core.close().bytes(), NIL_PREVOTE.as_slice());
-    Ok(())
+    assert_same(&rt, &core.close().bytes(), &NIL_PREVOTE.as_slice());
 }
 
 /// Its proposal is kept and sent again, and no rule uses it: it prevotes as its timeout of proposals comes due.
 fn keeps_what_no_rule_uses(rt: &impl Abort, core: &mut NodeCore<MemoryStore>) {
-    assert_eq!(rt; core.resend(), Ok(()));
-    assert_eq!(rt; core.outgoing().len(), 1);
+    assert_same(rt, &core.resend(), &Ok(()));
+    assert_same(rt, &core.outgoing().len(), &1);
     prevotes_anew(rt, core);
-    assert_eq!(rt; core.resend(), Ok(()));
-    assert_eq!(rt; core.outgoing().len(), 2);
+    assert_same(rt, &core.resend(), &Ok(()));
+    assert_same(rt, &core.outgoing().len(), &2);
 }
 
 /// Who proposes in which round may have been decided otherwise when a journal was begun.
 #[test]
-fn a_proposal_in_anothers_round_is_kept(rt: HostRuntime) -> Result<(), Fail> {
-    let mut core = node_over(&rt, rt.alloc(), KEYS, 2, &OTHERS_ROUND)?;
+fn a_proposal_in_anothers_round_is_kept(rt: HostRuntime) {
+    let mut core = node_over(&rt, rt.alloc(), KEYS, 2, &OTHERS_ROUND);
     keeps_what_no_rule_uses(&rt, &mut core);
-    Ok(())
 }

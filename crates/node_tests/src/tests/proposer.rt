@@ -1,10 +1,9 @@
 //! Validator 0 of four of equal power proposes first.
 
-use super::{journal_of, powers_of, ring_of};
+use super::{assert_same, four_powers, journal_of, ring_of};
 use node_core::{Config, NodeCore};
 use protocol::Refusal;
 use std::process::Abort;
-use std::test::Fail;
 use vote_journal::MemoryStore;
 
 const KEYS: &[u8] = b"v0 v0 0000000000000000000000000000000000000000000000000000000000000000
@@ -23,22 +22,21 @@ const PROPOSAL: [u8; 21] = [
 
 /// Its proposal is saved and released; the sync of its prevote fails, so it halts and doesn't say it.
 fn halts_at_its_prevote(rt: &impl Abort, core: &mut NodeCore<MemoryStore>) {
-    assert_eq!(rt; core.settle(), Err(Refusal::JournalFailed));
+    assert_same(rt, &core.settle(), &Err(Refusal::JournalFailed));
     let frames = core.outgoing();
     assert_eq!(rt; frames.len(), 1);
     assert!(rt; frames[0].len() > 4 && frames[0][4..].starts_with(&PROPOSAL));
     assert!(rt; core.has_halted());
-    assert_eq!(rt; core.settle(), Err(Refusal::Halted));
-    assert_eq!(rt; core.outgoing().len(), 0);
+    assert_same(rt, &core.settle(), &Err(Refusal::Halted));
+    assert_same(rt, &core.outgoing().len(), &0);
 }
 
 /// The store's third sync fails: the first is the opening's, and the second the proposal's.
 #[test]
-fn third_sync_fails(rt: HostRuntime) -> Result<(), Fail> {
-    let powers = powers_of(&rt, vec![in rt.alloc(); 1, 1, 1, 1]?)?;
-    let ring = ring_of(&rt, rt.alloc(), KEYS, 0, 4)?;
+fn third_sync_fails(rt: HostRuntime) {
+    let powers = four_powers(&rt, rt.alloc());
+    let ring = ring_of(&rt, rt.alloc(), KEYS, 0, 4);
     let journal = journal_of(&rt, rt.alloc(), 0, &powers, 7, 0);
     let mut core = NodeCore::new(rt.alloc(), Config { me: 0, powers }, ring, journal);
     halts_at_its_prevote(&rt, &mut core);
-    Ok(())
 }

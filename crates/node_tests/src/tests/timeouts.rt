@@ -1,9 +1,8 @@
 //! Timeouts that come due, and those that are scheduled.
 
-use super::{Node, on_node};
+use super::{Node, assert_same, on_node};
 use protocol::{Refusal, Step, Timeout};
 use std::process::Abort;
-use std::test::Fail;
 
 /// A timeout's kind, height and round, how many frames it lets out, and the round that it begins.
 type Due = (Step, u64, u32, usize, Option<u32>);
@@ -43,20 +42,19 @@ impl Node {
         (answer, self.core.outgoing().len(), self.begun())
     }
 
-    fn comes_to(&mut self, rt: &impl Abort, cases: &[Due]) -> Result<(), Fail> {
-        assert_eq!(rt; self.begun(), Some(0));
-        for case in cases {
-            let (kind, height, round, frames, next) = *case;
+    /// Each timeout comes due, and no message comes.
+    fn stays_alone<R: Abort>(&mut self, rt: &R) {
+        assert_same(rt, &self.begun(), &Some(0));
+        for (kind, height, round, frames, next) in ALONE {
             let fired = self.fires(due(kind, height, round));
-            assert_eq!(rt; fired, (Ok(()), frames, next));
+            assert_same(rt, &fired, &(Ok(()), frames, next));
         }
-        assert_eq!(rt; self.core.round(), 3);
-        assert_eq!(rt; self.core.fired(), 1);
-        Ok(())
+        assert_same(rt, &self.core.round(), &3);
+        assert_same(rt, &self.core.fired(), &1);
     }
 }
 
 #[test]
-fn rounds_of_one(rt: HostRuntime) -> Result<(), Fail> {
-    on_node(&rt, rt.alloc(), |node| node.comes_to(&rt, &ALONE))
+fn rounds_of_one(rt: HostRuntime) {
+    on_node(&rt, rt.alloc(), Node::stays_alone);
 }

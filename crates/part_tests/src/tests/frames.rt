@@ -3,13 +3,13 @@
 ghost use Rattle.std.specs.Prelude.{◌≡◌};
 ghost use Rattle.protocol.specs.Messages.{sender_of};
 
+use super::assert_same;
 use authenticators::{KeyRing, Party, hmac};
 use frame_admission::{admit, frame_for, is_genuine, own_tags};
 use messages::{Body, frame_of, read_body, spell_body};
 use protocol::Refusal;
 use std::alloc::{AllocError, Global};
 use std::process::Abort;
-use std::test::Fail;
 use transactions::read_value;
 
 /// The keys of validator 0. A key is 32 bytes of one value, whose digits are the sender's number and the receiver's.
@@ -79,22 +79,33 @@ const ONE_BYTE: [u8; 15] = [1, 0, 7, 0, 0, 0, 0, 0, 0, 0, 1, 0, 0, 1, b'a'];
 
 const CLOSE: [u8; 12] = [1, 0, 7, 0, 0, 0, 0, 0, 0, 0, 2, 1];
 
-fn first(alloc: Global) -> Result<KeyRing, Fail> {
-    Ok(KeyRing::read(alloc, FIRST_KEYS.as_bytes(), Party::Validator(0), 2)?)
+/// The keys of validator 0.
+fn first<R: Abort + AllocGlobal>(rt: &R) -> KeyRing {
+    let ring = KeyRing::read(rt.alloc(), FIRST_KEYS.as_bytes(), Party::Validator(0), 2);
+    ring.expect(rt, "these are keys")
 }
 
-fn second(alloc: Global) -> Result<KeyRing, Fail> {
-    Ok(KeyRing::read(alloc, SECOND_KEYS.as_bytes(), Party::Validator(1), 2)?)
+/// The keys of validator 1.
+fn second<R: Abort + AllocGlobal>(rt: &R) -> KeyRing {
+    let ring = KeyRing::read(rt.alloc(), SECOND_KEYS.as_bytes(), Party::Validator(1), 2);
+    ring.expect(rt, "these are keys")
 }
 
-/// What validator 0 finds with its keys.
-fn by_first<F: FnOnce(&KeyRing) -> Result<(), Fail>>(alloc: Global, look: F) -> Result<(), Fail>
-    requires { F.IsAlwaysCallable look }
-{
-    let ring = first(alloc)?;
-    look(&ring)
+/// These, one behind the other.
+fn joined<R: Abort + AllocGlobal>(rt: &R, parts: &[&[u8]]) -> Vec<u8> {
+    let mut bytes = Vec::new(rt.alloc());
+    for part in parts {
+        bytes.extend_from_slice(part).expect(rt, "they have room");
+    }
+    bytes
 }
 
+/// Ends the test where other bytes were found than are wanted.
+fn assert_bytes<R: Abort>(rt: &R, found: &[u8], wanted: &[u8]) {
+    assert!(rt; found == wanted);
+}
+
+/// Who sends a body.
 fn sender_of(body: &Body) -> Party
     ensures { result ≡ sender_of body.now }
 {
@@ -108,83 +119,48 @@ fn sender_of(body: &Body) -> Party
 }
 
 /// The frame that validator 1, which has these keys, lets out of the body that is spelled so.
-fn frame_from(
-    rt: &impl Abort,
-    alloc: Global,
-    ring: &KeyRing,
-    spelled: &[u8],
-) -> Result<Vec<u8>, Fail> {
-    let body = read_body(alloc, spelled)?;
+fn frame_by<R: Abort + AllocGlobal>(rt: &R, ring: &KeyRing, spelled: &[u8]) -> Vec<u8> {
+    let body = read_body(rt.alloc(), spelled).expect(rt, "it is a body");
     assert!(rt; sender_of(&body) == ring.me());
     assert!(rt; ring.count() <= 128);
-    Ok(frame_for(alloc, ring, &body)?)
+    frame_for(rt.alloc(), ring, &body).expect(rt, "it has a frame")
 }
 
 /// The frame that validator 1 lets out of the body that is spelled so.
-fn frame_from_second(rt: &impl Abort, alloc: Global, spelled: &[u8]) -> Result<Vec<u8>, Fail> {
-    let ring = second(alloc)?;
-    frame_from(rt, alloc, &ring, spelled)
+fn frame_from_second<R: Abort + AllocGlobal>(rt: &R, spelled: &[u8]) -> Vec<u8> {
+    frame_by(rt, &second(rt), spelled)
 }
 
-/// Whether the body is spelled so.
-fn is_spelled(alloc: Global, body: &Body, spelled: &[u8]) -> Result<bool, Fail> {
-    Ok(spell_body(alloc, body)?.as_slice() == spelled)
-}
-
-/// Whether the frame is admitted, and its body is spelled so.
-fn is_admitted(alloc: Global, ring: &KeyRing, frame: &[u8], spelled: &[u8]) -> Result<bool, Fail> {
-    let message = admit(alloc, ring, frame)?;
-    is_spelled(alloc, &message.body, spelled)
+/// The body of the frame, which is admitted under these keys, spelled again.
+fn admitted<R: Abort + AllocGlobal>(rt: &R, ring: &KeyRing, frame: &[u8]) -> Vec<u8> {
+    let message = admit(rt.alloc(), ring, frame).expect(rt, "it is admitted");
+    spell_body(rt.alloc(), &message.body).expect(rt, "it has a spelling")
 }
 
 /// The frame that validator 1 lets out of the body that is spelled so is admitted under these keys.
-fn assert_admitted(
-    rt: &impl Abort,
-    alloc: Global,
-    ring: &KeyRing,
-    spelled: &[u8],
-) -> Result<(), Fail> {
-    let frame = frame_from_second(rt, alloc, spelled)?;
-    assert!(rt; is_admitted(alloc, ring, &frame, spelled)?, "{spelled:?}");
-    Ok(())
-}
-
-/// Frames of each kind are admitted under these keys.
-fn assert_all_admitted(rt: &impl Abort, alloc: Global, ring: &KeyRing) -> Result<(), Fail> {
-    for spelled in &VECTORS {
-        assert_admitted(rt, alloc, ring, spelled)?;
-    }
-    Ok(())
+fn assert_admitted<R: Abort + AllocGlobal>(rt: &R, ring: &KeyRing, spelled: &[u8]) {
+    let frame = frame_from_second(rt, spelled);
+    assert_bytes(rt, &admitted(rt, ring, &frame), spelled);
 }
 
 #[test]
-fn frames_of_each_kind(rt: HostRuntime) -> Result<(), Fail> {
-    by_first(
-        rt.alloc(),
-        |ring| assert_all_admitted(&rt, rt.alloc(), ring),
-    )
+fn frames_of_each_kind(rt: HostRuntime) {
+    let ring = first(&rt);
+    for spelled in &VECTORS {
+        assert_admitted(&rt, &ring, spelled);
+    }
 }
 
 /// The frame of validator 1's prevote.
-fn prevote_frame(alloc: Global) -> Result<Vec<u8>, AllocError> {
-    let mut wanted = [0u8, 0, 0, 0x51].to_vec(alloc)?;
-    wanted.extend_from_slice(&PREVOTE)?;
-    wanted.push(2)?;
-    wanted.extend_from_slice(&PREVOTE_TAGS[0])?;
-    wanted.extend_from_slice(&PREVOTE_TAGS[1])?;
-    Ok(wanted)
-}
-
-/// Whether this is the frame of validator 1's prevote.
-fn is_prevote_frame(alloc: Global, frame: &[u8]) -> Result<bool, AllocError> {
-    Ok(prevote_frame(alloc)?.as_slice() == frame)
+fn prevote_frame<R: Abort + AllocGlobal>(rt: &R) -> Vec<u8> {
+    let [first, second] = &PREVOTE_TAGS;
+    joined(rt, &[&[0, 0, 0, 0x51], &PREVOTE, &[2], first, second])
 }
 
 #[test]
-fn own_prevote(rt: HostRuntime) -> Result<(), Fail> {
-    let frame = frame_from_second(&rt, rt.alloc(), &PREVOTE)?;
-    assert!(rt; is_prevote_frame(rt.alloc(), &frame) == Ok(true));
-    Ok(())
+fn own_prevote(rt: HostRuntime) {
+    let frame = frame_from_second(&rt, &PREVOTE);
+    assert_bytes(&rt, &frame, &prevote_frame(&rt));
 }
 
 /// Whether the ring's party makes the known tags of its precommit.
@@ -194,155 +170,122 @@ fn makes_tags(alloc: Global, ring: &KeyRing) -> Result<bool, AllocError> {
 }
 
 #[test]
-fn tags_of_own_precommits(rt: HostRuntime) -> Result<(), Fail> {
-    let ring = second(rt.alloc())?;
-    assert!(rt; makes_tags(rt.alloc(), &ring) == Ok(true));
-    Ok(())
-}
-
-/// Why the frame isn't admitted.
-fn cause_of(alloc: Global, ring: &KeyRing, frame: &[u8]) -> Option<Refusal> {
-    admit(alloc, ring, frame).err()
+fn tags_of_own_precommits(rt: HostRuntime) {
+    let found = makes_tags(rt.alloc(), &second(&rt));
+    assert!(rt; found == Ok(true));
 }
 
 /// The frame is refused for this cause.
-fn assert_refused(rt: &impl Abort, alloc: Global, ring: &KeyRing, frame: &[u8], cause: Refusal) {
-    assert_eq!(rt; cause_of(alloc, ring, frame), Some(cause), "{frame:?}");
+fn assert_refused<R: Abort + AllocGlobal>(rt: &R, ring: &KeyRing, frame: &[u8], cause: Refusal) {
+    let found = admit(rt.alloc(), ring, frame).err();
+    assert_same(rt, &(frame, found), &(frame, Some(cause)));
 }
 
 /// This body with these tags is refused for this cause.
-fn refuses(
-    rt: &impl Abort,
-    alloc: Global,
+fn refuses<R: Abort + AllocGlobal>(
+    rt: &R,
     ring: &KeyRing,
     body: &[u8],
     tags: &[[u8; 32]],
     cause: Refusal,
-) -> Result<(), Fail> {
+) {
     assert!(rt; body.len() < 100 && tags.len() < 64);
-    let frame = frame_of(alloc, body, tags)?;
-    assert_refused(rt, alloc, ring, &frame, cause);
-    Ok(())
+    let frame = frame_of(rt.alloc(), body, tags).expect(rt, "the frame has room");
+    assert_refused(rt, ring, &frame, cause);
 }
 
 /// The prevote with another sender and this last byte is refused for this cause, with wrong tags.
-fn refuses_other(
-    rt: &impl Abort,
-    alloc: Global,
-    ring: &KeyRing,
-    last: u8,
-    cause: Refusal,
-) -> Result<(), Fail> {
+fn refuses_other<R: Abort + AllocGlobal>(rt: &R, ring: &KeyRing, last: u8, cause: Refusal) {
     let mut other = PREVOTE;
     other[14] = 2;
     other[15] = last;
-    refuses(rt, alloc, ring, &other, &[[0; 32]; 2], cause)
+    refuses(rt, ring, &other, &[[0; 32]; 2], cause);
 }
 
 /// The prevote with these tags is refused for them.
-fn refuses_tags(
-    rt: &impl Abort,
-    alloc: Global,
-    ring: &KeyRing,
-    tags: &[[u8; 32]],
-) -> Result<(), Fail> {
-    refuses(rt, alloc, ring, &PREVOTE, tags, Refusal::BadTag)
+fn refuses_tags<R: Abort + AllocGlobal>(rt: &R, ring: &KeyRing, tags: &[[u8; 32]]) {
+    refuses(rt, ring, &PREVOTE, tags, Refusal::BadTag);
 }
 
 // Each frame has the later faults too, as far as they can stand beside the first.
 #[test]
-fn first_cause_is_told(rt: HostRuntime) -> Result<(), Fail> {
-    let alloc = rt.alloc();
-    by_first(alloc, |ring| {
-        assert_refused(&rt, alloc, ring, &[0, 0, 0, 2, 0x7f], Refusal::Truncated);
-        assert_refused(&rt, alloc, ring, &[0, 0x10, 0, 1, 0x7f], Refusal::TooLong);
-        assert_refused(&rt, alloc, ring, &[0, 0, 0, 1, 0x7f], Refusal::BadKind);
-        refuses_other(&rt, alloc, ring, 0, Refusal::UnknownSender)?;
-        refuses_other(&rt, alloc, ring, 2, Refusal::BadSpelling)
-    })
+fn first_cause_is_told(rt: HostRuntime) {
+    let ring = first(&rt);
+    assert_refused(&rt, &ring, &[0, 0, 0, 2, 0x7f], Refusal::Truncated);
+    assert_refused(&rt, &ring, &[0, 0x10, 0, 1, 0x7f], Refusal::TooLong);
+    assert_refused(&rt, &ring, &[0, 0, 0, 1, 0x7f], Refusal::BadKind);
+    refuses_other(&rt, &ring, 0, Refusal::UnknownSender);
+    refuses_other(&rt, &ring, 2, Refusal::BadSpelling);
 }
 
 #[test]
-fn every_tag_of_a_message(rt: HostRuntime) -> Result<(), Fail> {
-    let alloc = rt.alloc();
+fn every_tag_of_a_message(rt: HostRuntime) {
     let right = PREVOTE_TAGS[0];
-    by_first(alloc, |ring| {
-        refuses_tags(&rt, alloc, ring, &[[0; 32]; 2])?;
-        refuses_tags(&rt, alloc, ring, &[[0; 32], right])?;
-        refuses_tags(&rt, alloc, ring, &[right])?;
-        refuses_tags(&rt, alloc, ring, &[right, right, right])
-    })
-}
-
-/// Whether the frame is admitted as a transaction of this client.
-fn is_tx_of(alloc: Global, ring: &KeyRing, frame: &[u8], client: u16) -> Result<bool, Fail> {
-    let message = admit(alloc, ring, frame)?;
-    Ok(matches!(&message.body, Body::Tx(tx) if tx.client == client))
+    let ring = first(&rt);
+    refuses_tags(&rt, &ring, &[[0; 32]; 2]);
+    refuses_tags(&rt, &ring, &[[0; 32], right]);
+    refuses_tags(&rt, &ring, &[right]);
+    refuses_tags(&rt, &ring, &[right, right, right]);
 }
 
 /// The frame of client 8's transaction with a wrong tag.
-fn frame_of_other_client(alloc: Global) -> Result<Vec<u8>, AllocError> {
+fn frame_of_other_client<R: Abort + AllocGlobal>(rt: &R) -> Vec<u8> {
     let mut body = ONE_BYTE;
     body[2] = 8;
-    frame_of(alloc, &body, &[[0; 32]])
+    frame_of(rt.alloc(), &body, &[[0; 32]]).expect(rt, "the frame has room")
 }
 
 #[test]
-fn transactions_are_judged_elsewhere(rt: HostRuntime) -> Result<(), Fail> {
-    let frame = frame_of_other_client(rt.alloc())?;
-    by_first(rt.alloc(), |ring| {
-        assert!(rt; is_tx_of(rt.alloc(), ring, &frame, 8)?);
-        Ok(())
-    })
+fn transactions_are_judged_elsewhere(rt: HostRuntime) {
+    let frame = frame_of_other_client(&rt);
+    let message = admit(rt.alloc(), &first(&rt), &frame).expect(&rt, "it is admitted");
+    assert!(rt; matches!(&message.body, Body::Tx(tx) if tx.client == 8));
 }
 
-/// Adds a body with the tags under these keys.
-fn put_tagged(out: &mut Vec<u8>, body: &[u8], keys: &[[u8; 32]]) -> Result<(), Fail> {
-    out.extend_from_slice(body)?;
-    out.push(u8::try_from(keys.len())?)?;
+/// The tags of a body under these keys.
+fn tags_under<R: Abort + AllocGlobal>(rt: &R, body: &[u8], keys: &[[u8; 32]]) -> Vec<u8> {
+    let mut tags = Vec::new(rt.alloc());
     for key in keys {
-        out.extend_from_slice(&hmac(key, body))?;
+        tags.extend_from_slice(&hmac(key, body))
+            .expect(rt, "the tag has room");
     }
-    Ok(())
+    tags
 }
 
-/// Adds client 7's transaction 1, with the tag for validator 1 and another.
-fn put_first(out: &mut Vec<u8>) -> Result<(), AllocError> {
-    out.extend_from_slice(&ONE_BYTE)?;
-    out.push(2)?;
-    out.extend_from_slice(&[0; 32])?;
-    out.extend_from_slice(&hmac(&[0x71; 32], &ONE_BYTE))
-}
-
-/// The bytes of the value that has client 7's two transactions, the second as from this client, with these keys.
-fn two_spelled(alloc: Global, client: u8, keys: &[[u8; 32]]) -> Result<Vec<u8>, Fail> {
-    let mut bytes = [0u8, 2].to_vec(alloc)?;
-    put_first(&mut bytes)?;
+/// The bytes of the value that has client 7's two transactions: the first with the tag for validator 1 and another, and
+/// the second as from this client, with tags under these keys.
+fn two_spelled<R: Abort + AllocGlobal>(rt: &R, client: u8, keys: &[[u8; 32]]) -> Vec<u8> {
+    let count = u8::try_from(keys.len()).expect(rt, "there are few keys");
     let mut close = CLOSE;
     close[2] = client;
-    put_tagged(&mut bytes, &close, keys)?;
-    Ok(bytes)
+    joined(
+        rt,
+        &[
+            &[0, 2],
+            &ONE_BYTE,
+            &[2],
+            &[0; 32],
+            &hmac(&[0x71; 32], &ONE_BYTE),
+            &close,
+            &[count],
+            &tags_under(rt, &close, keys),
+        ],
+    )
 }
 
-/// Whether validator 1 finds the value right that these bytes spell.
-fn are_genuine(alloc: Global, bytes: &[u8]) -> Result<bool, Fail> {
-    let value = read_value(alloc, bytes)?;
-    let ring = second(alloc)?;
-    Ok(is_genuine(alloc, &ring, &value)?)
-}
-
-/// Whether validator 1 finds the value right that has client 7's two transactions, the second as from this client, with these keys.
-fn genuine_with(alloc: Global, client: u8, keys: &[[u8; 32]]) -> Result<bool, Fail> {
-    let bytes = two_spelled(alloc, client, keys)?;
-    are_genuine(alloc, &bytes)
+/// Whether validator 1 finds the value right that has client 7's two transactions, the second as from this client, with
+/// tags under these keys.
+fn is_genuine_with<R: Abort + AllocGlobal>(rt: &R, client: u8, keys: &[[u8; 32]]) -> bool {
+    let bytes = two_spelled(rt, client, keys);
+    let value = read_value(rt.alloc(), &bytes).expect(rt, "it is a value");
+    is_genuine(rt.alloc(), &second(rt), &value).expect(rt, "there is room")
 }
 
 #[test]
-fn every_tag_of_a_value(rt: HostRuntime) -> Result<(), Fail> {
+fn every_tag_of_a_value(rt: HostRuntime) {
     let (own, other) = ([0x71; 32], [0x70; 32]);
-    assert!(rt; genuine_with(rt.alloc(), 7, &[other, own])?);
-    assert!(rt; !genuine_with(rt.alloc(), 7, &[own, other])?);
-    assert!(rt; !genuine_with(rt.alloc(), 7, &[own, own, own])?);
-    assert!(rt; !genuine_with(rt.alloc(), 8, &[other, own])?);
-    Ok(())
+    assert_same(&rt, &is_genuine_with(&rt, 7, &[other, own]), &true);
+    assert_same(&rt, &is_genuine_with(&rt, 7, &[own, other]), &false);
+    assert_same(&rt, &is_genuine_with(&rt, 7, &[own, own, own]), &false);
+    assert_same(&rt, &is_genuine_with(&rt, 8, &[other, own]), &false);
 }

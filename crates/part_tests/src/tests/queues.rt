@@ -1,5 +1,6 @@
 //! Clients 1 to 9 send transactions to the first of some validators.
 
+use super::assert_same;
 use authenticators::{KeyRing, Party, hmac};
 use mempool::Mempool;
 use proposal_validity::Frontier;
@@ -7,7 +8,6 @@ use protocol::SubmitFault;
 use std::alloc::{AllocError, Global};
 use std::fmt::Write;
 use std::process::Abort;
-use std::test::Fail;
 use transactions::{
     Op, Seq, Shared, Tx, Value, len_of_tx_body, len_of_value, put_tx_body, read_value, spell_value,
 };
@@ -38,213 +38,232 @@ pub(super) struct Validator {
 }
 
 impl Validator {
-    pub(super) fn new(alloc: Global, validators: u16) -> Result<Validator, Fail> {
-        let ring = ring_of(alloc, validators)?;
-        Ok(Validator {
+    /// The first of so many validators, to which nothing was sent.
+    pub(super) fn new<R: Abort + AllocGlobal>(rt: &R, validators: u16) -> Validator {
+        let alloc = rt.alloc();
+        Validator {
             alloc,
             count: validators,
-            ring,
+            ring: ring_of(rt, validators),
             frontier: Frontier::new(alloc),
             mempool: Mempool::new(alloc),
-        })
+        }
     }
 
     /// The tag of a transaction for this validator.
-    fn tag_of(&self, tx: &Tx) -> Result<[u8; 32], Fail> {
-        let mut body = Vec::with_capacity(self.alloc, len_of_tx_body(tx)?)?;
-        put_tx_body(&mut body, tx)?;
-        Ok(hmac(&[0x11; 32], &body))
+    fn tag_of<R: Abort + AllocGlobal>(&self, rt: &R, tx: &Tx) -> [u8; 32] {
+        let len = len_of_tx_body(tx).expect(rt, "it has a body");
+        let mut body = Vec::with_capacity(self.alloc, len).expect(rt, "the body has room");
+        put_tx_body(&mut body, tx).expect(rt, "the body has room");
+        hmac(&[0x11; 32], &body)
     }
 
-    /// Adds this tag, and one of zeros for each other validator.
-    pub(super) fn put_tags(
-        &self,
-        tags: &mut Seq<[u8; 32]>,
-        own: [u8; 32],
-    ) -> Result<(), AllocError> {
-        tags.push(own)?;
+    /// This tag, and one of zeros for each other validator.
+    fn tags<R: Abort + AllocGlobal>(&self, rt: &R, own: [u8; 32]) -> Seq<[u8; 32]> {
+        let mut tags = Seq::new(self.alloc);
+        tags.push(own).expect(rt, "the tag has room");
         for _ in 1..self.count {
-            tags.push([0; 32])?;
+            tags.push([0; 32]).expect(rt, "the tags have room");
         }
-        Ok(())
+        tags
+    }
+
+    /// The transaction with this tag for this validator, and one of zeros for each other.
+    pub(super) fn with_tag<R: Abort + AllocGlobal>(&self, rt: &R, mut tx: Tx, own: [u8; 32]) -> Tx {
+        tx.tags = self.tags(rt, own);
+        tx
     }
 
     /// A transaction with the tag for this validator, and one of zeros for each other.
-    pub(super) fn tagged(
+    pub(super) fn tagged<R: Abort + AllocGlobal>(
         &self,
+        rt: &R,
         client: u16,
         session: u32,
         number: u64,
         op: Op,
-    ) -> Result<Tx, Fail> {
-        let mut tx = Tx {
+    ) -> Tx {
+        let tx = Tx {
             client,
             session,
             number,
             op,
             tags: Seq::new(self.alloc),
         };
-        let own = self.tag_of(&tx)?;
-        self.put_tags(&mut tx.tags, own)?;
-        Ok(tx)
-    }
-
-    /// An operation of this many bytes.
-    pub(super) fn bytes(&self, len: usize) -> Result<Op, Fail> {
-        Ok(Op::Bytes(Seq::from_vec(vec![in self.alloc; 7; len]?)))
+        let own = self.tag_of(rt, &tx);
+        self.with_tag(rt, tx, own)
     }
 
     /// Client 7's transaction of this number, with the right tag or with another.
-    fn sent_by_seven(&self, number: u64, is_right: bool) -> Result<Tx, Fail> {
-        let mut tx = self.tagged(7, 0, number, self.bytes(2)?)?;
-        if !is_right {
-            tx.tags = Seq::new(self.alloc);
-            self.put_tags(&mut tx.tags, TAG_OF_ZERO)?;
+    fn sent_by_seven<R: Abort + AllocGlobal>(&self, rt: &R, number: u64, is_right: bool) -> Tx {
+        let tx = self.tagged(rt, 7, 0, number, bytes(rt, 2));
+        if is_right {
+            tx
+        } else {
+            self.with_tag(rt, tx, TAG_OF_ZERO)
         }
-        Ok(tx)
     }
 
-    /// The spelling of a value of that transaction alone.
-    fn spelled_alone(&self, number: u64, is_right: bool) -> Result<Vec<u8>, Fail> {
-        let mut txs = Vec::new(self.alloc);
-        txs.push(self.sent_by_seven(number, is_right)?)?;
-        let value = Value {
-            txs: Shared::from_vec(self.alloc, txs)?,
-        };
-        Ok(spell_value(self.alloc, &value)?)
+    /// Whether the value of that transaction alone is found genuine.
+    fn finds_genuine<R: Abort + AllocGlobal>(&self, rt: &R, number: u64, is_right: bool) -> bool {
+        let value = value_alone(rt, self.sent_by_seven(rt, number, is_right));
+        let spelled = spell_value(self.alloc, &value).expect(rt, "it has a spelling");
+        let value = read_value(self.alloc, &spelled).expect(rt, "it is a value");
+        self.mempool.is_genuine(&self.ring, &value)
     }
 
-    /// Whether that value is found genuine.
-    fn finds_genuine(&self, number: u64, is_right: bool) -> Result<bool, Fail> {
-        let bytes = self.spelled_alone(number, is_right)?;
-        let value = read_value(self.alloc, &bytes)?;
-        Ok(self.mempool.is_genuine(&self.ring, &value))
-    }
-
+    /// The answer to a transaction.
     pub(super) fn submit(&mut self, tx: Tx) -> Result<(), SubmitFault> {
         self.mempool.submit(tx, &self.ring, &self.frontier)
     }
 
     /// The answer to a transaction of this many bytes, or to a close.
-    fn answer(
+    fn answer<R: Abort + AllocGlobal>(
         &mut self,
+        rt: &R,
         client: u16,
         number: u64,
         len: Option<usize>,
-    ) -> Result<Result<(), SubmitFault>, Fail> {
-        let op = match len {
-            Some(len) => self.bytes(len)?,
-            None => Op::Close,
-        };
-        let tx = self.tagged(client, 0, number, op)?;
-        Ok(self.submit(tx))
+    ) -> Result<(), SubmitFault> {
+        let tx = self.tagged(rt, client, 0, number, op_of(rt, len));
+        self.submit(tx)
     }
 
     /// Transactions of two bytes, each of this client and number, get these answers.
-    fn answers(
+    fn answers<R: Abort + AllocGlobal>(
         &mut self,
-        rt: &impl Abort,
+        rt: &R,
         sent: &[(u16, u64, Result<(), SubmitFault>)],
-    ) -> Result<(), Fail> {
+    ) {
         for (client, number, answer) in sent {
-            let found = self.answer(*client, *number, Some(2))?;
-            assert_eq!(rt; found, *answer, "client {client}, number {number}");
+            let found = self.answer(rt, *client, *number, Some(2));
+            assert_same(rt, &(client, number, found), &(client, number, *answer));
         }
-        Ok(())
     }
 
     /// A close of client 7 with number 1 and one tag for each of so many validators is refused for its tags.
-    fn refuses_tags(&mut self, rt: &impl Abort, validators: u16) -> Result<(), Fail> {
+    fn refuses_tags<R: Abort + AllocGlobal>(&mut self, rt: &R, validators: u16) {
         self.count = validators;
-        let found = self.answer(7, 1, None)?;
-        assert_eq!(rt; found, Err(SubmitFault::BadTag));
-        Ok(())
+        let found = self.answer(rt, 7, 1, None);
+        assert_same(rt, &found, &Err(SubmitFault::BadTag));
     }
 
     /// The answer to a transaction with one tag, this one.
-    pub(super) fn answer_to_tag(
+    pub(super) fn answer_to_tag<R: Abort + AllocGlobal>(
         &mut self,
+        rt: &R,
         client: u16,
         session: u32,
         number: u64,
         op: Op,
         tag: &[u8; 32],
-    ) -> Result<Result<(), SubmitFault>, Fail> {
-        let mut tags = Seq::new(self.alloc);
-        tags.push(*tag)?;
-        let tx = Tx {
+    ) -> Result<(), SubmitFault> {
+        self.submit(Tx {
             client,
             session,
             number,
             op,
-            tags,
-        };
-        Ok(self.submit(tx))
+            tags: one_tag(rt, tag),
+        })
     }
 
     /// Client 7's transaction 1, the byte 61, gets this answer with one tag, this one.
-    fn answers_to_tag(
+    fn answers_to_tag<R: Abort + AllocGlobal>(
         &mut self,
-        rt: &impl Abort,
+        rt: &R,
         tag: &[u8; 32],
         answer: Result<(), SubmitFault>,
-    ) -> Result<(), Fail> {
-        let op = Op::Bytes(Seq::from_vec(b"a".to_vec(self.alloc)?));
-        let found = self.answer_to_tag(7, 0, 1, op, tag)?;
-        assert_eq!(rt; found, answer);
-        Ok(())
+    ) {
+        let found = self.answer_to_tag(rt, 7, 0, 1, byte(rt, b'a'), tag);
+        assert_same(rt, &found, &answer);
+    }
+
+    /// The value that is picked.
+    pub(super) fn picked<R: Abort + AllocGlobal>(&self, rt: &R) -> Value {
+        self.mempool.pick().expect(rt, "the value has room")
     }
 
     /// Transactions of these clients and numbers are picked.
-    fn picks(&self, rt: &impl Abort, places: &[(u16, u64)]) -> Result<(), Fail> {
-        let value = self.mempool.pick()?;
+    fn picks<R: Abort + AllocGlobal>(&self, rt: &R, places: &[(u16, u64)]) {
+        let value = self.picked(rt);
         assert!(rt; are_at(value.txs.as_slice(), places), "{places:?}");
-        Ok(())
     }
 
     /// A value of this many transactions and bytes is picked.
-    pub(super) fn picks_so_many(
-        &self,
-        rt: &impl Abort,
-        count: usize,
-        bytes: usize,
-    ) -> Result<(), Fail> {
-        let value = self.mempool.pick()?;
-        assert!(rt; value.txs.len() == count);
-        assert!(rt; len_of_value(&value) == Ok(bytes));
-        Ok(())
+    pub(super) fn picks_so_many<R: Abort + AllocGlobal>(&self, rt: &R, count: usize, bytes: usize) {
+        let value = self.picked(rt);
+        assert_same(rt, &value.txs.len(), &count);
+        let len = len_of_value(&value).expect(rt, "it is a value");
+        assert_same(rt, &len, &bytes);
     }
 
     /// Five clients' queues are filled with transactions of this many bytes.
-    fn fill(&mut self, rt: &impl Abort, len: usize) -> Result<(), Fail> {
+    fn fill<R: Abort + AllocGlobal>(&mut self, rt: &R, len: usize) {
         for number in 1..65 {
             for client in 1..6 {
-                let found = self.answer(client, number, Some(len))?;
-                assert_eq!(rt; found, Ok(()));
+                let found = self.answer(rt, client, number, Some(len));
+                assert_same(rt, &found, &Ok(()));
             }
         }
-        Ok(())
     }
 
     /// Delivers a value.
-    pub(super) fn take(&mut self, rt: &impl Abort, value: &Value) -> Result<(), Fail> {
-        let _spelling = spell_value(self.alloc, value)?;
+    pub(super) fn take<R: Abort + AllocGlobal>(&mut self, rt: &R, value: &Value) {
+        let _spelling = spell_value(self.alloc, value).expect(rt, "it has a spelling");
         assert!(rt; self.frontier.valid(value));
-        self.frontier.extend(value)?;
-        Ok(())
+        self.frontier.extend(value).expect(rt, "it has room");
     }
 
     /// Delivers what is picked.
-    pub(super) fn deliver(&mut self, rt: &impl Abort) -> Result<(), Fail> {
-        let value = self.mempool.pick()?;
-        self.take(rt, &value)?;
+    pub(super) fn deliver<R: Abort + AllocGlobal>(&mut self, rt: &R) {
+        let value = self.picked(rt);
+        self.take(rt, &value);
         self.mempool.drop_delivered(&self.frontier);
-        Ok(())
     }
 }
 
+/// An operation of this many bytes.
+pub(super) fn bytes<R: Abort + AllocGlobal>(rt: &R, len: usize) -> Op {
+    let bytes = vec![in rt.alloc(); 7; len].expect(rt, "the bytes have room");
+    Op::Bytes(Seq::from_vec(bytes))
+}
+
+/// An operation of this byte.
+pub(super) fn byte<R: Abort + AllocGlobal>(rt: &R, byte: u8) -> Op {
+    let bytes = vec![in rt.alloc(); byte].expect(rt, "the byte has room");
+    Op::Bytes(Seq::from_vec(bytes))
+}
+
+/// An operation of this many bytes, or a close.
+fn op_of<R: Abort + AllocGlobal>(rt: &R, len: Option<usize>) -> Op {
+    match len {
+        Some(len) => bytes(rt, len),
+        None => Op::Close,
+    }
+}
+
+/// The list of this tag alone.
+fn one_tag<R: Abort + AllocGlobal>(rt: &R, tag: &[u8; 32]) -> Seq<[u8; 32]> {
+    Seq::from_vec(vec![in rt.alloc(); *tag].expect(rt, "the tag has room"))
+}
+
+/// The value of these transactions.
+pub(super) fn value_of<R: Abort + AllocGlobal>(rt: &R, txs: Vec<Tx>) -> Value {
+    Value {
+        txs: Shared::from_vec(rt.alloc(), txs).expect(rt, "the value has room"),
+    }
+}
+
+/// The value of this transaction alone.
+pub(super) fn value_alone<R: Abort + AllocGlobal>(rt: &R, tx: Tx) -> Value {
+    value_of(
+        rt,
+        vec![in rt.alloc(); tx].expect(rt, "the transaction has room"),
+    )
+}
+
 /// Adds the keys of so many validators and of nine clients to that of the first with itself.
-fn put_keys(keys: &mut String, validators: u16) -> Result<(), Fail> {
+fn put_keys(keys: &mut String, validators: u16) -> Result<(), AllocError> {
     for number in 1..validators {
         write!(keys, "v{number} v0 {KEY}\nv0 v{number} {KEY}\n")?;
     }
@@ -255,10 +274,11 @@ fn put_keys(keys: &mut String, validators: u16) -> Result<(), Fail> {
 }
 
 /// The keys of the first of so many validators.
-fn ring_of(alloc: Global, validators: u16) -> Result<KeyRing, Fail> {
-    let mut keys = format!(in alloc; "v0 v0 {KEY}\n")?;
-    put_keys(&mut keys, validators)?;
-    Ok(KeyRing::read(alloc, keys.as_bytes(), Party::Validator(0), validators)?)
+fn ring_of<R: Abort + AllocGlobal>(rt: &R, validators: u16) -> KeyRing {
+    let mut keys = format!(in rt.alloc(); "v0 v0 {KEY}\n").expect(rt, "the key has room");
+    put_keys(&mut keys, validators).expect(rt, "the keys have room");
+    let ring = KeyRing::read(rt.alloc(), keys.as_bytes(), Party::Validator(0), validators);
+    ring.expect(rt, "these are keys")
 }
 
 /// Whether these are the transactions of these clients and numbers.
@@ -270,135 +290,112 @@ fn are_at(txs: &[Tx], places: &[(u16, u64)]) -> bool {
             .all(|(tx, place)| tx.client == place.0 && tx.number == place.1)
 }
 
-/// What the first of so many validators does, which begins with no transaction.
-fn on_validator<F: FnOnce(&mut Validator) -> Result<(), Fail>>(
-    alloc: Global,
-    validators: u16,
-    act: F,
-) -> Result<(), Fail>
-    requires { F.IsAlwaysCallable act }
-{
-    let mut validator = Validator::new(alloc, validators)?;
-    act(&mut validator)
-}
-
 /// Client 7 fills its queue.
-fn fill_queue(rt: &impl Abort, validator: &mut Validator) -> Result<(), Fail> {
+fn fill_queue<R: Abort + AllocGlobal>(rt: &R, validator: &mut Validator) {
     for sent in 0..64 {
         let reached = validator.mempool.reached(7, &validator.frontier);
-        assert_eq!(rt; reached.last, sent);
-        validator.answers(rt, &[(7, sent + 1, Ok(()))])?;
+        assert_same(rt, &reached.last, &sent);
+        validator.answers(rt, &[(7, sent + 1, Ok(()))]);
     }
-    assert!(rt; validator.mempool.waiting(7).len() == 64);
-    Ok(())
+    assert_same(rt, &validator.mempool.waiting(7).len(), &64);
 }
 
 #[test]
-fn wanted_numbers(rt: HostRuntime) -> Result<(), Fail> {
-    on_validator(rt.alloc(), 4, |validator| {
-        fill_queue(&rt, validator)?;
-        validator.answers(
-            &rt,
-            &[
-                (7, 65, Err(SubmitFault::QueueFull)),
-                (7, 66, Err(SubmitFault::Gap)),
-                (7, 64, Err(SubmitFault::OldNumber)),
-                (8, 2, Err(SubmitFault::Gap)),
-                (8, 1, Ok(())),
-                (10, 1, Err(SubmitFault::UnknownClient)),
-            ],
-        )
-    })
+fn wanted_numbers(rt: HostRuntime) {
+    let mut validator = Validator::new(&rt, 4);
+    fill_queue(&rt, &mut validator);
+    validator.answers(
+        &rt,
+        &[
+            (7, 65, Err(SubmitFault::QueueFull)),
+            (7, 66, Err(SubmitFault::Gap)),
+            (7, 64, Err(SubmitFault::OldNumber)),
+            (8, 2, Err(SubmitFault::Gap)),
+            (8, 1, Ok(())),
+            (10, 1, Err(SubmitFault::UnknownClient)),
+        ],
+    );
 }
 
 /// Two clients' transactions are picked in turn.
-fn queue_three(rt: &impl Abort, validator: &mut Validator) -> Result<(), Fail> {
-    validator.picks(rt, &[])?;
-    validator.answers(rt, &[(2, 1, Ok(())), (2, 2, Ok(())), (5, 1, Ok(()))])?;
-    validator.picks(rt, &[(2, 1), (5, 1), (2, 2)])
+fn queue_three<R: Abort + AllocGlobal>(rt: &R, validator: &mut Validator) {
+    validator.picks(rt, &[]);
+    validator.answers(rt, &[(2, 1, Ok(())), (2, 2, Ok(())), (5, 1, Ok(()))]);
+    validator.picks(rt, &[(2, 1), (5, 1), (2, 2)]);
 }
 
 /// What is delivered is picked no more.
-fn deliver_three(rt: &impl Abort, validator: &mut Validator) -> Result<(), Fail> {
-    validator.deliver(rt)?;
-    validator.picks(rt, &[])?;
-    validator.answers(rt, &[(5, 2, Ok(())), (2, 3, Ok(()))])?;
-    validator.picks(rt, &[(2, 3), (5, 2)])
+fn deliver_three<R: Abort + AllocGlobal>(rt: &R, validator: &mut Validator) {
+    validator.deliver(rt);
+    validator.picks(rt, &[]);
+    validator.answers(rt, &[(5, 2, Ok(())), (2, 3, Ok(()))]);
+    validator.picks(rt, &[(2, 3), (5, 2)]);
 }
 
 /// A copy of what is queued keeps what is delivered later.
-fn keep_copy(rt: &impl Abort, validator: &mut Validator) -> Result<(), Fail> {
-    let copy = validator.mempool.copy()?;
-    deliver_three(rt, validator)?;
+fn keep_copy<R: Abort + AllocGlobal>(rt: &R, validator: &mut Validator) {
+    let copy = validator.mempool.copy().expect(rt, "the copy has room");
+    deliver_three(rt, validator);
     validator.mempool = copy;
-    Ok(())
 }
 
 #[test]
-fn clients_take_turns(rt: HostRuntime) -> Result<(), Fail> {
-    on_validator(rt.alloc(), 4, |validator| {
-        queue_three(&rt, validator)?;
-        keep_copy(&rt, validator)?;
-        validator.picks(&rt, &[(2, 1), (5, 1), (2, 2)])
-    })
+fn clients_take_turns(rt: HostRuntime) {
+    let mut validator = Validator::new(&rt, 4);
+    queue_three(&rt, &mut validator);
+    keep_copy(&rt, &mut validator);
+    validator.picks(&rt, &[(2, 1), (5, 1), (2, 2)]);
 }
 
 /// A client that has closed sends nothing more.
-fn refuse_closed(rt: &impl Abort, validator: &mut Validator) -> Result<(), Fail> {
+fn refuse_closed<R: Abort + AllocGlobal>(rt: &R, validator: &mut Validator) {
     let refused = &[
         (7, 1, Err(SubmitFault::OldNumber)),
         (7, 2, Err(SubmitFault::Closed)),
         (7, 3, Err(SubmitFault::Closed)),
     ];
-    validator.answers(rt, refused)
+    validator.answers(rt, refused);
 }
 
 #[test]
-fn nothing_follows_a_close(rt: HostRuntime) -> Result<(), Fail> {
-    on_validator(rt.alloc(), 4, |validator| {
-        let found = validator.answer(7, 1, None)?;
-        assert!(rt; found == Ok(()));
-        refuse_closed(&rt, validator)?;
-        validator.deliver(&rt)?;
-        refuse_closed(&rt, validator)?;
-        validator.answers(&rt, &[(8, 1, Ok(()))])
-    })
+fn nothing_follows_a_close(rt: HostRuntime) {
+    let mut validator = Validator::new(&rt, 4);
+    assert_same(&rt, &validator.answer(&rt, 7, 1, None), &Ok(()));
+    refuse_closed(&rt, &mut validator);
+    validator.deliver(&rt);
+    refuse_closed(&rt, &mut validator);
+    validator.answers(&rt, &[(8, 1, Ok(()))]);
 }
 
 #[test]
-fn one_tag_for_each_validator(rt: HostRuntime) -> Result<(), Fail> {
-    on_validator(rt.alloc(), 4, |validator| {
-        validator.refuses_tags(&rt, 5)?;
-        validator.refuses_tags(&rt, 3)
-    })
+fn one_tag_for_each_validator(rt: HostRuntime) {
+    let mut validator = Validator::new(&rt, 4);
+    validator.refuses_tags(&rt, 5);
+    validator.refuses_tags(&rt, 3);
 }
 
 /// Contents of 1,025 bytes are refused before the client, who is unknown.
-fn refuse_too_long(rt: &impl Abort, validator: &mut Validator) -> Result<(), Fail> {
-    let mut too_long = validator.tagged(10, 0, 1, Op::Close)?;
-    too_long.op = validator.bytes(1025)?;
-    assert!(rt; validator.submit(too_long) == Err(SubmitFault::TooLong));
-    Ok(())
+fn refuse_too_long<R: Abort + AllocGlobal>(rt: &R, validator: &mut Validator) {
+    let mut too_long = validator.tagged(rt, 10, 0, 1, Op::Close);
+    too_long.op = bytes(rt, 1025);
+    assert_same(rt, &validator.submit(too_long), &Err(SubmitFault::TooLong));
 }
 
 /// Contents of 1,024 bytes are right, and are taken.
-fn take_longest(rt: &impl Abort, validator: &mut Validator) -> Result<(), Fail> {
-    let op = validator.bytes(1024)?;
-    let longest = validator.tagged(7, 0, 1, op)?;
+fn take_longest<R: Abort + AllocGlobal>(rt: &R, validator: &mut Validator) {
+    let longest = validator.tagged(rt, 7, 0, 1, bytes(rt, 1024));
     let answer = validator
         .mempool
         .check(&longest, &validator.ring, &validator.frontier);
-    assert!(rt; answer == Ok(()));
-    assert!(rt; validator.submit(longest) == Ok(()));
-    Ok(())
+    assert_same(rt, &answer, &Ok(()));
+    assert_same(rt, &validator.submit(longest), &Ok(()));
 }
 
 #[test]
-fn longest_transactions(rt: HostRuntime) -> Result<(), Fail> {
-    on_validator(rt.alloc(), 4, |validator| {
-        refuse_too_long(&rt, validator)?;
-        take_longest(&rt, validator)
-    })
+fn longest_transactions(rt: HostRuntime) {
+    let mut validator = Validator::new(&rt, 4);
+    refuse_too_long(&rt, &mut validator);
+    take_longest(&rt, &mut validator);
 }
 
 /// The known tag with one byte changed.
@@ -411,80 +408,60 @@ fn changed(place: usize, by: u8) -> [u8; 32] {
 }
 
 #[test]
-fn known_tags(rt: HostRuntime) -> Result<(), Fail> {
-    on_validator(rt.alloc(), 1, |validator| {
-        let bad_tag = Err(SubmitFault::BadTag);
-        validator.answers_to_tag(&rt, &changed(0, 0x80), bad_tag)?;
-        validator.answers_to_tag(&rt, &changed(31, 1), bad_tag)?;
-        validator.answers_to_tag(&rt, &TAG_OF_BYTES, Ok(()))?;
-        validator.answers_to_tag(&rt, &TAG_OF_BYTES, Err(SubmitFault::OldNumber))
-    })
+fn known_tags(rt: HostRuntime) {
+    let mut validator = Validator::new(&rt, 1);
+    let bad_tag = Err(SubmitFault::BadTag);
+    validator.answers_to_tag(&rt, &changed(0, 0x80), bad_tag);
+    validator.answers_to_tag(&rt, &changed(31, 1), bad_tag);
+    validator.answers_to_tag(&rt, &TAG_OF_BYTES, Ok(()));
+    validator.answers_to_tag(&rt, &TAG_OF_BYTES, Err(SubmitFault::OldNumber));
 }
 
-/// Closes of these clients, with these numbers and the tag of number 0, are refused for this cause.
-fn refuse_fields(
-    rt: &impl Abort,
+/// A close of this client, with this number and the tag of number 0, is refused for this cause.
+fn refuse_field<R: Abort + AllocGlobal>(
+    rt: &R,
     validator: &mut Validator,
-    cases: &[(u16, u64, SubmitFault)],
-) -> Result<(), Fail> {
-    for (client, number, fault) in cases {
-        let found = validator.answer_to_tag(*client, 0, *number, Op::Close, &TAG_OF_ZERO)?;
-        assert_eq!(rt; found, Err(*fault), "client {client}, number {number}");
-    }
-    Ok(())
+    client: u16,
+    number: u64,
+    fault: SubmitFault,
+) {
+    let found = validator.answer_to_tag(rt, client, 0, number, Op::Close, &TAG_OF_ZERO);
+    assert_same(
+        rt,
+        &(&client, &number, found),
+        &(&client, &number, Err(fault)),
+    );
 }
 
 #[test]
-fn fields_out_of_range(rt: HostRuntime) -> Result<(), Fail> {
-    let cases = &[
-        (7, 0, SubmitFault::OldNumber),
-        (7, u64::MAX, SubmitFault::BadTag),
-        (1024, 0, SubmitFault::UnknownClient),
-    ];
-    on_validator(
-        rt.alloc(),
-        1,
-        |validator| refuse_fields(&rt, validator, cases),
-    )
-}
-
-/// Full queues of transactions of this many bytes, for so many validators, give a value of this many of them and bytes.
-fn assert_value(
-    rt: &impl Abort,
-    alloc: Global,
-    validators: u16,
-    len: usize,
-    count: usize,
-    bytes: usize,
-) -> Result<(), Fail> {
-    on_validator(alloc, validators, |validator| {
-        validator.fill(rt, len)?;
-        validator.picks_so_many(rt, count, bytes)
-    })
+fn fields_out_of_range(rt: HostRuntime) {
+    let mut validator = Validator::new(&rt, 1);
+    refuse_field(&rt, &mut validator, 7, 0, SubmitFault::OldNumber);
+    refuse_field(&rt, &mut validator, 7, u64::MAX, SubmitFault::BadTag);
+    refuse_field(&rt, &mut validator, 1024, 0, SubmitFault::UnknownClient);
 }
 
 #[test]
-fn most_transactions(rt: HostRuntime) -> Result<(), Fail> {
-    assert_value(&rt, rt.alloc(), 4, 1, 256, 36_866)
+fn most_transactions(rt: HostRuntime) {
+    let mut validator = Validator::new(&rt, 4);
+    validator.fill(&rt, 1);
+    validator.picks_so_many(&rt, 256, 36_866);
 }
 
 #[test]
-fn most_bytes(rt: HostRuntime) -> Result<(), Fail> {
-    assert_value(&rt, rt.alloc(), 128, 1024, 97, 498_097)
+fn most_bytes(rt: HostRuntime) {
+    let mut validator = Validator::new(&rt, 128);
+    validator.fill(&rt, 1024);
+    validator.picks_so_many(&rt, 97, 498_097);
 }
 
 /// Transaction 1 of client 7 waits, and 2 doesn't.
-fn judge_values(rt: &impl Abort, validator: &mut Validator) -> Result<(), Fail> {
-    validator.answers(rt, &[(7, 1, Ok(()))])?;
-    for (number, is_right) in [(1, true), (2, true), (1, false), (2, false)] {
-        let found = validator.finds_genuine(number, is_right)?;
-        assert_eq!(rt; found, is_right, "number {number}");
-    }
-    Ok(())
-}
-
 #[test]
-fn what_waits_is_genuine_by_its_tags(rt: HostRuntime) -> Result<(), Fail> {
-    let mut validator = Validator::new(rt.alloc(), 1)?;
-    judge_values(&rt, &mut validator)
+fn what_waits_is_genuine_by_its_tags(rt: HostRuntime) {
+    let mut validator = Validator::new(&rt, 1);
+    validator.answers(&rt, &[(7, 1, Ok(()))]);
+    for (number, is_right) in [(1, true), (2, true), (1, false), (2, false)] {
+        let found = validator.finds_genuine(&rt, number, is_right);
+        assert_same(&rt, &(number, found), &(number, is_right));
+    }
 }

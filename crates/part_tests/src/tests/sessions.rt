@@ -1,11 +1,10 @@
 //! Client 7 closes a session and goes on in the next.
 
-use super::queues::Validator;
+use super::assert_same;
+use super::queues::{Validator, byte, bytes, value_alone, value_of};
 use protocol::{Standing, SubmitFault};
-use std::alloc::Global;
 use std::process::Abort;
-use std::test::Fail;
-use transactions::{Op, Seq, Shared, Tx, Value, spell_value};
+use transactions::{Op, Seq, Tx, Value, spell_value};
 
 /// The tag of client 7's transaction of session 1 with number 1, the byte 62, by Python's module `hmac`.
 const TAG_OF_BYTES: [u8; 32] = [
@@ -183,90 +182,94 @@ fn are_of_seven(txs: &[Tx], sent: &[Sent]) -> bool {
 
 impl Validator {
     /// The transaction with the tag for this validator.
-    fn of_seven(&self, sent: Sent) -> Result<Tx, Fail> {
+    fn of_seven<R: Abort + AllocGlobal>(&self, rt: &R, sent: Sent) -> Tx {
         match sent {
-            Bytes(session, number) => self.tagged(7, session, number, self.bytes(2)?),
-            Close(session, number) => self.tagged(7, session, number, Op::Close),
+            Bytes(session, number) => self.tagged(rt, 7, session, number, bytes(rt, 2)),
+            Close(session, number) => self.tagged(rt, 7, session, number, Op::Close),
         }
     }
 
     /// The value of these.
-    fn value_of_seven(&self, sent: &[Sent]) -> Result<Value, Fail> {
+    fn value_of_seven<R: Abort + AllocGlobal>(&self, rt: &R, sent: &[Sent]) -> Value {
         let mut txs = Vec::new(self.alloc);
         for each in sent {
-            txs.push(self.of_seven(*each)?)?;
+            txs.push(self.of_seven(rt, *each)).expect(rt, "it has room");
         }
-        Ok(Value {
-            txs: Shared::from_vec(self.alloc, txs)?,
-        })
+        value_of(rt, txs)
+    }
+
+    /// It gets this answer.
+    fn answers_one<R: Abort + AllocGlobal>(&mut self, rt: &R, sent: Sent, answer: Answer) {
+        let tx = self.of_seven(rt, sent);
+        assert_same(rt, &(sent, self.submit(tx)), &(sent, answer));
     }
 
     /// Each gets its answer.
-    fn answers_seven(&mut self, rt: &impl Abort, cases: &[(Sent, Answer)]) -> Result<(), Fail> {
+    fn answers_seven<R: Abort + AllocGlobal>(&mut self, rt: &R, cases: &[(Sent, Answer)]) {
         for (sent, answer) in cases {
-            let tx = self.of_seven(*sent)?;
-            assert_eq!(rt; self.submit(tx), *answer, "{sent:?}");
+            self.answers_one(rt, *sent, *answer);
         }
-        Ok(())
     }
 
-    fn queues(&mut self, rt: &impl Abort, sent: &[Sent]) -> Result<(), Fail> {
+    /// These are sent, and wait from then on.
+    fn queues<R: Abort + AllocGlobal>(&mut self, rt: &R, sent: &[Sent]) {
         for each in sent {
-            self.answers_seven(rt, &[(*each, Ok(()))])?;
+            self.answers_one(rt, *each, Ok(()));
         }
-        Ok(())
     }
 
-    fn delivers(&mut self, rt: &impl Abort, sent: &[Sent]) -> Result<(), Fail> {
-        let value = self.value_of_seven(sent)?;
-        self.take(rt, &value)?;
+    /// A value of these is delivered.
+    fn delivers<R: Abort + AllocGlobal>(&mut self, rt: &R, sent: &[Sent]) {
+        let value = self.value_of_seven(rt, sent);
+        self.take(rt, &value);
         self.mempool.drop_delivered(&self.frontier);
-        Ok(())
     }
 
-    fn waits(&self, rt: &impl Abort, sent: &[Sent]) {
+    /// These wait, in this order.
+    fn waits<R: Abort + AllocGlobal>(&self, rt: &R, sent: &[Sent]) {
         assert!(rt; are_of_seven(self.mempool.waiting(7), sent), "{sent:?}");
     }
 
-    fn reaches(&self, rt: &impl Abort, session: u32, last: u64, closed: bool) {
+    /// Client 7 stands so after what is delivered and what waits.
+    fn reaches<R: Abort + AllocGlobal>(&self, rt: &R, session: u32, last: u64, closed: bool) {
         let reached = Standing {
             session,
             last,
             closed,
         };
-        assert_eq!(rt; self.mempool.reached(7, &self.frontier), reached);
+        assert_same(rt, &self.mempool.reached(7, &self.frontier), &reached);
     }
 
-    fn takes(&mut self, rt: &impl Abort, step: &Step) -> Result<(), Fail> {
+    /// Takes one step.
+    fn takes<R: Abort + AllocGlobal>(&mut self, rt: &R, step: &Step) {
         match step {
             Queues(sent) => self.queues(rt, sent),
             Answers(cases) => self.answers_seven(rt, cases),
             Delivers(sent) => self.delivers(rt, sent),
-            Waits(sent) => Ok(self.waits(rt, sent)),
-            Reaches(session, last, closed) => Ok(self.reaches(rt, *session, *last, *closed)),
+            Waits(sent) => self.waits(rt, sent),
+            Reaches(session, last, closed) => self.reaches(rt, *session, *last, *closed),
         }
     }
 
-    fn plays(&mut self, rt: &impl Abort, steps: &[Step]) -> Result<(), Fail> {
+    /// Takes these steps in turn.
+    fn plays<R: Abort + AllocGlobal>(&mut self, rt: &R, steps: &[Step]) {
         for step in steps {
-            self.takes(rt, step)?;
+            self.takes(rt, step);
         }
-        Ok(())
     }
 }
 
 /// The first of four validators takes these steps, from nothing.
-fn plays(rt: &impl Abort, alloc: Global, steps: &[Step]) -> Result<(), Fail> {
-    let mut validator = Validator::new(alloc, 4)?;
-    validator.plays(rt, steps)
+fn plays<R: Abort + AllocGlobal>(rt: &R, steps: &[Step]) {
+    let mut validator = Validator::new(rt, 4);
+    validator.plays(rt, steps);
 }
 
 /// The close of session 0 waits, and then it is delivered.
 #[test]
-fn causes_after_a_delivered_close(rt: HostRuntime) -> Result<(), Fail> {
+fn causes_after_a_delivered_close(rt: HostRuntime) {
     plays(
         &rt,
-        rt.alloc(),
         &[
             Answers(&AT_FIRST),
             Reaches(0, 1, true),
@@ -281,14 +284,13 @@ fn causes_after_a_delivered_close(rt: HostRuntime) -> Result<(), Fail> {
             Answers(&WITH_THE_NEXT_DELIVERED),
             Waits(&[Close(1, 2), Bytes(2, 1)]),
         ],
-    )
+    );
 }
 
 #[test]
-fn causes_after_a_queued_close(rt: HostRuntime) -> Result<(), Fail> {
+fn causes_after_a_queued_close(rt: HostRuntime) {
     plays(
         &rt,
-        rt.alloc(),
         &[
             Queues(&[Close(0, 1)]),
             Answers(&AFTER_A_CLOSE),
@@ -297,34 +299,24 @@ fn causes_after_a_queued_close(rt: HostRuntime) -> Result<(), Fail> {
             Answers(&WITH_THE_NEXT_DELIVERED),
             Waits(&[Close(1, 2), Bytes(2, 1)]),
         ],
-    )
+    );
 }
 
 /// So many transactions of a session wait, the last of which is its close.
-fn fill_with(
-    rt: &impl Abort,
-    validator: &mut Validator,
-    session: u32,
-    count: u64,
-) -> Result<(), Fail> {
+fn fill_with<R: Abort + AllocGlobal>(rt: &R, validator: &mut Validator, session: u32, count: u64) {
     for number in 1..count {
-        validator.queues(rt, &[Bytes(session, number)])?;
+        validator.answers_one(rt, Bytes(session, number), Ok(()));
     }
-    validator.queues(rt, &[Close(session, count)])
+    validator.answers_one(rt, Close(session, count), Ok(()));
 }
 
 /// Two sessions of 32 transactions fill the queue.
-fn fill_queue(rt: &impl Abort, validator: &mut Validator) -> Result<(), Fail> {
-    fill_with(rt, validator, 0, 32)?;
-    fill_with(rt, validator, 1, 32)?;
-    assert_eq!(rt; validator.mempool.waiting(7).len(), 64);
-    Ok(())
-}
-
 #[test]
-fn all_sessions_share_a_queue(rt: HostRuntime) -> Result<(), Fail> {
-    let mut validator = Validator::new(rt.alloc(), 4)?;
-    fill_queue(&rt, &mut validator)?;
+fn all_sessions_share_a_queue(rt: HostRuntime) {
+    let mut validator = Validator::new(&rt, 4);
+    fill_with(&rt, &mut validator, 0, 32);
+    fill_with(&rt, &mut validator, 1, 32);
+    assert_same(&rt, &validator.mempool.waiting(7).len(), &64);
     validator.plays(
         &rt,
         &[
@@ -332,90 +324,80 @@ fn all_sessions_share_a_queue(rt: HostRuntime) -> Result<(), Fail> {
             Delivers(&[Bytes(0, 1)]),
             Answers(&[(Bytes(2, 1), Ok(()))]),
         ],
-    )
+    );
 }
 
 /// What is too long or of an unknown client is refused for that, whatever its session.
-fn judge_before_sessions(rt: &impl Abort, validator: &mut Validator) -> Result<(), Fail> {
-    let mut too_long = validator.tagged(10, 5, 9, Op::Close)?;
-    too_long.op = validator.bytes(1025)?;
-    assert_eq!(rt; validator.submit(too_long), Err(SubmitFault::TooLong));
-    let unknown = validator.tagged(10, 5, 9, Op::Close)?;
-    assert_eq!(rt; validator.submit(unknown), Err(SubmitFault::UnknownClient));
-    Ok(())
+fn judge_before_sessions<R: Abort + AllocGlobal>(rt: &R, validator: &mut Validator) {
+    let mut too_long = validator.tagged(rt, 10, 5, 9, Op::Close);
+    too_long.op = bytes(rt, 1025);
+    assert_same(rt, &validator.submit(too_long), &Err(SubmitFault::TooLong));
+    let unknown = validator.tagged(rt, 10, 5, 9, Op::Close);
+    let found = validator.submit(unknown);
+    assert_same(rt, &found, &Err(SubmitFault::UnknownClient));
 }
 
 /// And so is a transaction under the tag of another session.
-fn judge_moved(
-    rt: &impl Abort,
+fn judge_moved<R: Abort + AllocGlobal>(
+    rt: &R,
     validator: &mut Validator,
     sent: Sent,
     session: u32,
-) -> Result<(), Fail> {
-    let mut moved = validator.of_seven(sent)?;
+) {
+    let mut moved = validator.of_seven(rt, sent);
     moved.session = session;
-    assert_eq!(rt; validator.submit(moved), Err(SubmitFault::BadTag));
-    Ok(())
+    assert_same(rt, &validator.submit(moved), &Err(SubmitFault::BadTag));
 }
 
 #[test]
-fn causes_before_those_of_sessions(rt: HostRuntime) -> Result<(), Fail> {
-    let mut validator = Validator::new(rt.alloc(), 4)?;
-    judge_before_sessions(&rt, &mut validator)?;
-    judge_moved(&rt, &mut validator, Bytes(0, 1), 1)?;
-    judge_moved(&rt, &mut validator, Bytes(5, 9), 0)
+fn causes_before_those_of_sessions(rt: HostRuntime) {
+    let mut validator = Validator::new(&rt, 4);
+    judge_before_sessions(&rt, &mut validator);
+    judge_moved(&rt, &mut validator, Bytes(0, 1), 1);
+    judge_moved(&rt, &mut validator, Bytes(5, 9), 0);
 }
 
 /// A transaction of the byte 62 gets this answer under the tag of session 1's transaction 1.
-fn answers_to_bytes(
-    rt: &impl Abort,
+fn answers_to_bytes<R: Abort + AllocGlobal>(
+    rt: &R,
     validator: &mut Validator,
     session: u32,
     answer: Answer,
-) -> Result<(), Fail> {
-    let bytes = Op::Bytes(Seq::from_vec(b"b".to_vec(validator.alloc)?));
-    let found = validator.answer_to_tag(7, session, 1, bytes, &TAG_OF_BYTES)?;
-    assert_eq!(rt; found, answer);
-    Ok(())
+) {
+    let found = validator.answer_to_tag(rt, 7, session, 1, byte(rt, b'b'), &TAG_OF_BYTES);
+    assert_same(rt, &found, &answer);
 }
 
 /// A close of session 1 with number 0 gets this answer under its known tag.
-fn answers_to_zero(rt: &impl Abort, validator: &mut Validator, answer: Answer) -> Result<(), Fail> {
-    let found = validator.answer_to_tag(7, 1, 0, Op::Close, &TAG_OF_ZERO)?;
-    assert_eq!(rt; found, answer);
-    Ok(())
+fn answers_to_zero<R: Abort + AllocGlobal>(rt: &R, validator: &mut Validator, answer: Answer) {
+    let found = validator.answer_to_tag(rt, 7, 1, 0, Op::Close, &TAG_OF_ZERO);
+    assert_same(rt, &found, &answer);
 }
 
 /// Known tags of session 1, which number 0 does not begin, and number 1 does.
-fn judge_known_tags(rt: &impl Abort, validator: &mut Validator) -> Result<(), Fail> {
-    validator.queues(rt, &[Close(0, 1)])?;
-    answers_to_zero(rt, validator, GAP)?;
-    answers_to_bytes(rt, validator, 2, Err(SubmitFault::BadTag))?;
-    answers_to_bytes(rt, validator, 1, Ok(()))?;
-    answers_to_zero(rt, validator, OLD)
+#[test]
+fn known_tags_of_a_later_session(rt: HostRuntime) {
+    let mut validator = Validator::new(&rt, 1);
+    validator.queues(&rt, &[Close(0, 1)]);
+    answers_to_zero(&rt, &mut validator, GAP);
+    answers_to_bytes(&rt, &mut validator, 2, Err(SubmitFault::BadTag));
+    answers_to_bytes(&rt, &mut validator, 1, Ok(()));
+    answers_to_zero(&rt, &mut validator, OLD);
 }
 
 #[test]
-fn known_tags_of_a_later_session(rt: HostRuntime) -> Result<(), Fail> {
-    let mut validator = Validator::new(rt.alloc(), 1)?;
-    judge_known_tags(&rt, &mut validator)
-}
-
-#[test]
-fn what_waits_goes_on_from_what_is_delivered(rt: HostRuntime) -> Result<(), Fail> {
+fn what_waits_goes_on_from_what_is_delivered(rt: HostRuntime) {
     for (delivered, waiting) in &DELIVERIES {
         let steps = [Queues(&QUEUED), Delivers(delivered), Waits(waiting)];
-        plays(&rt, rt.alloc(), &steps)?;
+        plays(&rt, &steps);
     }
-    Ok(())
 }
 
 /// Another's close has dropped all: the client goes on from there.
 #[test]
-fn the_next_follows_a_close_of_another(rt: HostRuntime) -> Result<(), Fail> {
+fn the_next_follows_a_close_of_another(rt: HostRuntime) {
     plays(
         &rt,
-        rt.alloc(),
         &[
             Queues(&QUEUED),
             Delivers(&[Bytes(0, 1), Close(0, 2)]),
@@ -425,15 +407,14 @@ fn the_next_follows_a_close_of_another(rt: HostRuntime) -> Result<(), Fail> {
                 (Bytes(1, 1), Ok(())),
             ]),
         ],
-    )
+    );
 }
 
 /// And so has another's transaction in place of the own close.
 #[test]
-fn the_next_follows_what_stands_for_the_own_close(rt: HostRuntime) -> Result<(), Fail> {
+fn the_next_follows_what_stands_for_the_own_close(rt: HostRuntime) {
     plays(
         &rt,
-        rt.alloc(),
         &[
             Queues(&QUEUED),
             Delivers(&[Bytes(0, 1), Bytes(0, 2), Bytes(0, 3)]),
@@ -443,16 +424,30 @@ fn the_next_follows_what_stands_for_the_own_close(rt: HostRuntime) -> Result<(),
                 (Close(0, 4), Ok(())),
             ]),
         ],
-    )
+    );
+}
+
+/// Client 8's two transactions wait.
+fn queue_two_of_another<R: Abort + AllocGlobal>(rt: &R, validator: &mut Validator) {
+    for number in [1, 2] {
+        let op = Op::Bytes(Seq::new(validator.alloc));
+        let other = validator.tagged(rt, 8, 0, number, op);
+        assert_same(rt, &validator.submit(other), &Ok(()));
+    }
+}
+
+/// These clients' transactions are picked.
+fn assert_picked<R: Abort + AllocGlobal>(rt: &R, validator: &Validator, wanted: &[(u16, Sent)]) {
+    let value = validator.picked(rt);
+    assert!(rt; are_of_clients(value.txs.as_slice(), wanted));
 }
 
 /// Client 8's transactions stand between those of two sessions of client 7.
-fn pick_two_sessions(rt: &impl Abort, validator: &mut Validator) -> Result<(), Fail> {
-    validator.queues(rt, &[Close(0, 1), Bytes(1, 1), Close(1, 2)])?;
-    for number in [1, 2] {
-        let other = validator.tagged(8, 0, number, Op::Bytes(Seq::new(validator.alloc)))?;
-        assert_eq!(rt; validator.submit(other), Ok(()));
-    }
+#[test]
+fn a_value_spans_sessions(rt: HostRuntime) {
+    let mut validator = Validator::new(&rt, 4);
+    validator.queues(&rt, &[Close(0, 1), Bytes(1, 1), Close(1, 2)]);
+    queue_two_of_another(&rt, &mut validator);
     let wanted = &[
         (7, Close(0, 1)),
         (8, Bytes(0, 1)),
@@ -460,16 +455,8 @@ fn pick_two_sessions(rt: &impl Abort, validator: &mut Validator) -> Result<(), F
         (8, Bytes(0, 2)),
         (7, Close(1, 2)),
     ];
-    let value = validator.mempool.pick()?;
-    assert!(rt; are_of_clients(value.txs.as_slice(), wanted));
-    Ok(())
-}
-
-#[test]
-fn a_value_spans_sessions(rt: HostRuntime) -> Result<(), Fail> {
-    let mut validator = Validator::new(rt.alloc(), 4)?;
-    pick_two_sessions(&rt, &mut validator)?;
-    validator.deliver(&rt)?;
+    assert_picked(&rt, &validator, wanted);
+    validator.deliver(&rt);
     validator.plays(
         &rt,
         &[
@@ -477,65 +464,63 @@ fn a_value_spans_sessions(rt: HostRuntime) -> Result<(), Fail> {
             Reaches(1, 2, true),
             Answers(&[(Bytes(0, 2), OLD), (Bytes(2, 1), Ok(()))]),
         ],
-    )
+    );
 }
 
 /// Whether a value of this transaction alone is genuine.
-fn is_genuine(validator: &Validator, tx: Tx) -> Result<bool, Fail> {
-    let mut txs = Vec::new(validator.alloc);
-    txs.push(tx)?;
-    let value = Value {
-        txs: Shared::from_vec(validator.alloc, txs)?,
-    };
-    let _spelling = spell_value(validator.alloc, &value)?;
-    Ok(validator.mempool.is_genuine(&validator.ring, &value))
+fn is_genuine<R: Abort + AllocGlobal>(rt: &R, validator: &Validator, tx: Tx) -> bool {
+    let value = value_alone(rt, tx);
+    let _spelling = spell_value(validator.alloc, &value).expect(rt, "it has a spelling");
+    validator.mempool.is_genuine(&validator.ring, &value)
+}
+
+/// The transaction is genuine with its tag, and not with another.
+fn judge_genuine<R: Abort + AllocGlobal>(rt: &R, validator: &Validator, sent: Sent) {
+    let right = validator.of_seven(rt, sent);
+    assert_same(rt, &(sent, is_genuine(rt, validator, right)), &(sent, true));
+    let wrong = validator.with_tag(rt, validator.of_seven(rt, sent), [9; 32]);
+    assert_same(
+        rt,
+        &(sent, is_genuine(rt, validator, wrong)),
+        &(sent, false),
+    );
 }
 
 /// Transactions of two sessions that wait have one number, and one that doesn't wait is of a third.
-fn judge_genuine(rt: &impl Abort, validator: &mut Validator) -> Result<(), Fail> {
-    validator.queues(rt, &[Close(0, 1), Bytes(1, 1)])?;
-    for sent in [
-        Close(0, 1),
-        Bytes(0, 1),
-        Bytes(1, 1),
-        Close(1, 1),
-        Bytes(2, 1),
-    ] {
-        let right = validator.of_seven(sent)?;
-        assert!(rt; is_genuine(validator, right)?, "{sent:?}");
-        let mut wrong = validator.of_seven(sent)?;
-        wrong.tags = Seq::new(validator.alloc);
-        validator.put_tags(&mut wrong.tags, [9; 32])?;
-        assert!(rt; !is_genuine(validator, wrong)?, "{sent:?}");
-    }
-    Ok(())
-}
-
 #[test]
-fn sessions_that_wait_are_genuine_by_their_tags(rt: HostRuntime) -> Result<(), Fail> {
-    let mut validator = Validator::new(rt.alloc(), 4)?;
-    judge_genuine(&rt, &mut validator)
+fn sessions_that_wait_are_genuine_by_their_tags(rt: HostRuntime) {
+    let mut validator = Validator::new(&rt, 4);
+    validator.queues(&rt, &[Close(0, 1), Bytes(1, 1)]);
+    judge_genuine(&rt, &validator, Close(0, 1));
+    judge_genuine(&rt, &validator, Bytes(0, 1));
+    judge_genuine(&rt, &validator, Bytes(1, 1));
+    judge_genuine(&rt, &validator, Close(1, 1));
+    judge_genuine(&rt, &validator, Bytes(2, 1));
 }
 
-/// Clients 1 to 5 have closed session 0, and each has sent twenty of the longest transactions of session 1.
-fn fill_with_longest(rt: &impl Abort, validator: &mut Validator) -> Result<(), Fail> {
+/// Clients 1 to 5 close session 0.
+fn close_first_sessions<R: Abort + AllocGlobal>(rt: &R, validator: &mut Validator) {
     for client in 1..6 {
-        let close = validator.tagged(client, 0, 1, Op::Close)?;
-        assert_eq!(rt; validator.submit(close), Ok(()));
+        let close = validator.tagged(rt, client, 0, 1, Op::Close);
+        assert_same(rt, &validator.submit(close), &Ok(()));
     }
-    validator.deliver(rt)?;
+}
+
+/// Clients 1 to 5 each send twenty of the longest transactions of session 1.
+fn fill_with_longest<R: Abort + AllocGlobal>(rt: &R, validator: &mut Validator) {
     for number in 1..21 {
         for client in 1..6 {
-            let longest = validator.tagged(client, 1, number, validator.bytes(1024)?)?;
-            assert_eq!(rt; validator.submit(longest), Ok(()));
+            let longest = validator.tagged(rt, client, 1, number, bytes(rt, 1024));
+            assert_same(rt, &validator.submit(longest), &Ok(()));
         }
     }
-    Ok(())
 }
 
 #[test]
-fn most_bytes_of_later_sessions(rt: HostRuntime) -> Result<(), Fail> {
-    let mut validator = Validator::new(rt.alloc(), 128)?;
-    fill_with_longest(&rt, &mut validator)?;
-    validator.picks_so_many(&rt, 97, 498_485)
+fn most_bytes_of_later_sessions(rt: HostRuntime) {
+    let mut validator = Validator::new(&rt, 128);
+    close_first_sessions(&rt, &mut validator);
+    validator.deliver(&rt);
+    fill_with_longest(&rt, &mut validator);
+    validator.picks_so_many(&rt, 97, 498_485);
 }

@@ -1,81 +1,69 @@
 //! Early frames, catching up, and what is sent again.
 
 use super::{
-    ASK, GUARDED, PRECOMMIT, PREVOTE, asks, came, dial_all, duties, edge_of, large_edge, of_height,
-    of_round, released,
+    ASK, GUARDED, PRECOMMIT, PREVOTE, asks, assert_same, came, dial_all, duties, of_height,
+    of_round, on_edge, on_large_edge, open, released,
 };
 use edge_frames::LinkId;
 use peer_core::{Duty, Grounds, Manner, PeerCore, Sending};
 use peer_links::Way;
 use protocol::Refusal;
-use std::alloc::Global;
+use std::alloc::AllocGlobal;
 use std::process::Abort;
-use std::test::Fail;
 
 #[test]
-fn an_early_frame_is_handed_in_once_its_height_has_come(rt: HostRuntime) -> Result<(), Fail> {
-    let mut edge = edge_of(rt.alloc(), GUARDED)?;
-    try_an_early_frame_is_handed_in_once_its_height_has_come(&rt, &mut edge)
+fn an_early_frame_is_handed_in_once_its_height_has_come(rt: HostRuntime) {
+    on_edge(
+        &rt,
+        GUARDED,
+        try_an_early_frame_is_handed_in_once_its_height_has_come,
+    );
 }
 
-fn try_an_early_frame_is_handed_in_once_its_height_has_come(
-    rt: &impl Abort,
+fn try_an_early_frame_is_handed_in_once_its_height_has_come<R: Abort + AllocGlobal>(
+    rt: &R,
     edge: &mut PeerCore,
-) -> Result<(), Fail> {
-    dial_all(edge)?;
+) {
+    dial_all(rt, edge);
     let early = of_round(PREVOTE, 1, 2);
     came(edge, 2, &early, Err(Refusal::OtherHeight), 0, 0);
-    assert_eq!(rt; duties(edge, 0).handed_in, 0);
+    assert_same(rt, &duties(edge, 0).handed_in, &0);
     assert!(rt; edge.told(1, 10));
     assert!(rt; !edge.told(1, 10));
-    assert_eq!(rt; duties(edge, 10).handed_in, 1);
-    assert_eq!(rt; duties(edge, 10).handed_in, 0);
-    Ok(())
+    assert_same(rt, &duties(edge, 10).handed_in, &1);
+    assert_same(rt, &duties(edge, 10).handed_in, &0);
 }
 
 /// A validator that is two heights behind asks one link at once, and where that brings nothing within a second all.
 #[test]
-fn who_is_behind_asks_one_and_then_all(rt: HostRuntime) -> Result<(), Fail> {
-    let alloc = rt.alloc();
-    let mut edge = edge_of(alloc, GUARDED)?;
-    try_who_is_behind_asks_one_and_then_all(&rt, alloc, &mut edge)
+fn who_is_behind_asks_one_and_then_all(rt: HostRuntime) {
+    on_edge(&rt, GUARDED, try_who_is_behind_asks_one_and_then_all);
 }
 
-fn try_who_is_behind_asks_one_and_then_all(
-    rt: &impl Abort,
-    alloc: Global,
-    edge: &mut PeerCore,
-) -> Result<(), Fail> {
-    dial_all(edge)?;
+fn try_who_is_behind_asks_one_and_then_all<R: Abort + AllocGlobal>(rt: &R, edge: &mut PeerCore) {
+    dial_all(rt, edge);
     let _ = duties(edge, 0);
     let ask = of_height(ASK, 0, 1);
-    assert_eq!(rt; released(alloc, edge, &ask, 0)?, 123);
+    assert_same(rt, &released(rt, edge, &ask, 0), &123);
     let later = of_height(ASK, 2, 2);
     came(edge, 2, &later, Err(Refusal::OtherHeight), 0, 0);
-    assert_eq!(rt; duties(edge, 0).asks, 1);
-    assert_eq!(rt; released(alloc, edge, &ask, 0)?, 1);
-    assert_eq!(rt; duties(edge, 1_000).asks, 1);
-    assert_eq!(rt; released(alloc, edge, &ask, 1_000)?, 123);
-    Ok(())
+    assert_same(rt, &duties(edge, 0).asks, &1);
+    assert_same(rt, &released(rt, edge, &ask, 0), &1);
+    assert_same(rt, &duties(edge, 1_000).asks, &1);
+    assert_same(rt, &released(rt, edge, &ask, 1_000), &123);
 }
 
 /// In height 2 of four validators all that are behind ask validator 2 first, and then the next one, so that one bundle is made for all.
 #[test]
-fn who_is_behind_asks_whom_the_others_ask(rt: HostRuntime) -> Result<(), Fail> {
-    let alloc = rt.alloc();
-    let mut edge = edge_of(alloc, GUARDED)?;
-    try_who_is_behind_asks_whom_the_others_ask(&rt, alloc, &mut edge)
+fn who_is_behind_asks_whom_the_others_ask(rt: HostRuntime) {
+    on_edge(&rt, GUARDED, try_who_is_behind_asks_whom_the_others_ask);
 }
 
-fn try_who_is_behind_asks_whom_the_others_ask(
-    rt: &impl Abort,
-    alloc: Global,
-    edge: &mut PeerCore,
-) -> Result<(), Fail> {
-    dial_all(edge)?;
+fn try_who_is_behind_asks_whom_the_others_ask<R: Abort + AllocGlobal>(rt: &R, edge: &mut PeerCore) {
+    dial_all(rt, edge);
     let _ = duties(edge, 0);
     let own = |height: u8| of_height(ASK, height, 1);
-    let _ = released(alloc, edge, &own(2), 0)?;
+    let _ = released(rt, edge, &own(2), 0);
     came(
         edge,
         1,
@@ -84,29 +72,26 @@ fn try_who_is_behind_asks_whom_the_others_ask(
         2,
         0,
     );
-    assert_eq!(rt; duties(edge, 0).asks, 1);
-    assert_eq!(rt; released(alloc, edge, &own(2), 0)?, 2);
+    assert_same(rt, &duties(edge, 0).asks, &1);
+    assert_same(rt, &released(rt, edge, &own(2), 0), &2);
     edge.told(3, 10);
-    assert_eq!(rt; duties(edge, 10).asks, 1);
-    assert_eq!(rt; released(alloc, edge, &own(3), 10)?, 3);
-    Ok(())
+    assert_same(rt, &duties(edge, 10).asks, &1);
+    assert_same(rt, &released(rt, edge, &own(3), 10), &3);
 }
 
 /// In a large cluster a validator that is behind asks one more after 1, 3 and 7 seconds, so that few make a bundle.
 #[test]
-fn who_is_behind_in_a_large_cluster_asks_few(rt: HostRuntime) -> Result<(), Fail> {
-    let mut edge = large_edge(rt.alloc())?;
-    try_who_is_behind_in_a_large_cluster_asks_few(&rt, rt.alloc(), &mut edge)
+fn who_is_behind_in_a_large_cluster_asks_few(rt: HostRuntime) {
+    on_large_edge(&rt, try_who_is_behind_in_a_large_cluster_asks_few);
 }
 
-fn try_who_is_behind_in_a_large_cluster_asks_few(
-    rt: &impl Abort,
-    alloc: Global,
+fn try_who_is_behind_in_a_large_cluster_asks_few<R: Abort + AllocGlobal>(
+    rt: &R,
     edge: &mut PeerCore,
-) -> Result<(), Fail> {
-    assert_eq!(rt; released(alloc, edge, &of_round(PREVOTE, 0, 1), 0)?, 0);
-    dial_all(edge)?;
-    assert_eq!(rt; duties(edge, 0).asks, 0);
+) {
+    assert_same(rt, &released(rt, edge, &of_round(PREVOTE, 0, 1), 0), &0);
+    dial_all(rt, edge);
+    assert_same(rt, &duties(edge, 0).asks, &0);
     came(
         edge,
         2,
@@ -115,132 +100,112 @@ fn try_who_is_behind_in_a_large_cluster_asks_few(
         0,
         0,
     );
-    assert_eq!(rt; duties(edge, 0).asks, 1);
+    assert_same(rt, &duties(edge, 0).asks, &1);
     let ask = of_height(ASK, 0, 1);
-    assert_eq!(rt; released(alloc, edge, &ask, 0)?, 1);
+    assert_same(rt, &released(rt, edge, &ask, 0), &1);
     for (second, links) in [(1, 2), (2, 0), (3, 3), (4, 0), (5, 0), (6, 0), (7, 1)] {
         let asks = duties(edge, second * 1_000).asks;
         let asked = if asks == 0 {
             0
         } else {
-            released(alloc, edge, &ask, second * 1_000)?
+            released(rt, edge, &ask, second * 1_000)
         };
-        assert_eq!(rt; asked, links);
+        assert_same(rt, &asked, &links);
     }
-    Ok(())
 }
 
 /// In a large cluster the last own vote is said on links that open or would seem silent, since an ask would be answered.
 #[test]
-fn in_a_large_cluster_a_vote_is_a_sign_of_life(rt: HostRuntime) -> Result<(), Fail> {
-    let mut edge = large_edge(rt.alloc())?;
-    try_in_a_large_cluster_a_vote_is_a_sign_of_life(&rt, rt.alloc(), &mut edge)
+fn in_a_large_cluster_a_vote_is_a_sign_of_life(rt: HostRuntime) {
+    on_large_edge(&rt, try_in_a_large_cluster_a_vote_is_a_sign_of_life);
 }
 
-fn try_in_a_large_cluster_a_vote_is_a_sign_of_life(
-    rt: &impl Abort,
-    alloc: Global,
+fn try_in_a_large_cluster_a_vote_is_a_sign_of_life<R: Abort + AllocGlobal>(
+    rt: &R,
     edge: &mut PeerCore,
-) -> Result<(), Fail> {
+) {
     let vote = of_round(PREVOTE, 0, 1);
-    assert_eq!(rt; released(alloc, edge, &vote, 0)?, 0);
+    assert_same(rt, &released(rt, edge, &vote, 0), &0);
     edge.told(1, 0);
-    edge.opened(LinkId(1), Way::Dialed(0), 0)?;
-    let greeting = first_sent(edge, 0);
-    assert!(rt; greeting.is_some_and(|sending| sending.frame.as_slice() == vote.as_slice()));
-    assert_eq!(rt; duties(edge, 2_000).sent, 0);
-    let beat = first_sent(edge, 3_000);
-    assert!(rt; beat.is_some_and(|sending| sending.frame.as_slice() == vote.as_slice()));
-    assert_eq!(rt; duties(edge, 4_000).asks, 0);
-    Ok(())
+    open(rt, edge, LinkId(1), Way::Dialed(0), 0);
+    assert_sent_first(rt, edge, 0, &vote);
+    assert_same(rt, &duties(edge, 2_000).sent, &0);
+    assert_sent_first(rt, edge, 3_000, &vote);
+    assert_same(rt, &duties(edge, 4_000).asks, &0);
 }
 
 /// In a large cluster who asks for the height that was left a moment ago isn't answered: it may have asked before it decided.
 #[test]
-fn in_a_large_cluster_a_late_ask_is_passed_over(rt: HostRuntime) -> Result<(), Fail> {
-    let mut edge = large_edge(rt.alloc())?;
-    try_in_a_large_cluster_a_late_ask_is_passed_over(&rt, &mut edge)
+fn in_a_large_cluster_a_late_ask_is_passed_over(rt: HostRuntime) {
+    on_large_edge(&rt, try_in_a_large_cluster_a_late_ask_is_passed_over);
 }
 
-fn try_in_a_large_cluster_a_late_ask_is_passed_over(
-    rt: &impl Abort,
+fn try_in_a_large_cluster_a_late_ask_is_passed_over<R: Abort + AllocGlobal>(
+    rt: &R,
     edge: &mut PeerCore,
-) -> Result<(), Fail> {
-    dial_all(edge)?;
-    assert_eq!(rt; duties(edge, 0).asks, 3);
+) {
+    dial_all(rt, edge);
+    assert_same(rt, &duties(edge, 0).asks, &3);
     edge.told(2, 100);
     let late = of_height(ASK, 1, 0);
     assert!(rt; !edge.expect(LinkId(1), &late, 500));
     assert!(rt; edge.expect(LinkId(2), &of_height(ASK, 0, 2), 500));
     assert!(rt; edge.expect(LinkId(1), &late, 600));
-    Ok(())
 }
 
 /// The own messages are sent again after 1, 3 and 7 seconds.
 #[test]
-fn own_messages_are_sent_again_by_doubling_pauses(rt: HostRuntime) -> Result<(), Fail> {
-    let alloc = rt.alloc();
-    let mut edge = edge_of(alloc, GUARDED)?;
-    try_own_messages_are_sent_again_by_doubling_pauses(&rt, alloc, &mut edge)
+fn own_messages_are_sent_again_by_doubling_pauses(rt: HostRuntime) {
+    on_edge(
+        &rt,
+        GUARDED,
+        try_own_messages_are_sent_again_by_doubling_pauses,
+    );
 }
 
-fn try_own_messages_are_sent_again_by_doubling_pauses(
-    rt: &impl Abort,
-    alloc: Global,
+fn try_own_messages_are_sent_again_by_doubling_pauses<R: Abort + AllocGlobal>(
+    rt: &R,
     edge: &mut PeerCore,
-) -> Result<(), Fail> {
-    dial_all(edge)?;
+) {
+    dial_all(rt, edge);
     let _ = duties(edge, 0);
     let prevote = of_round(PREVOTE, 0, 1);
-    assert_eq!(rt; released(alloc, edge, &prevote, 0)?, 123);
-    assert_eq!(rt; released(alloc, edge, &prevote, 0)?, 0);
+    assert_same(rt, &released(rt, edge, &prevote, 0), &123);
+    assert_same(rt, &released(rt, edge, &prevote, 0), &0);
     for (second, sent) in [(1, 1), (2, 0), (3, 1), (4, 0), (5, 0), (6, 0), (7, 1)] {
-        assert_eq!(rt; duties(edge, second * 1_000).sent, sent);
+        assert_same(rt, &duties(edge, second * 1_000).sent, &sent);
     }
-    Ok(())
 }
 
 /// What another one said goes to one link at a time where a height stands still.
 #[test]
-fn what_others_said_is_passed_on_by_turns(rt: HostRuntime) -> Result<(), Fail> {
-    let mut edge = edge_of(rt.alloc(), GUARDED)?;
-    try_what_others_said_is_passed_on_by_turns(&rt, &mut edge)
+fn what_others_said_is_passed_on_by_turns(rt: HostRuntime) {
+    on_edge(&rt, GUARDED, try_what_others_said_is_passed_on_by_turns);
 }
 
-fn try_what_others_said_is_passed_on_by_turns(
-    rt: &impl Abort,
-    edge: &mut PeerCore,
-) -> Result<(), Fail> {
-    dial_all(edge)?;
+fn try_what_others_said_is_passed_on_by_turns<R: Abort + AllocGlobal>(rt: &R, edge: &mut PeerCore) {
+    dial_all(rt, edge);
     let _ = duties(edge, 0);
     came(edge, 2, &of_round(PREVOTE, 0, 2), Ok(()), 0, 0);
-    assert_eq!(rt; duties(edge, 999).sent, 0);
-    assert_eq!(rt; duties(edge, 1_000).sent, 1);
-    assert_eq!(rt; duties(edge, 2_000).sent, 1);
-    Ok(())
+    assert_same(rt, &duties(edge, 999).sent, &0);
+    assert_same(rt, &duties(edge, 1_000).sent, &1);
+    assert_same(rt, &duties(edge, 2_000).sent, &1);
 }
 
 /// A link that has opened is sent the own messages of the height, and an ask.
 #[test]
-fn who_comes_is_told_the_own_messages(rt: HostRuntime) -> Result<(), Fail> {
-    let alloc = rt.alloc();
-    let mut edge = edge_of(alloc, GUARDED)?;
-    try_who_comes_is_told_the_own_messages(&rt, alloc, &mut edge)
+fn who_comes_is_told_the_own_messages(rt: HostRuntime) {
+    on_edge(&rt, GUARDED, try_who_comes_is_told_the_own_messages);
 }
 
-fn try_who_comes_is_told_the_own_messages(
-    rt: &impl Abort,
-    alloc: Global,
-    edge: &mut PeerCore,
-) -> Result<(), Fail> {
-    assert_eq!(rt; released(alloc, edge, &of_round(PREVOTE, 0, 1), 0)?, 0);
-    edge.opened(LinkId(7), Way::Accepted, 0)?;
-    assert_eq!(rt; duties(edge, 0).sent, 0);
+fn try_who_comes_is_told_the_own_messages<R: Abort + AllocGlobal>(rt: &R, edge: &mut PeerCore) {
+    assert_same(rt, &released(rt, edge, &of_round(PREVOTE, 0, 1), 0), &0);
+    open(rt, edge, LinkId(7), Way::Accepted, 0);
+    assert_same(rt, &duties(edge, 0).sent, &0);
     asks(edge, 7, 2, 0);
     let done = duties(edge, 0);
-    assert_eq!(rt; (done.sent, done.asks), (1, 1));
-    assert_eq!(rt; released(alloc, edge, &of_height(ASK, 0, 1), 0)?, 7);
-    Ok(())
+    assert_same(rt, &(done.sent, done.asks), &(1, 1));
+    assert_same(rt, &released(rt, edge, &of_height(ASK, 0, 1), 0), &7);
 }
 
 /// The front of a prevote of this round for a value, by a validator.
@@ -260,34 +225,32 @@ fn first_sent(edge: &mut PeerCore, now: u64) -> Option<Sending> {
     None
 }
 
-/// Where the height stays, the prevotes by which a validator precommitted a value are passed on before all others.
-#[test]
-fn what_a_lock_rests_on_is_passed_on_first(rt: HostRuntime) -> Result<(), Fail> {
-    let alloc = rt.alloc();
-    let mut edge = edge_of(alloc, GUARDED)?;
-    try_what_a_lock_rests_on_is_passed_on_first(&rt, alloc, &mut edge)
+/// The first frame that is to be sent is this one.
+fn assert_sent_first<R: Abort>(rt: &R, edge: &mut PeerCore, now: u64, frame: &[u8]) {
+    let sending = first_sent(edge, now).expect(rt, "a frame is to be sent");
+    assert!(rt; sending.frame.as_slice() == frame);
 }
 
-fn try_what_a_lock_rests_on_is_passed_on_first(
-    rt: &impl Abort,
-    alloc: Global,
+/// Where the height stays, the prevotes by which a validator precommitted a value are passed on before all others.
+#[test]
+fn what_a_lock_rests_on_is_passed_on_first(rt: HostRuntime) {
+    on_edge(&rt, GUARDED, try_what_a_lock_rests_on_is_passed_on_first);
+}
+
+fn try_what_a_lock_rests_on_is_passed_on_first<R: Abort + AllocGlobal>(
+    rt: &R,
     edge: &mut PeerCore,
-) -> Result<(), Fail> {
-    dial_all(edge)?;
+) {
+    dial_all(rt, edge);
     let _ = duties(edge, 0);
     for round in [7, 8, 1, 9] {
         came(edge, 2, &prevote_of(round, 2), Ok(()), 0, 0);
     }
     let mut precommit = of_round(PRECOMMIT, 0, 1);
     precommit[16] = 1;
-    assert_eq!(rt; released(alloc, edge, &precommit, 0)?, 123);
-    let first = first_sent(edge, 33_000);
-    assert!(rt; first.is_some_and(|sending| sending.frame.as_slice() == precommit.as_slice()));
-    let second = first_sent(edge, 33_000);
-    assert!(rt;
-        second.is_some_and(|sending| sending.frame.as_slice() == prevote_of(1, 2).as_slice())
-    );
-    Ok(())
+    assert_same(rt, &released(rt, edge, &precommit, 0), &123);
+    assert_sent_first(rt, edge, 33_000, &precommit);
+    assert_sent_first(rt, edge, 33_000, &prevote_of(1, 2));
 }
 
 /// A whole vote of height 0 for the value whose digest is this byte, again and again.
@@ -301,43 +264,45 @@ fn vote_for(kind: u8, round: u8, sender: u8, value: u8) -> [u8; 52] {
 
 /// A precommit says which prevotes it rests on: those of its round for its value. One of a lower round changes nothing.
 #[test]
-fn a_precommit_rests_on_the_prevotes_for_its_value(rt: HostRuntime) -> Result<(), Fail> {
+fn a_precommit_rests_on_the_prevotes_for_its_value(rt: HostRuntime) {
     let of_three = Grounds::after(None, &vote_for(PRECOMMIT, 3, 1, 5));
     let wanted = Grounds {
         round: 3,
         value: Some([5; 32]),
     };
-    assert_eq!(rt; of_three, Some(wanted));
-    assert_eq!(rt;
-        Grounds::after(of_three, &vote_for(PRECOMMIT, 2, 1, 6)),
-        Some(wanted)
+    assert_same(&rt, &of_three, &Some(wanted));
+    assert_same(
+        &rt,
+        &Grounds::after(of_three, &vote_for(PRECOMMIT, 2, 1, 6)),
+        &Some(wanted),
     );
-    assert_eq!(rt;
-        Grounds::after(of_three, &vote_for(PREVOTE, 4, 1, 6)),
-        Some(wanted)
+    assert_same(
+        &rt,
+        &Grounds::after(of_three, &vote_for(PREVOTE, 4, 1, 6)),
+        &Some(wanted),
     );
     assert!(rt; wanted.includes(&vote_for(PREVOTE, 3, 2, 5)));
     assert!(rt; !wanted.includes(&vote_for(PREVOTE, 3, 2, 6)));
     assert!(rt; !wanted.includes(&vote_for(PREVOTE, 4, 2, 5)));
     assert!(rt; !wanted.includes(&vote_for(PRECOMMIT, 3, 2, 5)));
-    Ok(())
 }
 
 /// A Byzantine validator sends hundreds of votes before the one by which this validator locks a value: that one is passed on all the same,
 /// and before all others.
 #[test]
-fn a_flood_hides_no_prevote_that_a_lock_rests_on(rt: HostRuntime) -> Result<(), Fail> {
-    let alloc = rt.alloc();
-    let mut edge = edge_of(alloc, Manner::PLAIN)?;
-    try_a_flood_hides_no_prevote_that_a_lock_rests_on(&rt, alloc, &mut edge)
+fn a_flood_hides_no_prevote_that_a_lock_rests_on(rt: HostRuntime) {
+    on_edge(
+        &rt,
+        Manner::PLAIN,
+        try_a_flood_hides_no_prevote_that_a_lock_rests_on,
+    );
 }
 
-fn try_a_flood_hides_no_prevote_that_a_lock_rests_on(
-    rt: &impl Abort,
-    alloc: Global,
+fn try_a_flood_hides_no_prevote_that_a_lock_rests_on<R: Abort + AllocGlobal>(
+    rt: &R,
     edge: &mut PeerCore,
-) -> Result<(), Fail> {
-    dial_all(edge)?;
+) {
+    dial_all(rt, edge);
     let _ = duties(edge, 0);
     for value in 10..=250u8 {
         came(edge, 2, &vote_for(PREVOTE, 0, 2, value), Ok(()), 0, 0);
@@ -345,8 +310,6 @@ fn try_a_flood_hides_no_prevote_that_a_lock_rests_on(
     let prevote = vote_for(PREVOTE, 0, 2, 5);
     came(edge, 2, &prevote, Ok(()), 0, 0);
     let precommit = vote_for(PRECOMMIT, 0, 1, 5);
-    assert_eq!(rt; released(alloc, edge, &precommit, 0)?, 123);
-    let first = first_sent(edge, 1_000);
-    assert!(rt; first.is_some_and(|sending| sending.frame.as_slice() == prevote.as_slice()));
-    Ok(())
+    assert_same(rt, &released(rt, edge, &precommit, 0), &123);
+    assert_sent_first(rt, edge, 1_000, &prevote);
 }

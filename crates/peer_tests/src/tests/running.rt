@@ -14,11 +14,10 @@ use node_core::NodeCore;
 use peer_links::{MemoryClock, MemoryLink, MemoryLinks, Peer, Step, Way, Wire};
 use peer_threads::{Ending, serve};
 use status_words::{Node, Opened, Status};
-use std::alloc::{AllocError, Global};
+use std::alloc::Global;
 use std::marker::Brand;
 use std::process::Abort;
 use std::sync::{Arc, Wait};
-use std::test::Fail;
 use std::thread::Threads;
 use std::time::Clock;
 use timeouts::Plan;
@@ -36,60 +35,86 @@ pub(super) struct Peers {
 }
 
 impl Peers {
-    pub(super) fn new(alloc: Global) -> Result<Peers, Fail> {
-        Ok(Peers {
+    pub(super) fn new(rt: &impl Abort, alloc: Global) -> Peers {
+        let links = MemoryLinks::new(alloc, 0).expect(rt, "no memory");
+        Peers {
             alloc,
-            links: MemoryLinks::new(alloc, 0)?.among(3, 4),
+            links: links.among(3, 4),
             wires: Vec::new(alloc),
-        })
+        }
     }
 
     /// A new link's wire.
-    pub(super) fn wire(&mut self) -> Result<Arc<Wire>, Fail> {
-        let wire = Arc::new(self.alloc, Wire::new(self.alloc))?;
-        self.wires.push(Arc::try_clone(&wire)?)?;
-        Ok(wire)
+    pub(super) fn wire(&mut self, rt: &impl Abort) -> Arc<Wire> {
+        let wire = Arc::new(self.alloc, Wire::new(self.alloc)).expect(rt, "no memory");
+        self.wires.push(shared(rt, &wire)).expect(rt, "no memory");
+        wire
     }
 
     /// The half of a link that is read, in pieces of so many bytes at most.
-    pub(super) fn half(&self, wire: &Arc<Wire>, piece: usize) -> Result<MemoryLink, Fail> {
-        self.half_of_turns(wire, piece, TURNS)
+    pub(super) fn half(&self, rt: &impl Abort, wire: &Arc<Wire>, piece: usize) -> MemoryLink {
+        self.half_of_turns(rt, wire, piece, TURNS)
     }
 
     /// The same, which fails after so many turns in which nothing came.
     pub(super) fn half_of_turns(
         &self,
+        rt: &impl Abort,
         wire: &Arc<Wire>,
         piece: usize,
         turns: u64,
-    ) -> Result<MemoryLink, Fail> {
-        Ok(MemoryLink::new(self.alloc, Arc::try_clone(wire)?, piece, turns))
+    ) -> MemoryLink {
+        MemoryLink::new(self.alloc, shared(rt, wire), piece, turns)
     }
 
     /// Adds a link whose half that is read is this one.
-    pub(super) fn add(&mut self, wire: Arc<Wire>, reader: MemoryLink) -> Result<(), Fail> {
-        let writer = MemoryLink::new(self.alloc, wire, 1, TURNS);
-        let name = format!(in self.alloc; "memory")?;
-        self.links.add(Peer {
+    pub(super) fn add(&mut self, rt: &impl Abort, wire: Arc<Wire>, reader: MemoryLink) {
+        let peer = Peer {
             reader,
-            writer,
-            name,
+            writer: MemoryLink::new(self.alloc, wire, 1, TURNS),
+            name: format!(in self.alloc; "memory").expect(rt, "no memory"),
             way: Way::Accepted,
-        })?;
-        Ok(())
+        };
+        self.links.add(peer).expect(rt, "no memory");
     }
 
     /// Adds a link that brings these steps.
     pub(super) fn add_steps<const N: usize>(
         &mut self,
+        rt: &impl Abort,
         wire: Arc<Wire>,
         steps: [Step; N],
-    ) -> Result<(), Fail> {
-        let mut half = self.half(&wire, 4_096)?;
-        for step in Vec::from_array(self.alloc, steps)? {
-            half.add(step)?;
+    ) {
+        let mut half = self.half(rt, &wire, 4_096);
+        for step in Vec::from_array(self.alloc, steps).expect(rt, "no memory") {
+            add_step(rt, &mut half, step);
         }
-        self.add(wire, half)
+        self.add(rt, wire, half);
+    }
+}
+
+/// The same wire once more.
+fn shared(rt: &impl Abort, wire: &Arc<Wire>) -> Arc<Wire> {
+    Arc::try_clone(wire).expect(rt, "no memory")
+}
+
+/// Adds what a link brings next.
+pub(super) fn add_step(rt: &impl Abort, half: &mut MemoryLink, step: Step) {
+    half.add(step).expect(rt, "no memory");
+}
+
+/// A hold until this frame was sent so often on this wire.
+pub(super) fn held(
+    rt: &impl Abort,
+    alloc: Global,
+    wire: &Arc<Wire>,
+    frame: &[u8],
+    count: usize,
+) -> Step {
+    Step::Hold {
+        wire: shared(rt, wire),
+        bytes: frame.to_vec(alloc).expect(rt, "no memory"),
+        count,
     }
 }
 
@@ -121,35 +146,35 @@ pub(super) const STILL: Course = Course {
     failing: 0,
 };
 
-fn serve_peers<J: Node + Send + Sync, R: Threads + Wait + Clock + Log + Sync>(
+fn serve_peers<J: Node + Send + Sync, R: Abort + Threads + Wait + Clock + Log + Sync>(
     rt: &R,
     alloc: Global,
     node: &LockedNode<MemoryStore, J>,
     peers: Peers,
     course: Course,
-) -> Result<Told, Fail> {
+) -> Told {
     let Peers { links, wires, .. } = peers;
     let clock = MemoryClock::moving(0, course.step);
-    let plan = Plan::new(alloc, course.start, 0)?;
+    let plan = Plan::new(alloc, course.start, 0).expect(rt, "a plan");
     let ending = serve(rt, alloc, node, links, &clock, plan, course.stop);
     let mut seat = node.seat(rt);
     // A call publishes what stands.
     let _ = node.settle(rt, &mut seat);
-    Ok(Told {
+    Told {
         ending,
         status: node.status(&mut seat),
         wires,
-    })
+    }
 }
 
-fn named<J: Node + Send + Sync, R: Threads + Wait + Clock + Log + Sync>(
+fn named<J: Node + Send + Sync, R: Abort + Threads + Wait + Clock + Log + Sync>(
     rt: &R,
     alloc: Global,
     opened: Opened,
     core: NodeCore<MemoryStore>,
     peers: Peers,
     course: Course,
-) -> Result<Told, Fail>
+) -> Told
     requires named { opened_table opened ≡ J.table }
     requires words { opened_words opened ≡ opened_at core.machine.state.height (count_of core) }
     requires stands { (n : ProtocolNode) × Stands n core }
@@ -164,9 +189,9 @@ pub(super) fn run<R: Abort + Threads + Wait + Clock + Log + Sync>(
     alloc: Global,
     peers: Peers,
     course: Course,
-) -> Result<Told, Fail> {
-    let core = core_of(rt, alloc, course.failing)?;
-    let opened = words_for(alloc, &core)?;
+) -> Told {
+    let core = core_of(rt, alloc, course.failing);
+    let opened = words_for(alloc, &core).expect(rt, "no memory");
     named::<Brand, _>(rt, alloc, opened, core, peers, course)
 }
 
@@ -179,14 +204,9 @@ pub(super) fn count<R: Wait>(rt: &R, told: &Told, link: usize, frame: &[u8]) -> 
 }
 
 /// What a link was sent.
-pub(super) fn sent_on<R: Wait>(
-    rt: &R,
-    alloc: Global,
-    told: &Told,
-    link: usize,
-) -> Result<Vec<u8>, AllocError> {
+pub(super) fn sent_on<R: Abort + Wait>(rt: &R, alloc: Global, told: &Told, link: usize) -> Vec<u8> {
     match told.wires.get(link) {
-        Some(wire) => wire.bytes(rt),
-        None => Ok(Vec::new(alloc)),
+        Some(wire) => wire.bytes(rt).expect(rt, "no memory"),
+        None => Vec::new(alloc),
     }
 }

@@ -1,45 +1,45 @@
 //! Configuration files, and the words that they give.
 
+use super::{assert_text, put_words};
 use config_file::{ConfigFault, all_words, config_named, words_of};
 use std::alloc::{AllocError, Global};
 use std::process::Abort;
-use std::test::Fail;
 
 /// The words of a command line and those that a file of this text gives beside them, with one space before each of these.
 fn given(alloc: Global, line: &str, text: &str) -> Result<String, AllocError> {
     let words: Vec<&str> = line.split(' ').collect(alloc)?;
-    match words_of(alloc, text, &words) {
-        Ok(configured) => joined(alloc, &words, &configured),
+    shown(alloc, &words, &words_of(alloc, text, &words))
+}
+
+/// These words and those of a file, or why it gives none.
+fn shown(
+    alloc: Global,
+    words: &[&str],
+    configured: &Result<Vec<String>, ConfigFault>,
+) -> Result<String, AllocError> {
+    match configured {
+        Ok(configured) => joined(alloc, words, configured),
         Err(ConfigFault::NotToml(line)) => format!(in alloc; "not TOML at line {line}"),
         Err(ConfigFault::NotAnOption) => format!(in alloc; "not an option"),
         Err(ConfigFault::OutOfMemory) => Err(AllocError),
     }
 }
 
+/// These words and those of a file, with a space before each.
 fn joined(alloc: Global, words: &[&str], configured: &[String]) -> Result<String, AllocError> {
     let mut line = String::new(alloc);
-    for word in &all_words(alloc, words, configured)? {
-        line.push(' ')?;
-        line.push_str(word)?;
-    }
+    put_words(&mut line, &all_words(alloc, words, configured)?)?;
     Ok(line)
 }
 
 /// The text gives these words beside those of the line.
-fn assert_given(
-    rt: &impl Abort,
-    alloc: Global,
-    line: &str,
-    text: &str,
-    wanted: &str,
-) -> Result<(), Fail> {
-    let found = given(alloc, line, text)?;
-    assert!(rt; found.as_str() == wanted, "{text}: {found}");
-    Ok(())
+fn assert_given(rt: &impl Abort, alloc: Global, line: &str, text: &str, wanted: &str) {
+    let found = given(alloc, line, text).expect(rt, "the words have room");
+    assert_text(rt, text, &found, wanted);
 }
 
 #[test]
-fn entries_become_words(rt: HostRuntime) -> Result<(), Fail> {
+fn entries_become_words(rt: HostRuntime) {
     let alloc = rt.alloc();
     let rows = [
         ("a run", "", " a run"),
@@ -73,13 +73,12 @@ fn entries_become_words(rt: HostRuntime) -> Result<(), Fail> {
         ),
     ];
     for (line, text, wanted) in rows {
-        assert_given(&rt, alloc, line, text, wanted)?;
+        assert_given(&rt, alloc, line, text, wanted);
     }
-    Ok(())
 }
 
 #[test]
-fn what_is_no_configuration(rt: HostRuntime) -> Result<(), Fail> {
+fn what_is_no_configuration(rt: HostRuntime) {
     let alloc = rt.alloc();
     let rows = [
         ("start = ", "not TOML at line 1"),
@@ -97,13 +96,21 @@ fn what_is_no_configuration(rt: HostRuntime) -> Result<(), Fail> {
         ("start = 2026-11-27", "not an option"),
     ];
     for (text, wanted) in rows {
-        assert_given(&rt, alloc, "a run --start 5", text, wanted)?;
+        assert_given(&rt, alloc, "a run --start 5", text, wanted);
     }
-    Ok(())
+}
+
+/// The line names this configuration file, if any.
+fn assert_named(rt: &impl Abort, alloc: Global, line: &str, wanted: Option<&str>) {
+    let words: Vec<&str> = line
+        .split(' ')
+        .collect(alloc)
+        .expect(rt, "the words have room");
+    assert!(rt; config_named(&words) == wanted, "{line}");
 }
 
 #[test]
-fn files_are_named(rt: HostRuntime) -> Result<(), Fail> {
+fn files_are_named(rt: HostRuntime) {
     let rows = [
         ("a run", None),
         ("a run --id 0 --config f --start 1", Some("f")),
@@ -117,8 +124,6 @@ fn files_are_named(rt: HostRuntime) -> Result<(), Fail> {
         ("a", None),
     ];
     for (line, wanted) in rows {
-        let words: Vec<&str> = line.split(' ').collect(rt.alloc())?;
-        assert!(rt; config_named(&words) == wanted, "{line}");
+        assert_named(&rt, rt.alloc(), line, wanted);
     }
-    Ok(())
 }

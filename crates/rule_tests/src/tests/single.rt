@@ -1,26 +1,26 @@
 //! Single calls.
 
-ghost use Rattle.std.specs.Prelude.{◌≡◌, [], IfOk};
+ghost use Rattle.std.specs.Prelude.{◌≡◌, []};
 ghost use Rattle.transactions.specs.Grammar.{IsValue};
 ghost use Rattle.protocol.specs.Restart.{restart};
 
-use super::*;
+use super::{assert_same, *};
 use messages::Bundle;
 use protocol::MOST_ROUNDS;
 
-fn propose(rt: &impl Abort, validator: &mut Validator) -> Result<(), Fail> {
+fn propose(rt: &impl Abort, validator: &mut Validator) {
     let mut bodies = Vec::new(validator.alloc);
-    validator.settle(&mut bodies)?;
-    let id = id_of(validator.alloc, Some(b'p'))?;
+    validator.settle(rt, &mut bodies);
+    let id = id_of(rt, validator.alloc, Some(b'p'));
     let prevote = vote(VoteStep::Prevote, 0, 0, id);
-    assert_eq!(rt; opening(validator.alloc, &bodies)?, (0, None, id, prevote));
-    Ok(())
+    let opening = opening(rt, validator.alloc, &bodies);
+    assert_same(rt, &opening, &(0, None, id, prevote));
 }
 
 #[test]
-fn proposes(rt: HostRuntime) -> Result<(), Fail> {
-    let mut validator = Validator::new(rt.alloc(), 0, true)?;
-    propose(&rt, &mut validator)
+fn proposes(rt: HostRuntime) {
+    let mut validator = Validator::new(&rt, rt.alloc(), 0, true);
+    propose(&rt, &mut validator);
 }
 
 /// Which timeouts hold in round 0 before a proposal comes.
@@ -37,54 +37,55 @@ fn time_out_each(rt: &impl Abort, state: &State) {
             height,
             round,
         };
-        assert_eq!(rt; holds_timeout(state, timeout), holds);
-        assert_eq!(rt; timeout_refusal(state, timeout), None);
+        assert_same(rt, &holds_timeout(state, timeout), &holds);
+        assert_same(rt, &timeout_refusal(state, timeout), &None);
     }
 }
 
-fn await_proposal(rt: &impl Abort, validator: &mut Validator) -> Result<(), Fail> {
-    validator.settle_unheard()?;
+fn await_proposal(rt: &impl Abort, validator: &mut Validator) {
+    validator.settle_unheard(rt);
     time_out_each(rt, &validator.state);
-    Ok(())
 }
 
 #[test]
-fn timeouts(rt: HostRuntime) -> Result<(), Fail> {
-    let mut validator = Validator::new(rt.alloc(), 3, true)?;
-    await_proposal(&rt, &mut validator)
+fn timeouts(rt: HostRuntime) {
+    let mut validator = Validator::new(&rt, rt.alloc(), 3, true);
+    await_proposal(&rt, &mut validator);
 }
 
 /// The last round has begun, and ends by no timeout.
 fn assert_last_round(rt: &impl Abort, state: &State) {
-    assert_eq!(rt; state.round(), 1_000_000);
+    assert_same(rt, &state.round(), &1_000_000);
     let timeout = Timeout {
         kind: Step::Precommit,
         height: 0,
         round: 1_000_000,
     };
     assert!(rt; !holds_timeout(state, timeout));
-    assert_eq!(rt; timeout_refusal(state, timeout), Some(Refusal::RoundLimit));
+    assert_same(
+        rt,
+        &timeout_refusal(state, timeout),
+        &Some(Refusal::RoundLimit),
+    );
 }
 
-fn skip_to_last_round(rt: &impl Abort, validator: &mut Validator) -> Result<(), Fail> {
-    hear_votes(validator, VoteStep::Prevote, MOST_ROUNDS, (0, 2), None)?;
-    validator.settle_unheard()?;
+fn skip_to_last_round(rt: &impl Abort, validator: &mut Validator) {
+    hear_votes(rt, validator, VoteStep::Prevote, MOST_ROUNDS, (0, 2), None);
+    validator.settle_unheard(rt);
     assert_last_round(rt, &validator.state);
-    Ok(())
 }
 
 #[test]
-fn the_last_round(rt: HostRuntime) -> Result<(), Fail> {
-    let mut validator = Validator::new(rt.alloc(), 3, true)?;
-    skip_to_last_round(&rt, &mut validator)
+fn the_last_round(rt: HostRuntime) {
+    let mut validator = Validator::new(&rt, rt.alloc(), 3, true);
+    skip_to_last_round(&rt, &mut validator);
 }
 
 /// Validator 0 at the beginning.
-fn first_of_four(alloc: Global) -> Result<State, Fail>
-    ensures { IfOk result (λ state. (state.state ≡ restart 0 []) × (state.me ≡ 0) × (state.genuine ≡ [])) }
+fn first_of_four(rt: &impl Abort, alloc: Global) -> State
+    ensures { (result.state ≡ restart 0 []) × (result.me ≡ 0) × (result.genuine ≡ []) }
 {
-    let powers = Powers::new(vec![in alloc; 1, 1, 1, 1]?)?;
-    Ok(State::new(alloc, powers, 0))
+    State::new(alloc, four(rt, alloc), 0)
 }
 
 /// A proposal's sender and round.
@@ -97,45 +98,44 @@ fn place_in(body: Option<Body>) -> Option<(u16, u32)> {
 
 /// Its plan to begin says its proposal, before anything is saved or has changed.
 #[tactic(auto, unfolding(protocol::specs::Restart::restart))]
-fn foretell_start(rt: &impl Abort, state: &State, alloc: Global) -> Result<(), Fail>
+fn foretell_start(rt: &impl Abort, state: &State, alloc: Global)
     requires { (state.now.state ≡ restart 0 []) × (state.now.me ≡ 0) × (state.now.genuine ≡ []) }
 {
     let input = Input::Picked(Picked {
-        value: value_of(alloc, 1, b'p')?,
+        value: value_of(rt, alloc, 1, b'p'),
         genuine: true,
     });
-    let plan = plan(state, Rule::Start, input)?;
-    assert_eq!(rt; place_in(state.message_of(&plan)?), Some((0, 0)));
+    let plan = plan(state, Rule::Start, input).expect(rt, "there is a plan");
+    let message = state.message_of(&plan).expect(rt, MEMORY);
+    assert_same(rt, &place_in(message), &Some((0, 0)));
     assert!(rt; !state.has_begun() && plan.entry.is_some());
-    Ok(())
 }
 
 #[test]
-fn foretells(rt: HostRuntime) -> Result<(), Fail> {
-    let state = first_of_four(rt.alloc())?;
-    foretell_start(&rt, &state, rt.alloc())
+fn foretells(rt: HostRuntime) {
+    let state = first_of_four(&rt, rt.alloc());
+    foretell_start(&rt, &state, rt.alloc());
 }
 
 /// Decides by a bundle of validator 1, of which every precommit is right.
 #[tactic(auto, unfolding(protocol::specs::Values::id))]
-fn decide_by(state: &mut State, alloc: Global, value: Value) -> Result<Option<Body>, Fail>
+fn decide_by(rt: &impl Abort, state: &mut State, alloc: Global, value: Value) -> Option<Body>
     requires fits { IsValue value }
     requires fresh { (state.old.state.height ≡ 0) × (state.old.state.proposals ≡ []) × (state.old.genuine ≡ []) }
 {
     let powers = state.powers();
-    if !powers.is_quorum(powers.total()) || !state.frontier().valid(&value) {
-        return Ok(None);
-    }
+    assert!(rt; powers.is_quorum(powers.total()));
+    assert!(rt; state.frontier().valid(&value));
     let bundle = Bundle {
         height: 0,
         sender: 1,
         round: 4,
-        id: value_id(alloc, &value)?,
+        id: value_id(alloc, &value).expect(rt, "it has a spelling"),
         value,
         precommits: Seq::new(alloc),
     };
-    let plan = plan_by_bundle(state, bundle)?;
-    carry_out(alloc, state, plan)
+    let plan = plan_by_bundle(state, bundle).expect(rt, MEMORY);
+    carry_out(rt, alloc, state, plan)
 }
 
 /// The sender and the round of the bundle that a firing lets go.
@@ -146,19 +146,18 @@ fn bundle_in(body: Option<Body>) -> Option<(u16, u32)> {
     }
 }
 
-fn take_decision(rt: &impl Abort, state: &mut State, alloc: Global) -> Result<(), Fail>
+fn take_decision(rt: &impl Abort, state: &mut State, alloc: Global)
     requires { (state.old.state.height ≡ 0) × (state.old.state.proposals ≡ []) × (state.old.genuine ≡ []) }
 {
-    let value = value_of(alloc, 1, b'a')?;
-    let bundle = decide_by(state, alloc, value)?;
-    assert_eq!(rt; bundle_in(bundle), Some((0, 4)));
-    assert_eq!(rt; state.height(), 1);
-    Ok(())
+    let value = value_of(rt, alloc, 1, b'a');
+    let bundle = decide_by(rt, state, alloc, value);
+    assert_same(rt, &bundle_in(bundle), &Some((0, 4)));
+    assert_same(rt, &state.height(), &1);
 }
 
 #[test]
 #[tactic(auto, unfolding(protocol::specs::Restart::restart))]
-fn decides_by_a_bundle(rt: HostRuntime) -> Result<(), Fail> {
-    let mut state = first_of_four(rt.alloc())?;
-    take_decision(&rt, &mut state, rt.alloc())
+fn decides_by_a_bundle(rt: HostRuntime) {
+    let mut state = first_of_four(&rt, rt.alloc());
+    take_decision(&rt, &mut state, rt.alloc());
 }

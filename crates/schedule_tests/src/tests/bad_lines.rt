@@ -1,49 +1,40 @@
 use super::{assert_run, world};
 use std::alloc::Global;
 use std::process::Abort;
-use std::test::Fail;
 
 /// Of each schedule the line of the number that stands before it is the first bad one: nothing is run.
 /// A row has `;` for each line feed of its schedule.
-fn assert_each_bad(rt: &impl Abort, alloc: Global, rows: &str) -> Result<(), Fail> {
+fn assert_each_bad(rt: &impl Abort, alloc: Global, rows: &str) {
     for row in rows.lines() {
         let (line, schedule) = row.split_once(' ').unwrap_or((row, ""));
-        let schedule = schedule.replace(alloc, ';', "\n")?;
-        assert_bad(rt, alloc, schedule.as_str(), line)?;
+        let schedule = schedule.replace(alloc, ';', "\n").expect(rt, "no memory");
+        assert_bad(rt, alloc, schedule.as_str(), line);
     }
-    Ok(())
 }
 
 /// In a world with the value A each of these lines is bad: nothing is run.
-fn assert_each_bad_in_world(rt: &impl Abort, alloc: Global, lines: &str) -> Result<(), Fail> {
+fn assert_each_bad_in_world(rt: &impl Abort, alloc: Global, lines: &str) {
     for line in lines.lines() {
-        let lines = format!(in alloc; "value A 7:1:61\n{line}\nvote 0 3 prevote 0 0 A\n")?;
-        assert_bad_in_world(rt, alloc, lines.as_str(), "5")?;
+        assert_bad_in_world(rt, alloc, line);
     }
-    Ok(())
 }
 
-/// In the usual world this line is the first bad one: nothing is run.
-fn assert_bad_in_world(
-    rt: &impl Abort,
-    alloc: Global,
-    lines: &str,
-    line: &str,
-) -> Result<(), Fail> {
-    let schedule = world(alloc, lines)?;
-    assert_bad(rt, alloc, schedule.as_str(), line)
+/// In a world with the value A this line is the first bad one: nothing is run.
+fn assert_bad_in_world(rt: &impl Abort, alloc: Global, line: &str) {
+    let lines = format!(in alloc; "value A 7:1:61\n{line}\nvote 0 3 prevote 0 0 A\n");
+    let schedule = world(rt, alloc, lines.expect(rt, "no memory").as_str());
+    assert_bad(rt, alloc, schedule.as_str(), "5");
 }
 
 /// Of the schedule this line is the first bad one: nothing is run.
-fn assert_bad(rt: &impl Abort, alloc: Global, schedule: &str, line: &str) -> Result<(), Fail> {
-    let err = format!(in alloc; "tmsim: line {line}\n")?;
+fn assert_bad(rt: &impl Abort, alloc: Global, schedule: &str, line: &str) {
+    let err = format!(in alloc; "tmsim: line {line}\n").expect(rt, "no memory");
     assert_run(rt, alloc, schedule.as_bytes(), 2, "", err.as_str());
-    Ok(())
 }
 
 /// Setup lines that are bad, or stand where they may not, and texts that end too early.
 #[test]
-fn setup(rt: HostRuntime) -> Result<(), Fail> {
+fn setup(rt: HostRuntime) {
     let rows = "\
 1
 2 ;
@@ -92,12 +83,12 @@ fn setup(rt: HostRuntime) -> Result<(), Fail> {
 1 Powers 1 1 1 1;
 1 powers 1 1 1 +1;
 1  ;";
-    assert_each_bad(&rt, rt.alloc(), rows)
+    assert_each_bad(&rt, rt.alloc(), rows);
 }
 
 /// Value lines and executed lines that are bad: nothing is run.
 #[test]
-fn lines_of_a_world(rt: HostRuntime) -> Result<(), Fail> {
+fn lines_of_a_world(rt: HostRuntime) {
     let lines = "\
 value
 value\x20
@@ -232,7 +223,7 @@ fail 3 1 -1
 fail 3 01 -
 fail 3 1 --
 fail 3 1 - -";
-    assert_each_bad_in_world(&rt, rt.alloc(), lines)
+    assert_each_bad_in_world(&rt, rt.alloc(), lines);
 }
 
 /// A byte that is no text.

@@ -1,7 +1,6 @@
 use super::{assert_run, world};
-use std::alloc::{AllocError, Global};
+use std::alloc::Global;
 use std::process::Abort;
-use std::test::Fail;
 
 /// Values, and a proposal of A, which is the first event.
 const BEGINNING: &str = "\
@@ -17,36 +16,29 @@ propose 0 3 0 0 -1 A
 ";
 
 /// A schedule in which this line comes after that beginning.
-fn second_event(alloc: Global, line: &str) -> Result<String, AllocError> {
-    let lines = format!(in alloc; "{BEGINNING}{line}\nvote 0 3 prevote 0 0 nil\n")?;
-    world(alloc, lines.as_str())
+fn second_event(rt: &impl Abort, alloc: Global, line: &str) -> String {
+    let lines = format!(in alloc; "{BEGINNING}{line}\nvote 0 3 prevote 0 0 nil\n");
+    world(rt, alloc, lines.expect(rt, "no memory").as_str())
 }
 
 /// Each of these lines fails with the fault of the number that stands before it.
-fn assert_each_fails(rt: &impl Abort, alloc: Global, rows: &str) -> Result<(), Fail> {
+fn assert_each_fails(rt: &impl Abort, alloc: Global, rows: &str) {
     for row in rows.lines() {
         let (number, line) = row.split_once(' ').unwrap_or((row, ""));
-        let schedule = second_event(alloc, line)?;
-        assert_second_fails(rt, alloc, schedule.as_bytes(), number)?;
+        let schedule = second_event(rt, alloc, line);
+        assert_second_fails(rt, alloc, schedule.as_bytes(), number);
     }
-    Ok(())
 }
 
 /// The second event fails with the fault of this number.
-fn assert_second_fails(
-    rt: &impl Abort,
-    alloc: Global,
-    schedule: &[u8],
-    number: &str,
-) -> Result<(), Fail> {
-    let err = format!(in alloc; "tmsim: event 2: fault {number}\n")?;
+fn assert_second_fails(rt: &impl Abort, alloc: Global, schedule: &[u8], number: &str) {
+    let err = format!(in alloc; "tmsim: event 2: fault {number}\n").expect(rt, "no memory");
     assert_run(rt, alloc, schedule, 3, "0 v3 prevote 0 0 A\n", err.as_str());
-    Ok(())
 }
 
 /// A number that is no validator's, and what can't be spelled.
 #[test]
-fn each_fault(rt: HostRuntime) -> Result<(), Fail> {
+fn each_fault(rt: HostRuntime) {
     let rows = "\
 2 vote 4 3 prevote 0 0 A
 2 vote 0 4 prevote 0 0 nil
@@ -87,5 +79,5 @@ fn each_fault(rt: HostRuntime) -> Result<(), Fail> {
 6 open 7
 2 open 8
 2 open 18446744073709551616";
-    assert_each_fails(&rt, rt.alloc(), rows)
+    assert_each_fails(&rt, rt.alloc(), rows);
 }

@@ -1,8 +1,7 @@
-use super::assert_text;
+use super::{assert_left, assert_text};
 use schedule_text::follow;
 use std::alloc::Global;
 use std::process::Abort;
-use std::test::Fail;
 
 /// A schedule without a report.
 const SCHEDULE: &str = "\
@@ -53,7 +52,7 @@ fn assert_followed(
     let left = follow(alloc, "f", &mut reader, &mut written, &mut told);
     assert_text(rt, schedule, &written, out);
     assert_text(rt, schedule, &told, err);
-    assert!(rt; left == status, "{schedule}");
+    assert_left(rt, schedule, left, status);
 }
 
 #[test]
@@ -67,15 +66,14 @@ fn a_report_takes_the_place_of_an_earlier_one(rt: HostRuntime) {
 }
 
 #[test]
-fn a_text_ends_with_the_event_that_cannot_happen(rt: HostRuntime) -> Result<(), Fail> {
+fn a_text_ends_with_the_event_that_cannot_happen(rt: HostRuntime) {
     let alloc = rt.alloc();
     let setup = "powers 1 1\nclients 1\nvalue E\n";
     let first = "#    0 v0 proposal 0 0 -1 E\n#    1 v0 prevote 0 0 E\n";
-    let schedule = format!(in alloc; "{setup}ask 2\npass\n")?;
-    let followed = format!(in alloc; "{setup}{first}ask 2\n")?;
+    let schedule = format!(in alloc; "{setup}ask 2\npass\n").expect(&rt, "no memory");
+    let followed = format!(in alloc; "{setup}{first}ask 2\n").expect(&rt, "no memory");
     let told = "tmsim: event 1: fault 2\n";
     assert_followed(&rt, alloc, schedule.as_str(), 3, followed.as_str(), told);
-    Ok(())
 }
 
 #[test]

@@ -1,10 +1,9 @@
-use super::world;
+use super::{assert_same, world};
 use schedule_text::{Failure, HELP, simulate};
 use std::alloc::Global;
 use std::io;
 use std::io::{BufRead, ErrorKind, Read, Write};
 use std::process::Abort;
-use std::test::Fail;
 
 /// A reader that gives its bytes, and then fails.
 #[derive(Drop)]
@@ -60,17 +59,20 @@ fn assert_cannot_read(rt: &impl Abort, alloc: Global, rest: &[u8]) {
     let mut out = Vec::new(alloc);
     let mut err = Vec::new(alloc);
     let status = simulate(alloc, "some file", &mut reader, &mut out, &mut err);
-    assert_eq!(rt; status, 2);
+    assert_same(rt, &status, &2);
     assert!(rt; out.is_empty());
-    assert_eq!(rt; str::from_utf8(&err), Ok("tmsim: cannot read some file\n"));
+    assert_same(
+        rt,
+        &str::from_utf8(&err),
+        &Ok("tmsim: cannot read some file\n"),
+    );
 }
 
 /// A read that fails in the middle.
 #[test]
-fn failing_reader(rt: HostRuntime) -> Result<(), Fail> {
-    let schedule = world(rt.alloc(), "value A 7:1:61\npropose 0 3 0 0 -1 A\n")?;
+fn failing_reader(rt: HostRuntime) {
+    let schedule = world(&rt, rt.alloc(), "value A 7:1:61\npropose 0 3 0 0 -1 A\n");
     assert_cannot_read(&rt, rt.alloc(), schedule.as_bytes());
-    Ok(())
 }
 
 /// Where the writer takes so many bytes, this is the status, and nothing is told.
@@ -85,14 +87,13 @@ fn assert_status(rt: &impl Abort, alloc: Global, schedule: &[u8], room: usize, w
 
 /// A write that fails, at each byte of the report.
 #[test]
-fn failing_writer(rt: HostRuntime) -> Result<(), Fail> {
-    let schedule = world(rt.alloc(), "value A 7:1:61\npropose 0 3 0 0 -1 A\n")?;
+fn failing_writer(rt: HostRuntime) {
+    let schedule = world(&rt, rt.alloc(), "value A 7:1:61\npropose 0 3 0 0 -1 A\n");
     let length = "0 v3 prevote 0 0 A\nv3 at 0 0:\n".len();
     for room in 0..length {
         assert_status(&rt, rt.alloc(), schedule.as_bytes(), room, 5);
     }
     assert_status(&rt, rt.alloc(), schedule.as_bytes(), length, 0);
-    Ok(())
 }
 
 /// A failure that can't be told.
@@ -107,13 +108,13 @@ fn failing_error_writer(rt: HostRuntime) {
         &mut out,
         &mut Full { room: 5 },
     );
-    assert_eq!(rt; status, 5);
+    assert_same(&rt, &status, &5);
 }
 
 fn assert_failure(rt: &impl Abort, alloc: Global, failure: Failure<'_>, status: u8, text: &str) {
     let mut err = Vec::new(alloc);
-    assert_eq!(rt; failure.tell(&mut err), status);
-    assert_eq!(rt; str::from_utf8(&err), Ok(text));
+    assert_same(rt, &failure.tell(&mut err), &status);
+    assert_same(rt, &str::from_utf8(&err), &Ok(text));
 }
 
 /// The texts and statuses that need no file.

@@ -1,11 +1,11 @@
 //! What no contract says: that frames offered to a queue come out of it, and that who waits is woken.
 
+use super::assert_same;
 use bytes::Bytes;
 use link_queue::{Anything, Cause, LinkQueue, MOST_FRAMES, Untaken};
 use std::alloc::{AllocError, Global};
 use std::process::Abort;
 use std::sync::{Arc, Mutex, Wait};
-use std::test::Fail;
 use std::thread;
 use std::thread::Threads;
 use std::time::{Clock, Duration};
@@ -33,6 +33,7 @@ fn frame_of(alloc: Global, number: u32) -> Result<Bytes, AllocError> {
     Bytes::copy_from_slice(alloc, &number.to_be_bytes())
 }
 
+/// The number in a frame.
 fn number_of(frame: &Bytes) -> u32 {
     match frame.as_slice() {
         [a, b, c, d] => u32::from_be_bytes([*a, *b, *c, *d]),
@@ -40,6 +41,12 @@ fn number_of(frame: &Bytes) -> u32 {
     }
 }
 
+/// An empty queue.
+fn queue_of<R: Abort>(rt: &R, alloc: Global) -> Queue {
+    Queue::new(alloc).expect(rt, "no memory")
+}
+
+/// Offers the frame of a number, and tells what came of it.
 fn offer<R: Wait>(rt: &R, alloc: Global, queue: &Queue, number: u32) -> Answer {
     let Ok(frame) = frame_of(alloc, number) else {
         return Answer::OutOfMemory;
@@ -59,6 +66,7 @@ fn found_of(taken: Result<Bytes, Untaken>) -> Found {
     }
 }
 
+/// A take that waits until a frame or the end comes.
 fn take<R: Wait>(rt: &R, queue: &Queue) -> Found {
     found_of(queue.take(rt))
 }
@@ -87,41 +95,57 @@ fn fill<R: Wait>(rt: &R, queue: &Queue, frame: &Bytes, count: usize) -> bool {
     true
 }
 
+/// Fills the queue with this frame: one more finds room once one was taken.
 fn assert_full<R: Wait + Abort>(rt: &R, alloc: Global, queue: &Queue, frame: &Bytes) {
     assert!(rt; fill(rt, queue, frame, MOST_FRAMES));
-    assert_eq!(rt; offer(rt, alloc, queue, 2), Answer::Dropped(Cause::Full));
-    assert_eq!(rt; take(rt, queue), Found::Number(1));
-    assert_eq!(rt; offer(rt, alloc, queue, 2), Answer::Queued(MOST_FRAMES));
-    assert_eq!(rt; offer(rt, alloc, queue, 3), Answer::Dropped(Cause::Full));
+    assert_same(
+        rt,
+        &offer(rt, alloc, queue, 2),
+        &Answer::Dropped(Cause::Full),
+    );
+    assert_same(rt, &take(rt, queue), &Found::Number(1));
+    assert_same(
+        rt,
+        &offer(rt, alloc, queue, 2),
+        &Answer::Queued(MOST_FRAMES),
+    );
+    assert_same(
+        rt,
+        &offer(rt, alloc, queue, 3),
+        &Answer::Dropped(Cause::Full),
+    );
 }
 
 #[test]
-fn one_frame_more_than_fits(rt: HostRuntime) -> Result<(), Fail> {
-    let queue = Queue::new(rt.alloc())?;
-    let frame = frame_of(rt.alloc(), 1)?;
+fn one_frame_more_than_fits(rt: HostRuntime) {
+    let queue = queue_of(&rt, rt.alloc());
+    let frame = frame_of(rt.alloc(), 1).expect(&rt, "no memory");
     assert_full(&rt, rt.alloc(), &queue, &frame);
-    Ok(())
 }
 
+/// What waits at the close of an empty queue still comes, and then its end.
 fn assert_ends<R: Wait + Clock + Abort>(rt: &R, alloc: Global, queue: &Queue) {
-    assert_eq!(rt; take_soon(rt, queue), Found::NotYet);
-    assert_eq!(rt; take_now(rt, queue), Found::NotYet);
-    assert_eq!(rt; offer(rt, alloc, queue, 5), Answer::Queued(1));
-    assert_eq!(rt; offer(rt, alloc, queue, 6), Answer::Queued(2));
+    assert_same(rt, &take_soon(rt, queue), &Found::NotYet);
+    assert_same(rt, &take_now(rt, queue), &Found::NotYet);
+    assert_same(rt, &offer(rt, alloc, queue, 5), &Answer::Queued(1));
+    assert_same(rt, &offer(rt, alloc, queue, 6), &Answer::Queued(2));
     queue.close(rt);
-    assert_eq!(rt; offer(rt, alloc, queue, 7), Answer::Dropped(Cause::Closed));
-    assert_eq!(rt; take_soon(rt, queue), Found::Number(5));
-    assert_eq!(rt; take_now(rt, queue), Found::Number(6));
-    assert_eq!(rt; take_now(rt, queue), Found::End);
-    assert_eq!(rt; take(rt, queue), Found::End);
-    assert_eq!(rt; take_soon(rt, queue), Found::End);
+    assert_same(
+        rt,
+        &offer(rt, alloc, queue, 7),
+        &Answer::Dropped(Cause::Closed),
+    );
+    assert_same(rt, &take_soon(rt, queue), &Found::Number(5));
+    assert_same(rt, &take_now(rt, queue), &Found::Number(6));
+    assert_same(rt, &take_now(rt, queue), &Found::End);
+    assert_same(rt, &take(rt, queue), &Found::End);
+    assert_same(rt, &take_soon(rt, queue), &Found::End);
 }
 
 #[test]
-fn what_waits_at_the_end_is_taken(rt: HostRuntime) -> Result<(), Fail> {
-    let queue = Queue::new(rt.alloc())?;
+fn what_waits_at_the_end_is_taken(rt: HostRuntime) {
+    let queue = queue_of(&rt, rt.alloc());
     assert_ends(&rt, rt.alloc(), &queue);
-    Ok(())
 }
 
 /// Offers the numbers below this one, each until there is room, and closes the queue: how many were
@@ -155,6 +179,7 @@ fn take_all<R: Wait>(rt: &R, queue: &Queue) -> u32 {
     next
 }
 
+/// So many numbers from one thread to another: how many were taken in, and how many came in turn.
 fn relayed<R: Threads + Wait + Sync>(
     rt: &R,
     alloc: Global,
@@ -169,11 +194,11 @@ fn relayed<R: Threads + Wait + Sync>(
 }
 
 #[test]
-fn frames_come_in_order(rt: HostRuntime) -> Result<(), Fail> {
-    let queue = Queue::new(rt.alloc())?;
-    let told = relayed(&rt, rt.alloc(), &queue, 5000);
-    assert_eq!(rt; told, (5000, 5000));
-    Ok(())
+fn frames_come_in_order(rt: HostRuntime) {
+    let queue = queue_of(&rt, rt.alloc());
+    let (offered, taken) = relayed(&rt, rt.alloc(), &queue, 5000);
+    assert_same(&rt, &offered, &5000);
+    assert_same(&rt, &taken, &5000);
 }
 
 /// What two threads are told that wait at an empty queue while a third one closes it.
@@ -183,10 +208,11 @@ fn waited<R: Threads + Wait + Sync>(rt: &R, queue: &Queue) -> (Found, Found) {
 }
 
 #[test]
-fn who_waits_is_told_of_the_end(rt: HostRuntime) -> Result<(), Fail> {
-    let queue = Queue::new(rt.alloc())?;
-    assert_eq!(rt; waited(&rt, &queue), (Found::End, Found::End));
-    Ok(())
+fn who_waits_is_told_of_the_end(rt: HostRuntime) {
+    let queue = queue_of(&rt, rt.alloc());
+    let (first, second) = waited(&rt, &queue);
+    assert_same(&rt, &first, &Found::End);
+    assert_same(&rt, &second, &Found::End);
 }
 
 /// The queues of all links, as the threads at these links share them.
@@ -217,16 +243,29 @@ fn broadcast_beside<R: Threads + Wait + Sync>(
     thread::join(rt, || broadcast(rt, links, frame), || take(rt, link))
 }
 
+/// An empty queue that threads share.
+fn shared_queue<R: Abort>(rt: &R, alloc: Global) -> Arc<Queue> {
+    Arc::new(alloc, queue_of(rt, alloc)).expect(rt, "no memory")
+}
+
+/// These queues, as threads share them.
+fn links_of<R: Abort>(rt: &R, alloc: Global, queues: &[&Arc<Queue>]) -> Links {
+    let mut links = Vec::new(alloc);
+    for queue in queues {
+        let shared = Arc::try_clone(queue).expect(rt, "no memory");
+        links.push(shared).expect(rt, "no memory");
+    }
+    Mutex::new(links)
+}
+
 #[test]
-fn a_full_link_leaves_the_others(rt: HostRuntime) -> Result<(), Fail> {
-    let slow = Arc::new(rt.alloc(), Queue::new(rt.alloc())?)?;
-    let quick = Arc::new(rt.alloc(), Queue::new(rt.alloc())?)?;
-    let frame = frame_of(rt.alloc(), 9)?;
+fn a_full_link_leaves_the_others(rt: HostRuntime) {
+    let slow = shared_queue(&rt, rt.alloc());
+    let quick = shared_queue(&rt, rt.alloc());
+    let frame = frame_of(rt.alloc(), 9).expect(&rt, "no memory");
     assert!(rt; fill(&rt, &slow, &frame, MOST_FRAMES));
-    let mut both = Vec::with_capacity(rt.alloc(), 2)?;
-    both.push(slow)?;
-    both.push(Arc::try_clone(&quick)?)?;
-    let told = broadcast_beside(&rt, &Mutex::new(both), &frame, &quick);
-    assert_eq!(rt; told, (1, Found::Number(9)));
-    Ok(())
+    let links = links_of(&rt, rt.alloc(), &[&slow, &quick]);
+    let (count, found) = broadcast_beside(&rt, &links, &frame, &quick);
+    assert_same(&rt, &count, &1);
+    assert_same(&rt, &found, &Found::Number(9));
 }

@@ -4,10 +4,10 @@ ghost use Rattle.std.specs.Prelude.{◌≡◌, true, [], ◌∷◌};
 ghost use Rattle.protocol.specs.Values.{fifo};
 ghost use Rattle.subscriber_ring.specs.Order.{items_of};
 
+use super::assert_same;
 use std::alloc::{AllocError, Global};
 use std::process::Abort;
 use std::sync::Wait;
-use std::test::Fail;
 use std::thread;
 use std::thread::Threads;
 use subscriber_ring::{Delivered, Feeder, OfferFault, RingFault, Subscription, ring};
@@ -70,34 +70,33 @@ fn fault_of(alloc: Global, capacity: usize) -> Option<RingFault> {
     ring(alloc, 0, capacity).err()
 }
 
+/// Fills and empties a ring of two places from position 5 on.
 fn assert_in_turn<R: Wait + Abort>(
     rt: &R,
     alloc: Global,
     feeder: &mut Feeder,
     subscription: &mut Subscription,
 ) {
-    assert_eq!(rt; take_next(rt, subscription), None);
-    assert_eq!(rt; offer_next(rt, alloc, feeder), Answer::Taken);
-    assert_eq!(rt; offer_next(rt, alloc, feeder), Answer::Taken);
-    assert_eq!(rt; offer_next(rt, alloc, feeder), Answer::Full(7));
-    assert_eq!(rt; take_next(rt, subscription), Some(5));
-    assert_eq!(rt; offer_next(rt, alloc, feeder), Answer::Taken);
-    assert_eq!(rt; take_next(rt, subscription), Some(6));
-    assert_eq!(rt; take_next(rt, subscription), Some(7));
-    assert_eq!(rt; take_next(rt, subscription), None);
+    assert_same(rt, &take_next(rt, subscription), &None);
+    assert_same(rt, &offer_next(rt, alloc, feeder), &Answer::Taken);
+    assert_same(rt, &offer_next(rt, alloc, feeder), &Answer::Taken);
+    assert_same(rt, &offer_next(rt, alloc, feeder), &Answer::Full(7));
+    assert_same(rt, &take_next(rt, subscription), &Some(5));
+    assert_same(rt, &offer_next(rt, alloc, feeder), &Answer::Taken);
+    assert_same(rt, &take_next(rt, subscription), &Some(6));
+    assert_same(rt, &take_next(rt, subscription), &Some(7));
+    assert_same(rt, &take_next(rt, subscription), &None);
 }
 
 #[test]
-fn items_come_in_order(rt: HostRuntime) -> Result<(), Fail> {
-    let (mut feeder, subscription) = ring(rt.alloc(), 5, 2)?;
+fn items_come_in_order(rt: HostRuntime) {
+    let (mut feeder, subscription) = ring(rt.alloc(), 5, 2).expect(&rt, "no ring");
     let mut subscription = subscription.beside(&mut feeder);
     assert_in_turn(&rt, rt.alloc(), &mut feeder, &mut subscription);
-    assert_eq!(rt;
-        (feeder.first(), feeder.next(), feeder.capacity()),
-        (5, 8, 2)
-    );
-    assert_eq!(rt; subscription.next(), 8);
-    Ok(())
+    assert_same(&rt, &feeder.first(), &5);
+    assert_same(&rt, &feeder.next(), &8);
+    assert_same(&rt, &feeder.capacity(), &2);
+    assert_same(&rt, &subscription.next(), &8);
 }
 
 /// The first item of client 7, which closes.
@@ -125,63 +124,79 @@ fn close_of(session: u32) -> Item {
     }
 }
 
-#[test]
-fn items_of_many_sessions(rt: HostRuntime) -> Result<(), Fail> {
-    let (mut feeder, mut subscription) = ring(rt.alloc(), 5, 3)?;
-    for session in [0, 1, u32::MAX] {
-        let answer = offer_item(&rt, &mut feeder, close_of(session));
-        assert_eq!(rt; answer, Answer::Taken);
-    }
-    for session in [0, 1, u32::MAX] {
-        let Some(delivered) = subscription.try_take(&rt) else {
-            panic!(rt; "an item waits");
-        };
-        assert_eq!(rt; delivered.item, close_of(session));
-    }
-    Ok(())
+/// The next item that comes, with its position.
+fn assert_comes<R: Wait + Abort>(rt: &R, subscription: &mut Subscription, wanted: &Delivered) {
+    let delivered = subscription.try_take(rt).expect(rt, "no item waits");
+    assert_same(rt, &delivered, wanted);
 }
 
 #[test]
-fn the_first_item_of_all(rt: HostRuntime) -> Result<(), Fail> {
-    let (mut feeder, mut subscription) = ring(rt.alloc(), 0, 1)?;
+fn items_of_many_sessions(rt: HostRuntime) {
+    let (mut feeder, mut subscription) = ring(rt.alloc(), 5, 3).expect(&rt, "no ring");
+    for session in [0, 1, u32::MAX] {
+        let answer = offer_item(&rt, &mut feeder, close_of(session));
+        assert_same(&rt, &answer, &Answer::Taken);
+    }
+    for (position, session) in [(5, 0), (6, 1), (7, u32::MAX)] {
+        let item = close_of(session);
+        assert_comes(&rt, &mut subscription, &Delivered { position, item });
+    }
+}
+
+#[test]
+fn the_first_item_of_all(rt: HostRuntime) {
+    let (mut feeder, mut subscription) = ring(rt.alloc(), 0, 1).expect(&rt, "no ring");
     assert!(rt; feeder.offer(&rt, first_item()).is_ok());
-    assert_eq!(rt; subscription.try_take(&rt), Some(first_item()));
-    Ok(())
+    assert_comes(&rt, &mut subscription, &first_item());
 }
 
 #[test]
 fn capacities(rt: HostRuntime) {
-    assert_eq!(rt; fault_of(rt.alloc(), 0), Some(RingFault::BadCapacity));
-    assert_eq!(rt; fault_of(rt.alloc(), 65_537), Some(RingFault::BadCapacity));
-    assert_eq!(rt; fault_of(rt.alloc(), 65_536), None);
-    assert_eq!(rt; fault_of(rt.alloc(), 1), None);
+    assert_same(&rt, &fault_of(rt.alloc(), 0), &Some(RingFault::BadCapacity));
+    assert_same(
+        &rt,
+        &fault_of(rt.alloc(), 65_537),
+        &Some(RingFault::BadCapacity),
+    );
+    assert_same(&rt, &fault_of(rt.alloc(), 65_536), &None);
+    assert_same(&rt, &fault_of(rt.alloc(), 1), &None);
 }
 
 #[test]
 fn numbers_of_faults(rt: HostRuntime) {
-    assert_eq!(rt; RingFault::BadCapacity as u8, 1);
-    assert_eq!(rt; RingFault::OutOfMemory as u8, 2);
+    assert_same(&rt, &(RingFault::BadCapacity as u8), &1);
+    assert_same(&rt, &(RingFault::OutOfMemory as u8), &2);
 }
 
 #[test]
-fn an_offer_to_nobody(rt: HostRuntime) -> Result<(), Fail> {
-    let (mut feeder, subscription) = ring(rt.alloc(), 5, 2)?;
-    assert_eq!(rt; offer_next(&rt, rt.alloc(), &mut feeder), Answer::Taken);
+fn an_offer_to_nobody(rt: HostRuntime) {
+    let (mut feeder, subscription) = ring(rt.alloc(), 5, 2).expect(&rt, "no ring");
+    assert_same(
+        &rt,
+        &offer_next(&rt, rt.alloc(), &mut feeder),
+        &Answer::Taken,
+    );
     assert!(rt; !feeder.is_gone());
     drop(subscription);
-    assert_eq!(rt; offer_next(&rt, rt.alloc(), &mut feeder), Answer::Gone(6));
+    assert_same(
+        &rt,
+        &offer_next(&rt, rt.alloc(), &mut feeder),
+        &Answer::Gone(6),
+    );
     assert!(rt; feeder.is_gone());
-    Ok(())
 }
 
 #[test]
-fn items_outlast_their_feeder(rt: HostRuntime) -> Result<(), Fail> {
-    let (mut feeder, mut subscription) = ring(rt.alloc(), 5, 2)?;
-    assert_eq!(rt; offer_next(&rt, rt.alloc(), &mut feeder), Answer::Taken);
+fn items_outlast_their_feeder(rt: HostRuntime) {
+    let (mut feeder, mut subscription) = ring(rt.alloc(), 5, 2).expect(&rt, "no ring");
+    assert_same(
+        &rt,
+        &offer_next(&rt, rt.alloc(), &mut feeder),
+        &Answer::Taken,
+    );
     drop(feeder);
-    assert_eq!(rt; take_next(&rt, &mut subscription), Some(5));
-    assert_eq!(rt; take_next(&rt, &mut subscription), None);
-    Ok(())
+    assert_same(&rt, &take_next(&rt, &mut subscription), &Some(5));
+    assert_same(&rt, &take_next(&rt, &mut subscription), &None);
 }
 
 /// Offers so many items, each until it is taken in or can't be; how many were taken in.
@@ -244,21 +259,24 @@ fn times_full<R: Wait>(rt: &R, alloc: Global, feeder: &mut Feeder, count: u32) -
 }
 
 #[test]
-fn a_full_ring_loses_nothing(rt: HostRuntime) -> Result<(), Fail> {
-    let (mut feeder, mut subscription) = ring(rt.alloc(), 1, 8)?;
-    assert_eq!(rt; feed(&rt, rt.alloc(), &mut feeder, 8), 8);
-    assert_eq!(rt; times_full(&rt, rt.alloc(), &mut feeder, 1_000), 1_000);
-    assert_eq!(rt; feeder.times_full(), 1_000);
-    assert_eq!(rt; feeder.next(), 9);
-    assert_eq!(rt; follow(&rt, &mut subscription, 1, 8), 8);
-    assert_eq!(rt; take_next(&rt, &mut subscription), None);
-    Ok(())
+fn a_full_ring_loses_nothing(rt: HostRuntime) {
+    let (mut feeder, mut subscription) = ring(rt.alloc(), 1, 8).expect(&rt, "no ring");
+    assert_same(&rt, &feed(&rt, rt.alloc(), &mut feeder, 8), &8);
+    assert_same(
+        &rt,
+        &times_full(&rt, rt.alloc(), &mut feeder, 1_000),
+        &1_000,
+    );
+    assert_same(&rt, &feeder.times_full(), &1_000);
+    assert_same(&rt, &feeder.next(), &9);
+    assert_same(&rt, &follow(&rt, &mut subscription, 1, 8), &8);
+    assert_same(&rt, &take_next(&rt, &mut subscription), &None);
 }
 
 #[test]
-fn two_threads(rt: HostRuntime) -> Result<(), Fail> {
-    let (mut feeder, mut subscription) = ring(rt.alloc(), 1, 8)?;
-    let told = relayed(&rt, rt.alloc(), &mut feeder, &mut subscription, 100);
-    assert_eq!(rt; told, (100, 100));
-    Ok(())
+fn two_threads(rt: HostRuntime) {
+    let (mut feeder, mut subscription) = ring(rt.alloc(), 1, 8).expect(&rt, "no ring");
+    let (offered, followed) = relayed(&rt, rt.alloc(), &mut feeder, &mut subscription, 100);
+    assert_same(&rt, &offered, &100);
+    assert_same(&rt, &followed, &100);
 }

@@ -3,10 +3,10 @@
 ghost use Rattle.std.specs.Prelude.{◌≡◌, ◌≤◌, ◌<◌, ◌^◌, IfOk};
 ghost use Rattle.status_words.specs.Ends.{opened_table, opened_words};
 
+use super::assert_same;
 use status_words::{Node, Opened, Publisher, Seat, Status, Words};
 use std::alloc::AllocError;
 use std::marker::Brand;
-use std::test::Fail;
 use std::thread;
 use std::thread::Threads;
 
@@ -35,7 +35,7 @@ fn seen_in_turn<J: Node>(opened: Opened) -> [Status; 4]
 }
 
 #[test]
-fn seats_see_what_is_published(rt: HostRuntime) -> Result<(), Fail> {
+fn seats_see_what_is_published(rt: HostRuntime) {
     let at_the_opening = Status {
         height: 5,
         delivered: 9,
@@ -44,10 +44,13 @@ fn seats_see_what_is_published(rt: HostRuntime) -> Result<(), Fail> {
         height: 6,
         delivered: 12,
     };
-    let opened = Opened::new(rt.alloc(), at_the_opening)?;
+    let opened = Opened::new(rt.alloc(), at_the_opening).expect(&rt, "no memory");
     let seen = seen_in_turn::<Brand>(opened);
-    assert_eq!(rt; seen, [at_the_opening, published, published, published]);
-    Ok(())
+    assert_same(
+        &rt,
+        &seen,
+        &[at_the_opening, published, published, published],
+    );
 }
 
 /// Publishes the heights from 1 on, each with three items.
@@ -123,7 +126,7 @@ fn watched<J: Node + Send + Sync, R: Threads + Sync>(rt: &R, opened: Opened) -> 
 }
 
 #[test]
-fn readers_beside_a_publisher(rt: HostRuntime) -> Result<(), Fail> {
+fn readers_beside_a_publisher(rt: HostRuntime) {
     let nothing = Status {
         height: 0,
         delivered: 0,
@@ -132,8 +135,7 @@ fn readers_beside_a_publisher(rt: HostRuntime) -> Result<(), Fail> {
         height: 1000,
         delivered: 3000,
     };
-    let opened = Opened::new(rt.alloc(), nothing)?;
+    let opened = Opened::new(rt.alloc(), nothing).expect(&rt, "no memory");
     let told = watched::<Brand, _>(&rt, opened);
-    assert_eq!(rt; told, (true, true, last));
-    Ok(())
+    assert_same(&rt, &told, &(true, true, last));
 }

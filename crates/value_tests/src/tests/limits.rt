@@ -1,14 +1,11 @@
 //! The last good and the first bad of each limit.
 
 use super::{
-    CLOSE, ONE_BYTE, assert_fault, assert_holds, is_spelling_of_tx, nines, of_spelled_tx, sized,
-    tx_fault, value_fault, value_of,
+    CLOSE, ONE_BYTE, assert_fault, assert_same, assert_spelling_of_tx, joined, nines, sized,
+    tx_fault, value_fault, value_of, value_read,
 };
-use std::alloc::{AllocError, Global};
 use std::process::Abort;
-use transactions::{
-    Fault, Op, Seq, Tx, Value, read_value, spell_tx, spell_value, tx_fields_of, value_id,
-};
+use transactions::{Fault, Op, Seq, Tx, read_tx, spell_tx, spell_value, tx_fields_of, value_id};
 
 /// The bytes and tags of the smallest transaction.
 const SMALLEST: (usize, usize) = (0, 1);
@@ -17,16 +14,15 @@ const SMALLEST: (usize, usize) = (0, 1);
 const LARGEST: (usize, usize) = (1024, 128);
 
 /// The spelling of a transaction with this many bytes and tags.
-fn spelled_sized(alloc: Global, bytes: usize, tags: usize) -> Result<Vec<u8>, Fault> {
-    let tx = sized(alloc, bytes, tags)?;
-    spell_tx(alloc, &tx)
+fn spelled_sized<R: Abort + AllocGlobal>(rt: &R, bytes: usize, tags: usize) -> Vec<u8> {
+    spell_tx(rt.alloc(), &sized(rt, bytes, tags)).expect(rt, "it has a spelling")
 }
 
 /// The spelling of a transaction of this session with the most of everything else.
-fn spelled_largest(alloc: Global, session: u32) -> Result<Vec<u8>, Fault> {
-    let mut tx = sized(alloc, 1024, 128)?;
+fn spelled_largest<R: Abort + AllocGlobal>(rt: &R, session: u32) -> Vec<u8> {
+    let mut tx = sized(rt, 1024, 128);
     tx.session = session;
-    spell_tx(alloc, &tx)
+    spell_tx(rt.alloc(), &tx).expect(rt, "it has a spelling")
 }
 
 /// Whether this is the transaction of this session with the most of everything else.
@@ -38,323 +34,233 @@ fn is_largest(tx: &Tx, session: u32) -> bool {
         && tx.tags.len() == 128
 }
 
-/// Whether these bytes spell the transaction of this session with the most of everything else, and it is spelled so.
-fn spell_largest(alloc: Global, bytes: &[u8], session: u32) -> Result<bool, Fault> {
-    of_spelled_tx(alloc, bytes, |tx| {
-        Ok(is_largest(tx, session) && is_spelling_of_tx(alloc, bytes, tx)?)
-    })
-}
-
-/// Whether the transaction of this session with the most of everything else has so many bytes, and is read.
-fn largest_is_read(alloc: Global, session: u32, len: usize) -> Result<bool, Fault> {
-    let bytes = spelled_largest(alloc, session)?;
-    Ok(bytes.len() == len && spell_largest(alloc, &bytes, session)?)
+/// The transaction of this session with the most of everything else has so many bytes, is read, and is spelled again.
+fn assert_largest_is_read<R: Abort + AllocGlobal>(rt: &R, session: u32, len: usize) {
+    let bytes = spelled_largest(rt, session);
+    assert_same(rt, &bytes.len(), &len);
+    let tx = read_tx(rt.alloc(), &bytes).expect(rt, "it is a transaction");
+    assert_same(rt, &is_largest(&tx, session), &true);
+    assert_spelling_of_tx(rt, &tx, &bytes);
 }
 
 #[test]
 fn largest_transactions(rt: HostRuntime) {
     // The body, the count of the tags, and 128 tags; a session after the first is told.
-    assert_holds(&rt, largest_is_read(rt.alloc(), 0, 1038 + 1 + 4096));
-    assert_holds(&rt, largest_is_read(rt.alloc(), 1, 1042 + 1 + 4096));
-    assert_holds(&rt, largest_is_read(rt.alloc(), 0xffff_ffff, 5139));
+    assert_largest_is_read(&rt, 0, 1038 + 1 + 4096);
+    assert_largest_is_read(&rt, 1, 1042 + 1 + 4096);
+    assert_largest_is_read(&rt, 0xffff_ffff, 5139);
 }
 
-/// Why the bytes of the largest transaction with one tag more spell none: the count stands behind this many bytes.
-fn fault_of_one_more_tag(alloc: Global, session: u32, body: usize) -> Result<Option<Fault>, Fault> {
-    let mut bytes = spelled_largest(alloc, session)?;
+/// The bytes of the largest transaction with one tag more: the count stands behind this many bytes.
+fn with_one_more_tag<R: Abort + AllocGlobal>(rt: &R, session: u32, body: usize) -> Vec<u8> {
+    let mut bytes = spelled_largest(rt, session);
     if let Some(count) = bytes.get_mut(body) {
         *count = 129;
     }
-    bytes.extend_from_slice(&[9u8; 32])?;
-    Ok(tx_fault(alloc, &bytes))
+    joined(rt, &[&bytes, &[9; 32]])
+}
+
+/// A transaction with this many bytes and tags has no spelling, for this cause.
+fn assert_no_spelling_of_sized<R: Abort + AllocGlobal>(
+    rt: &R,
+    bytes: usize,
+    tags: usize,
+    fault: Fault,
+) {
+    let found = spell_tx(rt.alloc(), &sized(rt, bytes, tags)).err();
+    assert_fault(rt, found, fault);
 }
 
 #[test]
 fn largest_transactions_with_one_more_tag(rt: HostRuntime) {
-    let first = fault_of_one_more_tag(rt.alloc(), 0, 1038);
-    assert!(rt; first == Ok(Some(Fault::TooLong)));
-    let later = fault_of_one_more_tag(rt.alloc(), 1, 1042);
-    assert!(rt; later == Ok(Some(Fault::TooLong)));
-    assert_fault(
-        &rt,
-        spelled_sized(rt.alloc(), 1024, 129).err(),
-        Fault::TooLong,
-    );
+    let first = with_one_more_tag(&rt, 0, 1038);
+    assert_fault(&rt, tx_fault(&rt, &first), Fault::TooLong);
+    let later = with_one_more_tag(&rt, 1, 1042);
+    assert_fault(&rt, tx_fault(&rt, &later), Fault::TooLong);
+    assert_no_spelling_of_sized(&rt, 1024, 129, Fault::TooLong);
 }
 
-/// Why client 7's transaction 1 is none with this byte at this place.
-fn fault_with(alloc: Global, byte: u8, place: usize) -> Option<Fault> {
+/// Client 7's transaction 1 has this fault with this byte at this place, which comes first.
+fn assert_fault_with<R: Abort + AllocGlobal>(rt: &R, place: usize, byte: u8, fault: Fault) {
     let mut bytes = ONE_BYTE;
     if let Some(at) = bytes.get_mut(place) {
         *at = byte;
     }
-    tx_fault(alloc, &bytes)
-}
-
-/// Client 7's transaction 1 has these faults with one byte at a place, which comes first.
-fn assert_faults_with(rt: &impl Abort, alloc: Global, cases: &[(usize, u8, Fault)]) {
-    for (place, byte, fault) in cases {
-        assert_eq!(rt;
-            fault_with(alloc, *byte, *place),
-            Some(*fault),
-            "byte {byte} at {place}"
-        );
-    }
+    assert_fault(rt, tx_fault(rt, &bytes), fault);
 }
 
 #[test]
 fn fields_out_of_range(rt: HostRuntime) {
-    let cases = &[
-        // The kind, in its neighbours, and that of a later session, which would be 0.
-        (0, 0, Fault::BadSpelling),
-        (0, 2, Fault::BadSpelling),
-        (0, 3, Fault::BadSpelling),
-        // The high byte of the client: 1,031 then.
-        (1, 4, Fault::BadSpelling),
-        // The number: 2^48 + 1, and 0.
-        (4, 1, Fault::BadSpelling),
-        (10, 0, Fault::BadSpelling),
-        // The operation.
-        (11, 2, Fault::BadSpelling),
-        // The length: 1,025.
-        (12, 4, Fault::TooLong),
-    ];
-    assert_faults_with(&rt, rt.alloc(), cases);
+    // The kind, in its neighbours, and that of a later session, which would be 0.
+    assert_fault_with(&rt, 0, 0, Fault::BadSpelling);
+    assert_fault_with(&rt, 0, 2, Fault::BadSpelling);
+    assert_fault_with(&rt, 0, 3, Fault::BadSpelling);
+    // The high byte of the client: 1,031 then.
+    assert_fault_with(&rt, 1, 4, Fault::BadSpelling);
+    // The number: 2^48 + 1, and 0.
+    assert_fault_with(&rt, 4, 1, Fault::BadSpelling);
+    assert_fault_with(&rt, 10, 0, Fault::BadSpelling);
+    // The operation.
+    assert_fault_with(&rt, 11, 2, Fault::BadSpelling);
+    // The length: 1,025.
+    assert_fault_with(&rt, 12, 4, Fault::TooLong);
 }
 
-/// Why a close with this count of tags, and none of them, is no transaction.
-fn fault_of_tag_count(alloc: Global, count: u8) -> Option<Fault> {
-    let mut bytes = [count; 13];
-    bytes[..12].copy_from_slice(&CLOSE);
-    tx_fault(alloc, &bytes)
+/// A close with this count of tags, and none of them, has this fault.
+fn assert_fault_of_tag_count<R: Abort + AllocGlobal>(rt: &R, count: u8, fault: Fault) {
+    let bytes = joined(rt, &[&CLOSE, &[count]]);
+    assert_fault(rt, tx_fault(rt, &bytes), fault);
 }
 
 #[test]
 fn tag_counts(rt: HostRuntime) {
-    assert_fault(&rt, fault_of_tag_count(rt.alloc(), 0), Fault::BadSpelling);
-    assert_fault(&rt, fault_of_tag_count(rt.alloc(), 129), Fault::TooLong);
-    assert_fault(&rt, fault_of_tag_count(rt.alloc(), 128), Fault::Truncated);
+    assert_fault_of_tag_count(&rt, 0, Fault::BadSpelling);
+    assert_fault_of_tag_count(&rt, 129, Fault::TooLong);
+    assert_fault_of_tag_count(&rt, 128, Fault::Truncated);
 }
 
-/// How many bytes spell the value.
-fn spelled_len(alloc: Global, value: &Value) -> Result<usize, Fault> {
-    Ok(spell_value(alloc, value)?.len())
-}
-
-/// How many bytes spell the value of so many transactions of one size and one more.
-fn len_of_value_of(
-    alloc: Global,
+/// The value of so many transactions of one size and one more is spelled in so many bytes.
+fn assert_len<R: Abort + AllocGlobal>(
+    rt: &R,
     count: usize,
     each: (usize, usize),
     last: (usize, usize),
-) -> Result<usize, Fault> {
-    let value = value_of(alloc, count, each, last)?;
-    spelled_len(alloc, &value)
+    len: usize,
+) {
+    let value = value_of(rt, count, each, last);
+    let bytes = spell_value(rt.alloc(), &value).expect(rt, "it has a spelling");
+    assert_same(rt, &bytes.len(), &len);
 }
 
-/// How many transactions are read from the value's spelling.
-fn count_read_back(alloc: Global, value: &Value) -> Result<usize, Fault> {
-    let bytes = spell_value(alloc, value)?;
-    Ok(read_value(alloc, &bytes)?.txs.len())
+/// The value of so many transactions of one size and one more has no spelling, for this cause.
+fn assert_no_value<R: Abort + AllocGlobal>(
+    rt: &R,
+    count: usize,
+    each: (usize, usize),
+    last: (usize, usize),
+    fault: Fault,
+) {
+    let value = value_of(rt, count, each, last);
+    assert_fault(rt, spell_value(rt.alloc(), &value).err(), fault);
 }
 
 /// How many transactions are read from the spelling of so many of one size and one more.
-fn count_of_value_of(
-    alloc: Global,
+fn count_read_back<R: Abort + AllocGlobal>(
+    rt: &R,
     count: usize,
     each: (usize, usize),
     last: (usize, usize),
-) -> Result<usize, Fault> {
-    let value = value_of(alloc, count, each, last)?;
-    count_read_back(alloc, &value)
+) -> usize {
+    let value = value_of(rt, count, each, last);
+    let bytes = spell_value(rt.alloc(), &value).expect(rt, "it has a spelling");
+    value_read(rt, &bytes).txs.len()
 }
 
 #[test]
 fn most_transactions(rt: HostRuntime) {
-    assert!(rt; count_of_value_of(rt.alloc(), 255, SMALLEST, SMALLEST) == Ok(256));
-}
-
-/// Why the value of so many transactions of one size and one more has no id.
-fn fault_of_id(
-    alloc: Global,
-    count: usize,
-    each: (usize, usize),
-    last: (usize, usize),
-) -> Result<Option<Fault>, Fault> {
-    let value = value_of(alloc, count, each, last)?;
-    Ok(value_id(alloc, &value).err())
+    let count = count_read_back(&rt, 255, SMALLEST, SMALLEST);
+    assert_same(&rt, &count, &256);
 }
 
 #[test]
 fn too_many_transactions(rt: HostRuntime) {
-    let len = len_of_value_of(rt.alloc(), 256, SMALLEST, SMALLEST);
-    assert!(rt; len == Err(Fault::TooLong));
-    let fault = fault_of_id(rt.alloc(), 256, SMALLEST, SMALLEST);
-    assert!(rt; fault == Ok(Some(Fault::TooLong)));
+    assert_no_value(&rt, 256, SMALLEST, SMALLEST, Fault::TooLong);
+    let value = value_of(&rt, 256, SMALLEST, SMALLEST);
+    assert_fault(&rt, value_id(rt.alloc(), &value).err(), Fault::TooLong);
 }
 
 #[test]
 fn counts_of_transactions(rt: HostRuntime) {
-    assert_fault(&rt, value_fault(rt.alloc(), &[1, 1]), Fault::TooLong);
-    assert_fault(&rt, value_fault(rt.alloc(), &[1, 0]), Fault::Truncated);
-    assert_fault(&rt, value_fault(rt.alloc(), &[0, 1, 2]), Fault::Truncated);
-    assert_fault(&rt, value_fault(rt.alloc(), &[0, 1, 3]), Fault::BadSpelling);
-}
-
-/// A count of the largest transactions, the size of one more, and how many bytes spell them, or why none do.
-type SizedValue = (usize, (usize, usize), Result<usize, Fault>);
-
-/// The values of so many of the largest transactions and one more have spellings of these lengths, or none.
-fn assert_lens(rt: &impl Abort, alloc: Global, cases: &[SizedValue]) {
-    for (count, last, len) in cases {
-        assert_eq!(rt;
-            len_of_value_of(alloc, *count, LARGEST, *last),
-            *len,
-            "{count} transactions and one more"
-        );
-    }
+    assert_fault(&rt, value_fault(&rt, &[1, 1]), Fault::TooLong);
+    assert_fault(&rt, value_fault(&rt, &[1, 0]), Fault::Truncated);
+    assert_fault(&rt, value_fault(&rt, &[0, 1, 2]), Fault::Truncated);
+    assert_fault(&rt, value_fault(&rt, &[0, 1, 3]), Fault::BadSpelling);
 }
 
 #[test]
 fn bytes_of_values(rt: HostRuntime) {
-    let cases = &[
-        (96, LARGEST, Ok(498_485)),
-        (97, LARGEST, Err(Fault::TooLong)),
-        (97, (1016, 15), Ok(500_000)),
-        (97, (1017, 15), Err(Fault::TooLong)),
-    ];
-    assert_lens(&rt, rt.alloc(), cases);
+    assert_len(&rt, 96, LARGEST, LARGEST, 498_485);
+    assert_no_value(&rt, 97, LARGEST, LARGEST, Fault::TooLong);
+    assert_len(&rt, 97, LARGEST, (1016, 15), 500_000);
+    assert_no_value(&rt, 97, LARGEST, (1017, 15), Fault::TooLong);
 }
 
 #[test]
 fn most_bytes(rt: HostRuntime) {
-    assert!(rt; count_of_value_of(rt.alloc(), 97, LARGEST, (1016, 15)) == Ok(98));
-}
-
-/// Adds so many like transactions with this many bytes and tags.
-fn put_spelled(
-    out: &mut Vec<u8>,
-    alloc: Global,
-    count: usize,
-    bytes: usize,
-    tags: usize,
-) -> Result<(), Fault> {
-    let tx = spelled_sized(alloc, bytes, tags)?;
-    for _ in 0..count {
-        out.extend_from_slice(&tx)?;
-    }
-    Ok(())
+    let count = count_read_back(&rt, 97, LARGEST, (1016, 15));
+    assert_same(&rt, &count, &98);
 }
 
 /// The bytes of a value with 97 of the largest transactions and one of 1,516 bytes: 500,001 in all.
-fn too_many_bytes(alloc: Global) -> Result<Vec<u8>, Fault> {
-    let mut bytes = [0, 98].to_vec(alloc)?;
-    put_spelled(&mut bytes, alloc, 97, 1024, 128)?;
-    put_spelled(&mut bytes, alloc, 1, 1017, 15)?;
-    Ok(bytes)
+fn too_many_bytes<R: Abort + AllocGlobal>(rt: &R) -> Vec<u8> {
+    let largest = spelled_sized(rt, 1024, 128);
+    let mut bytes = joined(rt, &[&[0, 98]]);
+    for _ in 0..97 {
+        bytes
+            .extend_from_slice(&largest)
+            .expect(rt, "they have room");
+    }
+    joined(rt, &[&bytes, &spelled_sized(rt, 1017, 15)])
 }
 
-/// Whether these are 500,001 bytes, too many for a value, and too few if the last is absent.
-fn pass_limit(alloc: Global, bytes: &[u8]) -> bool {
-    let [front @ .., _] = bytes else {
-        return false;
-    };
-    front.len() == 500_000
-        && value_fault(alloc, bytes) == Some(Fault::TooLong)
-        && value_fault(alloc, front) == Some(Fault::Truncated)
-}
-
-/// Whether a value of 500,001 bytes is refused where it passes the limit.
-fn limit_is_kept(alloc: Global) -> Result<bool, Fault> {
-    let bytes = too_many_bytes(alloc)?;
-    Ok(pass_limit(alloc, &bytes))
-}
-
+/// A value of 500,001 bytes is refused where it passes the limit, and is too short if the last is absent.
 #[test]
 fn value_that_passes_its_limit(rt: HostRuntime) {
-    assert_holds(&rt, limit_is_kept(rt.alloc()));
+    let bytes = too_many_bytes(&rt);
+    let front = bytes.get(..500_000).expect(&rt, "there are as many");
+    assert_same(&rt, &bytes.len(), &500_001);
+    assert_fault(&rt, value_fault(&rt, &bytes), Fault::TooLong);
+    assert_fault(&rt, value_fault(&rt, front), Fault::Truncated);
 }
 
-/// A close of this client, with this number and so many tags.
-fn close_of(alloc: Global, client: u16, number: u64, tags: usize) -> Result<Tx, AllocError> {
-    Ok(Tx {
+/// A close of this client, with this number and so many tags, has no spelling, for this cause.
+fn assert_no_spelling<R: Abort + AllocGlobal>(
+    rt: &R,
+    client: u16,
+    number: u64,
+    tags: usize,
+    fault: Fault,
+) {
+    let tx = Tx {
         client,
         session: 0,
         number,
         op: Op::Close,
-        tags: nines(alloc, tags)?,
-    })
-}
-
-/// How long the spelling of a close is, or why there is none.
-fn len_of_close(alloc: Global, client: u16, number: u64, tags: usize) -> Result<usize, Fault> {
-    let tx = close_of(alloc, client, number, tags)?;
-    Ok(spell_tx(alloc, &tx)?.len())
-}
-
-/// Closes of these clients, with these numbers and so many tags, have no spelling, for this cause.
-fn assert_no_spelling(rt: &impl Abort, alloc: Global, cases: &[(u16, u64, usize, Fault)]) {
-    for (client, number, tags, fault) in cases {
-        assert_eq!(rt;
-            len_of_close(alloc, *client, *number, *tags),
-            Err(*fault),
-            "client {client}, number {number}, {tags} tags"
-        );
-    }
+        tags: nines(rt, tags),
+    };
+    assert_fault(rt, spell_tx(rt.alloc(), &tx).err(), fault);
 }
 
 #[test]
 fn things_without_spelling(rt: HostRuntime) {
-    let cases = &[
-        (1024, 1, 1, Fault::BadSpelling),
-        (1023, 0, 1, Fault::BadSpelling),
-        (1023, 0x1_0000_0000_0001, 1, Fault::BadSpelling),
-        (1023, 1, 0, Fault::BadSpelling),
-        (1023, 1, 129, Fault::TooLong),
-    ];
-    assert_no_spelling(&rt, rt.alloc(), cases);
+    assert_no_spelling(&rt, 1024, 1, 1, Fault::BadSpelling);
+    assert_no_spelling(&rt, 1023, 0, 1, Fault::BadSpelling);
+    assert_no_spelling(&rt, 1023, 0x1_0000_0000_0001, 1, Fault::BadSpelling);
+    assert_no_spelling(&rt, 1023, 1, 0, Fault::BadSpelling);
+    assert_no_spelling(&rt, 1023, 1, 129, Fault::TooLong);
 }
 
 #[test]
 fn long_contents_without_spelling(rt: HostRuntime) {
-    assert_fault(
-        &rt,
-        spelled_sized(rt.alloc(), 1025, 129).err(),
-        Fault::TooLong,
-    );
+    assert_no_spelling_of_sized(&rt, 1025, 129, Fault::TooLong);
 }
 
 /// Client 7's transaction 1 without its kind, up to the length of its contents: 1,024.
 const BEFORE_CONTENTS: [u8; 13] = [0, 7, 0, 0, 0, 0, 0, 0, 0, 1, 0, 4, 0];
 
-/// What stands before contents, and then so many of them.
-fn with_contents(alloc: Global, before: &[u8], count: usize) -> Result<Vec<u8>, AllocError> {
-    let mut bytes = before.to_vec(alloc)?;
-    for _ in 0..count {
-        bytes.push(b'a')?;
-    }
-    Ok(bytes)
-}
-
-/// Whether these bytes are a transaction with 1,024 bytes and no tags, without its kind.
-fn spell_longest_contents(alloc: Global, bytes: &[u8]) -> Result<bool, Fault> {
-    let (tx, rest) = tx_fields_of(alloc, false, bytes)?;
-    Ok(
-        matches!(&tx.op, Op::Bytes(contents) if contents.len() == 1024)
-            && rest.is_empty()
-            && tx.tags == Seq::new(alloc),
-    )
-}
-
-/// Whether 1,024 bytes of contents are read.
-fn longest_contents_are_read(alloc: Global) -> Result<bool, Fault> {
-    let bytes = with_contents(alloc, &BEFORE_CONTENTS, 1024)?;
-    spell_longest_contents(alloc, &bytes)
+/// These bytes and 1,024 more are a transaction with 1,024 bytes and no tags, without its kind.
+fn assert_contents_are_read<R: Abort + AllocGlobal>(rt: &R, before: &[u8]) {
+    let bytes = joined(rt, &[before, &[b'a'; 1024]]);
+    let fields = tx_fields_of(rt.alloc(), false, &bytes);
+    let (tx, rest) = fields.expect(rt, "they are fields");
+    assert!(rt; matches!(&tx.op, Op::Bytes(contents) if contents.len() == 1024));
+    assert!(rt; rest.is_empty());
+    assert!(rt; tx.tags == Seq::new(rt.alloc()));
 }
 
 #[test]
 fn lengths_of_contents(rt: HostRuntime) {
     let cut = tx_fields_of(rt.alloc(), false, &BEFORE_CONTENTS).err();
     assert_fault(&rt, cut, Fault::Truncated);
-    assert_holds(&rt, longest_contents_are_read(rt.alloc()));
+    assert_contents_are_read(&rt, &BEFORE_CONTENTS);
 }

@@ -1,15 +1,15 @@
 //! The readers and writers of parts, the lists and equality.
 
 use super::{
-    CLOSE, LATER, ONE_BYTE, assert_fault, assert_holds, is_same_as_its_copy, nines, of_tx,
-    of_value, value_of, with_tag,
+    CLOSE, LATER, ONE_BYTE, assert_bytes, assert_fault, assert_same, empty, is_same_as_its_copy,
+    nines, tx_of, value_of, with_tag,
 };
-use std::alloc::{AllocError, Global};
+use std::process::Abort;
 use transactions::fields::{array_at, slice_at, u8_at, u16_at, u32_at, u64_at};
 use transactions::{
-    Duplicate, Fault, Item, Op, Seq, Shared, Tx, Value, copy_all, len_of_tags, len_of_tx_body,
-    len_of_value, put_tags, put_tx_body, put_u16, put_u32, put_u64, put_value, same_value, tags_of,
-    tx_fields_of, value_front,
+    Duplicate, Fault, Item, Op, Seq, Shared, copy_all, len_of_tags, len_of_tx_body, len_of_value,
+    put_tags, put_tx_body, put_u16, put_u32, put_u64, put_value, same_value, tags_of, tx_fields_of,
+    value_front,
 };
 
 /// The numbers of one, two, four and eight bytes at the front.
@@ -42,117 +42,80 @@ fn slices_are_read(rt: HostRuntime) {
     assert_fault(&rt, slice_at(b"abc", 4).err(), Fault::Truncated);
 }
 
-/// Whether the array at the front is this one.
-fn array_is(bytes: &[u8], wanted: &[u8; 32]) -> Result<bool, Fault> {
-    let (array, _) = array_at(bytes)?;
-    Ok(array == *wanted)
-}
-
 #[test]
 fn arrays_are_read(rt: HostRuntime) {
-    assert_holds(&rt, array_is(&[5; 33], &[5; 32]));
+    let bytes = &[5; 33];
+    let (array, _) = array_at(bytes).expect(&rt, "it is an array");
+    assert_bytes(&rt, &array, &[5; 32]);
     assert_fault(&rt, array_at(&[5; 31]).err(), Fault::Truncated);
 }
 
-/// Numbers of two, four and eight bytes.
-fn spelled_numbers(alloc: Global) -> Result<Vec<u8>, AllocError> {
-    let mut out = Vec::new(alloc);
-    put_u16(&mut out, 0x0102)?;
-    put_u32(&mut out, 0x0304_0506)?;
-    put_u64(&mut out, 0x0708_090a_0b0c_0d0e)?;
-    Ok(out)
-}
-
-/// Whether numbers of two, four and eight bytes are these bytes.
-fn are_spelled_numbers(alloc: Global, bytes: &[u8]) -> Result<bool, Fault> {
-    Ok(spelled_numbers(alloc)?.as_slice() == bytes)
+/// Adds numbers of two, four and eight bytes.
+fn put_numbers<R: Abort + AllocGlobal>(rt: &R, out: &mut Vec<u8>) {
+    put_u16(out, 0x0102).expect(rt, "it has room");
+    put_u32(out, 0x0304_0506).expect(rt, "it has room");
+    put_u64(out, 0x0708_090a_0b0c_0d0e).expect(rt, "it has room");
 }
 
 #[test]
 fn numbers_are_written(rt: HostRuntime) {
-    let bytes = &[1, 2, 3, 4, 5, 6, 7, 8, 9, 10, 11, 12, 13, 14];
-    assert_holds(&rt, are_spelled_numbers(rt.alloc(), bytes));
+    let mut out = Vec::new(rt.alloc());
+    put_numbers(&rt, &mut out);
+    assert_bytes(&rt, &out, &[1, 2, 3, 4, 5, 6, 7, 8, 9, 10, 11, 12, 13, 14]);
 }
 
-/// Whether the fields of the close are read, to the last byte.
-fn fields_of_close(alloc: Global) -> Result<bool, Fault> {
-    let (body, rest) = tx_fields_of(alloc, false, &CLOSE[1..])?;
-    Ok(rest.is_empty() && body.session == 0 && body.number == 2)
-}
-
-/// Whether the fields of the transaction of session 1 are read, to the last byte.
-fn fields_of_later(alloc: Global) -> Result<bool, Fault> {
-    let (body, rest) = tx_fields_of(alloc, true, &LATER[1..])?;
-    Ok(rest.is_empty() && body.session == 1 && body.number == 1)
+/// The fields of a body are read, of this session and number, to the last byte.
+fn assert_fields<R: Abort + AllocGlobal>(
+    rt: &R,
+    is_later: bool,
+    bytes: &[u8],
+    session: u32,
+    number: u64,
+) {
+    let fields = tx_fields_of(rt.alloc(), is_later, bytes);
+    let (body, rest) = fields.expect(rt, "they are fields");
+    assert_same(rt, &rest.len(), &0);
+    assert_same(rt, &body.session, &session);
+    assert_same(rt, &body.number, &number);
 }
 
 #[test]
 fn fields_of_a_body_are_read(rt: HostRuntime) {
-    assert_holds(&rt, fields_of_close(rt.alloc()));
-    assert_holds(&rt, fields_of_later(rt.alloc()));
+    assert_fields(&rt, false, &CLOSE[1..], 0, 2);
+    assert_fields(&rt, true, &LATER[1..], 1, 1);
 }
 
-/// How many tags are read where one was written.
-fn count_of_one_tag(alloc: Global) -> Result<usize, Fault> {
-    let bytes = with_tag(alloc, &[])?;
-    let (tags, _) = tags_of(alloc, &bytes)?;
-    Ok(tags.len())
-}
-
+/// Where one tag was written, one is read.
 #[test]
 fn tags_are_read(rt: HostRuntime) {
-    assert!(rt; count_of_one_tag(rt.alloc()) == Ok(1));
+    let bytes = with_tag(&rt, &[]);
+    let (tags, _) = tags_of(rt.alloc(), &bytes).expect(&rt, "they are tags");
+    assert_same(&rt, &tags.len(), &1);
 }
 
-/// Whether the empty value is read, up to a byte behind it.
-fn front_is_empty(alloc: Global) -> Result<bool, Fault> {
-    let (value, rest) = value_front(alloc, &[0, 0, 7])?;
-    Ok(value.txs.len() == 0 && rest == [7].as_slice())
-}
-
+/// The empty value is read, up to a byte behind it.
 #[test]
 fn front_of_a_value_is_read(rt: HostRuntime) {
-    assert_holds(&rt, front_is_empty(rt.alloc()));
+    let bytes = &[0, 0, 7];
+    let (value, rest) = value_front(rt.alloc(), bytes).expect(&rt, "it is a value");
+    assert_same(&rt, &value.txs.len(), &0);
+    assert_bytes(&rt, rest, &[7]);
 }
 
-/// Whether the transaction's body is as long as these bytes, and is written so.
-fn is_body(alloc: Global, bytes: &[u8], tx: &Tx) -> Result<bool, Fault> {
-    if len_of_tx_body(tx)? != bytes.len() {
-        return Ok(false);
-    }
-    let mut out = Vec::new(alloc);
-    put_tx_body(&mut out, tx)?;
-    Ok(out.as_slice() == bytes)
-}
-
-/// Whether the tags are as long as these bytes, and are written so.
-fn are_tags(alloc: Global, bytes: &[u8], tags: &Seq<[u8; 32]>) -> Result<bool, Fault> {
-    if len_of_tags(tags.as_slice())? != bytes.len() {
-        return Ok(false);
-    }
-    let mut out = Vec::new(alloc);
-    put_tags(&mut out, tags)?;
-    Ok(out.as_slice() == bytes)
-}
-
-/// Whether the value is as long as these bytes, and is written so.
-fn is_value(alloc: Global, bytes: &[u8], value: &Value) -> Result<bool, Fault> {
-    if len_of_value(value)? != bytes.len() {
-        return Ok(false);
-    }
-    let mut out = Vec::new(alloc);
-    put_value(&mut out, value)?;
-    Ok(out.as_slice() == bytes)
+/// The body of this spelling's transaction is as long as it, and is written so.
+fn assert_body<R: Abort + AllocGlobal>(rt: &R, bytes: &[u8]) {
+    let tx = tx_of(rt, bytes);
+    let len = len_of_tx_body(&tx).expect(rt, "it has a body");
+    assert_same(rt, &len, &bytes.len());
+    let mut out = Vec::new(rt.alloc());
+    put_tx_body(&mut out, &tx).expect(rt, "the body has room");
+    assert_bytes(rt, &out, bytes);
 }
 
 #[test]
 fn body_is_written(rt: HostRuntime) {
-    let alloc = rt.alloc();
-    assert_holds(
-        &rt,
-        of_tx(alloc, &ONE_BYTE, |tx| is_body(alloc, &ONE_BYTE, tx)),
-    );
-    assert_holds(&rt, of_tx(alloc, &LATER, |tx| is_body(alloc, &LATER, tx)));
+    assert_body(&rt, &ONE_BYTE);
+    assert_body(&rt, &LATER);
 }
 
 /// One tag of nines, behind the count.
@@ -161,141 +124,84 @@ const ONE_TAG: [u8; 33] = [
     9,
 ];
 
+/// The tags are as long as these bytes, and are written so.
 #[test]
 fn tags_are_written(rt: HostRuntime) {
-    let alloc = rt.alloc();
-    assert_holds(
-        &rt,
-        of_tx(alloc, &ONE_BYTE, |tx| are_tags(alloc, &ONE_TAG, &tx.tags)),
-    );
+    let tx = tx_of(&rt, &ONE_BYTE);
+    let len = len_of_tags(tx.tags.as_slice()).expect(&rt, "they are tags");
+    assert_same(&rt, &len, &ONE_TAG.len());
+    let mut out = Vec::new(rt.alloc());
+    put_tags(&mut out, &tx.tags).expect(&rt, "the tags have room");
+    assert_bytes(&rt, &out, &ONE_TAG);
 }
 
+/// The empty value is as long as its spelling, and is written so.
 #[test]
 fn value_is_written(rt: HostRuntime) {
-    let alloc = rt.alloc();
-    assert_holds(
-        &rt,
-        of_value(alloc, &[0, 0], |value| is_value(alloc, &[0, 0], value)),
-    );
+    let value = empty(&rt);
+    let len = len_of_value(&value).expect(&rt, "it has a spelling");
+    assert_same(&rt, &len, &2);
+    let mut out = Vec::new(rt.alloc());
+    put_value(&mut out, &value).expect(&rt, "the value has room");
+    assert_bytes(&rt, &out, &[0, 0]);
 }
 
 /// The numbers 1 to 3.
-fn one_two_three(alloc: Global) -> Result<Seq<u8>, AllocError> {
-    let mut list = Seq::from_vec(Vec::from_slice(alloc, &[1, 2])?);
-    list.push(3)?;
-    Ok(list)
-}
-
-/// Whether a copy of the list is equal, and has the numbers 1 to 3.
-fn list_is_copied(alloc: Global, list: &Seq<u8>) -> Result<bool, Fault> {
-    let again = list.copy(alloc)?;
-    Ok(*list == again && again.as_slice() == [1, 2, 3].as_slice())
-}
-
-/// Whether the numbers 1 to 3 are a list of three, as its copy is.
-fn list_is_kept(alloc: Global) -> Result<bool, Fault> {
-    let list = one_two_three(alloc)?;
-    Ok(list.len() == 3 && list_is_copied(alloc, &list)?)
+fn one_two_three<R: Abort + AllocGlobal>(rt: &R) -> Seq<u8> {
+    let two = Vec::from_slice(rt.alloc(), &[1, 2]).expect(rt, "they have room");
+    let mut list = Seq::from_vec(two);
+    list.push(3).expect(rt, "it has room");
+    list
 }
 
 #[test]
 fn lists(rt: HostRuntime) {
-    assert_holds(&rt, list_is_kept(rt.alloc()));
-}
-
-/// The numbers 1 to 3, to be shared.
-fn shared_one_two_three(alloc: Global) -> Result<Shared<u8>, AllocError> {
-    let list = one_two_three(alloc)?;
-    Ok(Shared::from_vec(alloc, list.into_vec())?)
-}
-
-/// Whether a copy of the shared list is equal, and has the numbers 1 to 3.
-fn shared_is_copied(alloc: Global, list: &Shared<u8>) -> Result<bool, Fault> {
-    let again = list.copy(alloc)?;
-    Ok(*list == again && again.as_slice() == [1, 2, 3].as_slice())
-}
-
-/// Whether the numbers 1 to 3 are a shared list of three, as its copy is.
-fn shared_is_kept(alloc: Global) -> Result<bool, Fault> {
-    let list = shared_one_two_three(alloc)?;
-    Ok(list.len() == 3 && shared_is_copied(alloc, &list)?)
+    let list = one_two_three(&rt);
+    assert_same(&rt, &list.len(), &3);
+    let again = list.copy(rt.alloc()).expect(&rt, "the copy has room");
+    assert!(rt; list == again);
+    assert_bytes(&rt, again.as_slice(), &[1, 2, 3]);
 }
 
 #[test]
 fn shared_lists(rt: HostRuntime) {
-    assert_holds(&rt, shared_is_kept(rt.alloc()));
+    let list = Shared::from_vec(rt.alloc(), one_two_three(&rt).into_vec());
+    let list = list.expect(&rt, "the list has room");
+    assert_same(&rt, &list.len(), &3);
+    let again = list.copy(rt.alloc()).expect(&rt, "the count fits");
+    assert!(rt; list == again);
+    assert_bytes(&rt, again.as_slice(), &[1, 2, 3]);
 }
 
-/// Whether copies of the elements are these elements.
-fn are_copied(alloc: Global, elements: &[u8]) -> Result<bool, Fault> {
-    Ok(copy_all(alloc, elements)?.as_slice() == elements)
-}
-
+/// Copies of elements are these elements.
 #[test]
 fn copies_of_elements(rt: HostRuntime) {
-    assert_holds(&rt, are_copied(rt.alloc(), &[1, 2, 3]));
+    let elements = &[1, 2, 3];
+    let copies = copy_all(rt.alloc(), elements).expect(&rt, "they have room");
+    assert_bytes(&rt, &copies, elements);
 }
 
 /// Three bytes and two tags.
 const SMALL: (usize, usize) = (3, 2);
 
-/// Whether a value of one transaction is the same as one of so many others and a last.
-fn is_same(
-    alloc: Global,
-    value: &Value,
-    others: usize,
-    last: (usize, usize),
-) -> Result<bool, Fault> {
-    let other = value_of(alloc, others, SMALL, last)?;
-    Ok(same_value(value, &other))
-}
-
-/// Whether the value is the same as its copy, and none of these.
-fn is_told_apart(
-    alloc: Global,
-    value: &Value,
-    others: &[(usize, (usize, usize))],
-) -> Result<bool, Fault> {
-    for (count, last) in others {
-        if is_same(alloc, value, *count, *last)? {
-            return Ok(false);
-        }
-    }
-    is_same_as_its_copy(alloc, value)
-}
-
-/// Whether a value of one transaction is the same as its copy, and not as one with more or fewer of anything.
-fn one_is_told_apart(alloc: Global) -> Result<bool, Fault> {
-    let one = value_of(alloc, 0, SMALL, SMALL)?;
-    is_told_apart(alloc, &one, &[(1, SMALL), (0, (3, 1)), (0, (2, 2))])
-}
-
+/// A value of one transaction is the same as its copy, and not as one with more or fewer of anything.
 #[test]
 fn equal_values(rt: HostRuntime) {
-    assert_holds(&rt, one_is_told_apart(rt.alloc()));
+    let one = value_of(&rt, 0, SMALL, SMALL);
+    for (count, last) in [(1, SMALL), (0, (3, 1)), (0, (2, 2))] {
+        let other = value_of(&rt, count, SMALL, last);
+        assert_same(&rt, &same_value(&one, &other), &false);
+    }
+    assert_same(&rt, &is_same_as_its_copy(&rt, &one), &true);
 }
 
-/// Whether tags are equal to these.
-fn are_equal_tags(alloc: Global, tags: &Seq<[u8; 32]>) -> Result<bool, Fault> {
-    Ok(*tags == nines(alloc, 2)?)
-}
-
-/// Whether two times two tags are equal.
-fn tags_are_equal(alloc: Global) -> Result<bool, Fault> {
-    let tags = nines(alloc, 2)?;
-    are_equal_tags(alloc, &tags)
-}
-
+/// Two times two tags are equal.
 #[test]
 fn equal_tags(rt: HostRuntime) {
-    assert_holds(&rt, tags_are_equal(rt.alloc()));
+    assert!(rt; nines(&rt, 2) == nines(&rt, 2));
 }
 
-/// Whether a copy of the item is equal.
-fn item_is_copied(alloc: Global, item: &Item) -> Result<bool, Fault> {
-    Ok(*item == item.copy(alloc)?)
-}
-
+/// A copy of the item is equal.
 #[test]
 fn equal_items(rt: HostRuntime) {
     let item = Item {
@@ -304,5 +210,6 @@ fn equal_items(rt: HostRuntime) {
         number: 1,
         op: Op::Close,
     };
-    assert_holds(&rt, item_is_copied(rt.alloc(), &item));
+    let copy = item.copy(rt.alloc()).expect(&rt, "the copy has room");
+    assert!(rt; item == copy);
 }

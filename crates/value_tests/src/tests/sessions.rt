@@ -1,12 +1,11 @@
 //! Transactions of a session after their client's first.
 
 use super::{
-    LATER, are_short_for_value, assert_fault, assert_holds, is_later, is_spelled_with_tag,
-    is_spelling_of_value, of_tx, of_value, put_with_tag, tx_fault, value_fault,
+    LATER, assert_fault, assert_same, assert_short_for_value, assert_spelled_with_tag,
+    assert_spelling_of_value, is_later, joined, tx_fault, tx_of, value_fault, value_read, with_tag,
 };
-use std::alloc::{AllocError, Global};
 use std::process::Abort;
-use transactions::{Fault, Op, Tx, Value, tx_fields_of};
+use transactions::{Fault, Op, Tx, tx_fields_of};
 
 /// The body of client 7's transaction 1 of the last session, which is a close.
 const LAST: [u8; 16] = [2, 0, 7, 0xff, 0xff, 0xff, 0xff, 0, 0, 0, 0, 0, 0, 0, 1, 1];
@@ -18,64 +17,41 @@ fn is_last(tx: &Tx) -> bool {
 
 #[test]
 fn the_last_session(rt: HostRuntime) {
-    let alloc = rt.alloc();
-    assert_holds(&rt, of_tx(alloc, &LAST, |tx| Ok(is_last(tx))));
-    assert_holds(
-        &rt,
-        of_tx(alloc, &LAST, |tx| is_spelled_with_tag(alloc, &LAST, tx)),
-    );
+    let tx = tx_of(&rt, &LAST);
+    assert_same(&rt, &is_last(&tx), &true);
+    assert_spelled_with_tag(&rt, &tx, &LAST);
 }
 
 /// The spelling of a value of one transaction, of this body with one tag.
-fn value_with(alloc: Global, body: &[u8]) -> Result<Vec<u8>, AllocError> {
-    let mut bytes = [0, 1].to_vec(alloc)?;
-    put_with_tag(&mut bytes, body)?;
-    Ok(bytes)
+fn value_with<R: Abort + AllocGlobal>(rt: &R, body: &[u8]) -> Vec<u8> {
+    joined(rt, &[&[0, 1], &with_tag(rt, body)])
 }
 
-/// Whether the value has client 7's transaction 1 of session 1 alone, and these bytes as its spelling.
-fn is_value_of_later(alloc: Global, bytes: &[u8], value: &Value) -> Result<bool, Fault> {
-    Ok(
-        matches!(value.txs.as_slice(), [tx] if is_later(tx))
-            && is_spelling_of_value(alloc, bytes, value)?,
-    )
-}
-
-/// Whether that value is read, and spelled so.
-fn later_is_in_a_value(alloc: Global) -> Result<bool, Fault> {
-    let bytes = value_with(alloc, &LATER)?;
-    of_value(
-        alloc,
-        &bytes,
-        |value| is_value_of_later(alloc, &bytes, value),
-    )
-}
-
+/// The value has client 7's transaction 1 of session 1 alone, and is spelled as it was read.
 #[test]
 fn value_of_a_later_session(rt: HostRuntime) {
-    assert_holds(&rt, later_is_in_a_value(rt.alloc()));
+    let bytes = value_with(&rt, &LATER);
+    let value = value_read(&rt, &bytes);
+    assert!(rt; matches!(value.txs.as_slice(), [tx] if is_later(tx)));
+    assert_spelling_of_value(&rt, &value, &bytes);
 }
 
-/// Whether each beginning of that value is too short.
-fn are_short_for_later(alloc: Global) -> Result<bool, Fault> {
-    let bytes = value_with(alloc, &LATER)?;
-    Ok(are_short_for_value(alloc, &bytes))
+/// Why these bytes behind the kind of a later session are no transaction.
+fn fields_fault<R: Abort + AllocGlobal>(rt: &R, fields: &[u8]) -> Option<Fault> {
+    tx_fields_of(rt.alloc(), true, fields).err()
 }
 
-/// Whether each beginning of what stands behind the kind of a later session is too short.
-fn are_short_fields(alloc: Global, fields: &[u8]) -> bool {
+/// Each beginning of what stands behind the kind of a later session is too short.
+fn assert_short_fields<R: Abort + AllocGlobal>(rt: &R, fields: &[u8]) {
     for cut in 0..fields.len() {
-        if tx_fields_of(alloc, true, &fields[..cut]).err() != Some(Fault::Truncated) {
-            return false;
-        }
+        assert_fault(rt, fields_fault(rt, &fields[..cut]), Fault::Truncated);
     }
-    true
 }
 
 #[test]
 fn beginnings_are_truncated(rt: HostRuntime) {
-    assert_holds(&rt, are_short_for_later(rt.alloc()));
-    assert!(rt; are_short_fields(rt.alloc(), &LATER[1..]));
+    assert_short_for_value(&rt, &value_with(&rt, &LATER));
+    assert_short_fields(&rt, &LATER[1..]);
 }
 
 /// The body of client 7's transaction 1 of session 1 with one byte at a place.
@@ -87,55 +63,35 @@ fn later_with(place: usize, byte: u8) -> [u8; 19] {
     bytes
 }
 
-/// Why a value of one transaction, of this body with one tag, is none.
-fn fault_in_a_value(alloc: Global, body: &[u8]) -> Result<Option<Fault>, AllocError> {
-    let bytes = value_with(alloc, body)?;
-    Ok(value_fault(alloc, &bytes))
-}
-
-/// The body with one byte at a place has these faults, alone and within a value.
-fn assert_faults_with(rt: &impl Abort, alloc: Global, cases: &[(usize, u8, Fault)]) {
-    for (place, byte, fault) in cases {
-        let body = later_with(*place, *byte);
-        assert_eq!(rt;
-            tx_fault(alloc, &body),
-            Some(*fault),
-            "byte {byte} at {place}"
-        );
-        assert_eq!(rt;
-            fault_in_a_value(alloc, &body),
-            Ok(Some(*fault)),
-            "byte {byte} at {place} within a value"
-        );
-    }
+/// The body with one byte at a place has this fault, alone and within a value.
+fn assert_fault_with<R: Abort + AllocGlobal>(rt: &R, place: usize, byte: u8, fault: Fault) {
+    let body = later_with(place, byte);
+    assert_fault(rt, tx_fault(rt, &body), fault);
+    assert_fault(rt, value_fault(rt, &value_with(rt, &body)), fault);
 }
 
 #[test]
 fn fields_out_of_range(rt: HostRuntime) {
-    let cases = &[
-        // A kind that is no transaction's.
-        (0, 3, Fault::BadSpelling),
-        // The high byte of the client: 1,031 then.
-        (1, 4, Fault::BadSpelling),
-        // Session 0.
-        (6, 0, Fault::BadSpelling),
-        // The number: 2^48 + 1, and 0.
-        (8, 1, Fault::BadSpelling),
-        (14, 0, Fault::BadSpelling),
-        // The operation.
-        (15, 2, Fault::BadSpelling),
-        // The length: 1,025.
-        (16, 4, Fault::TooLong),
-    ];
-    assert_faults_with(&rt, rt.alloc(), cases);
+    // A kind that is no transaction's.
+    assert_fault_with(&rt, 0, 3, Fault::BadSpelling);
+    // The high byte of the client: 1,031 then.
+    assert_fault_with(&rt, 1, 4, Fault::BadSpelling);
+    // Session 0.
+    assert_fault_with(&rt, 6, 0, Fault::BadSpelling);
+    // The number: 2^48 + 1, and 0.
+    assert_fault_with(&rt, 8, 1, Fault::BadSpelling);
+    assert_fault_with(&rt, 14, 0, Fault::BadSpelling);
+    // The operation.
+    assert_fault_with(&rt, 15, 2, Fault::BadSpelling);
+    // The length: 1,025.
+    assert_fault_with(&rt, 16, 4, Fault::TooLong);
 }
 
 #[test]
 fn session_zero_is_not_told(rt: HostRuntime) {
     let zero = later_with(6, 0);
-    let fields = tx_fields_of(rt.alloc(), true, &zero[1..]).err();
-    assert_fault(&rt, fields, Fault::BadSpelling);
+    assert_fault(&rt, fields_fault(&rt, &zero[1..]), Fault::BadSpelling);
     // It stands before what is absent behind it.
-    assert_fault(&rt, tx_fault(rt.alloc(), &zero[..7]), Fault::BadSpelling);
-    assert_fault(&rt, tx_fault(rt.alloc(), &zero[..6]), Fault::Truncated);
+    assert_fault(&rt, tx_fault(&rt, &zero[..7]), Fault::BadSpelling);
+    assert_fault(&rt, tx_fault(&rt, &zero[..6]), Fault::Truncated);
 }

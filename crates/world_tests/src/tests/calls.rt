@@ -3,6 +3,7 @@
 ghost use Rattle.std.specs.Prelude.{◌≡◌, IfOk, length};
 ghost use Rattle.protocol.specs.Tags.{Validator};
 
+use super::assert_same;
 use authenticators::{KeyRing, Party};
 use node_core::{Config, NodeCore};
 use powers::Powers;
@@ -64,7 +65,7 @@ fn two_powers(rt: &impl Abort, alloc: Global) -> Result<Powers, Fail>
     ensures { IfOk result (λ powers. length powers ≡ 2) }
 {
     let powers = Powers::new(vec![in alloc; 1, 1]?)?;
-    assert_eq!(rt; powers.count(), 2);
+    assert_same(rt, &powers.count(), &2);
     Ok(powers)
 }
 
@@ -75,9 +76,13 @@ fn assert_calls(rt: &impl Abort, core: &mut NodeCore<MemoryStore>) {
         height: 0,
         round: 0,
     };
-    assert_eq!(rt; settle(core), Ok(()));
-    assert_eq!(rt; hand_frame(core, &[0, 0, 0, 0]), Err(Refusal::Truncated));
-    assert_eq!(rt; hand_timeout(core, due), Ok(()));
+    assert_same(rt, &settle(core), &Ok(()));
+    assert_same(
+        rt,
+        &hand_frame(core, &[0, 0, 0, 0]),
+        &Err(Refusal::Truncated),
+    );
+    assert_same(rt, &hand_timeout(core, due), &Ok(()));
     assert!(rt; core.round() == 0 && core.fired() == 0);
 }
 
@@ -100,6 +105,6 @@ fn comes_back(rt: &impl Abort, alloc: Global, core: NodeCore<MemoryStore>) -> Re
     let Ok(again) = begin_again(alloc, Config { me: 1, powers }, ring, store) else {
         panic!(rt; "it comes back");
     };
-    assert_eq!(rt; again.base()?.said.len(), 1);
+    assert_same(rt, &again.base()?.said.len(), &1);
     Ok(())
 }

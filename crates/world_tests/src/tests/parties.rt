@@ -2,6 +2,7 @@
 
 ghost use Rattle.std.specs.Prelude.{◌≡◌, IfOk, length};
 
+use super::assert_same;
 use messages::{Body, Step, Vote, read};
 use powers::Powers;
 use std::alloc::Global;
@@ -14,7 +15,7 @@ fn four_powers(rt: &impl Abort, alloc: Global) -> Result<Powers, Fail>
     ensures { IfOk result (λ powers. length powers ≡ 4) }
 {
     let powers = Powers::new(vec![in alloc; 1, 1, 1, 1]?)?;
-    assert_eq!(rt; powers.count(), 4);
+    assert_same(rt, &powers.count(), &4);
     Ok(powers)
 }
 
@@ -39,23 +40,23 @@ fn who_is_who(rt: HostRuntime) -> Result<(), Fail> {
 
 fn assert_who(rt: &impl Abort, parties: &Parties) {
     let nobody = FaultNumber::NoSuchParty;
-    assert_eq!(rt; parties.count(), 4);
-    assert_eq!(rt; parties.powers().total(), 4);
-    assert_eq!(rt; parties.correct_at(1), Ok(1));
-    assert_eq!(rt; parties.correct_at(2), Err(nobody));
-    assert_eq!(rt; parties.liar_at(2), Ok(2));
-    assert_eq!(rt; parties.liar_at(1), Err(nobody));
-    assert_eq!(rt; parties.liar_at(4), Err(nobody));
-    assert_eq!(rt; parties.correct_at(65_536), Err(nobody));
-    assert_eq!(rt; parties.client_at(7), Ok(7));
-    assert_eq!(rt; parties.client_at(8), Err(nobody));
+    assert_same(rt, &parties.count(), &4);
+    assert_same(rt, &parties.powers().total(), &4);
+    assert_same(rt, &parties.correct_at(1), &Ok(1));
+    assert_same(rt, &parties.correct_at(2), &Err(nobody));
+    assert_same(rt, &parties.liar_at(2), &Ok(2));
+    assert_same(rt, &parties.liar_at(1), &Err(nobody));
+    assert_same(rt, &parties.liar_at(4), &Err(nobody));
+    assert_same(rt, &parties.correct_at(65_536), &Err(nobody));
+    assert_same(rt, &parties.client_at(7), &Ok(7));
+    assert_same(rt, &parties.client_at(8), &Err(nobody));
 }
 
 /// A ring of a world has the keys of its validators.
 #[test]
 fn ring_of_a_validator(rt: HostRuntime) -> Result<(), Fail> {
     let parties = parties_of(&rt, rt.alloc())?;
-    assert_eq!(rt; parties.ring_of(rt.alloc(), 3)?.count(), 4);
+    assert_same(&rt, &parties.ring_of(rt.alloc(), 3)?.count(), &4);
     Ok(())
 }
 
@@ -85,7 +86,7 @@ fn vote_of_a_liar(rt: HostRuntime) -> Result<(), Fail> {
         content: Some(value_id(alloc, &empty_value(alloc)?)?),
     };
     assert!(rt; matches!(&body, Body::Vote(found) if *found == vote));
-    assert_eq!(rt; tags, 4);
+    assert_same(&rt, &tags, &4);
     Ok(())
 }
 
@@ -112,7 +113,7 @@ fn proposal_of_a_liar(rt: HostRuntime) -> Result<(), Fail> {
     };
     let (body, tags) = said(alloc, &parties.frame_of_proposal(alloc, &line)?)?;
     assert!(rt; is_proposal(&body));
-    assert_eq!(rt; tags, 4);
+    assert_same(&rt, &tags, &4);
     Ok(())
 }
 
@@ -137,6 +138,6 @@ fn transaction_of_a_client(rt: HostRuntime) -> Result<(), Fail> {
         .iter()
         .filter(|tag| **tag == [0; 32])
         .count();
-    assert_eq!(rt; zeros, 3);
+    assert_same(&rt, &zeros, &3);
     Ok(())
 }

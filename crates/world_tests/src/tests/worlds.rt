@@ -1,6 +1,6 @@
 //! What no line of a schedule does to a world of four validators.
 
-use super::{run, world};
+use super::{assert_same, run, world};
 use std::alloc::Global;
 use std::process::Abort;
 use std::test::Fail;
@@ -30,9 +30,13 @@ fn events_of_a_liar(rt: HostRuntime) -> Result<(), Fail> {
     let mut world = world(rt.alloc(), &[0])?;
     let failing = Failing { call: 1, keep: 0 };
     let nobody = Some((1, FaultNumber::NoSuchParty, 0));
-    assert_eq!(rt; fault_of(&mut world, &[Event::Ask(0)]), nobody);
-    assert_eq!(rt; fault_of(&mut world, &[Event::Resend(0)]), nobody);
-    assert_eq!(rt; fault_of(&mut world, &[Event::Fail(0, failing)]), nobody);
+    assert_same(&rt, &fault_of(&mut world, &[Event::Ask(0)]), &nobody);
+    assert_same(&rt, &fault_of(&mut world, &[Event::Resend(0)]), &nobody);
+    assert_same(
+        &rt,
+        &fault_of(&mut world, &[Event::Fail(0, failing)]),
+        &nobody,
+    );
     Ok(())
 }
 
@@ -44,9 +48,9 @@ fn runs_after_a_fault(rt: HostRuntime) -> Result<(), Fail> {
     let long = Op::Bytes(Seq::from_vec(vec![in alloc; 0; 1025]?));
     let too_long = Some((2, FaultNumber::TooLong, 3));
     let events = [Event::Ask(1), Event::Send(7, long)];
-    assert_eq!(rt; fault_of(&mut world, &events), too_long);
+    assert_same(&rt, &fault_of(&mut world, &events), &too_long);
     let numbers = answered(alloc, &mut world, &[Event::Deliver(2, 0)])?;
-    assert_eq!(rt; numbers.as_slice(), [7].as_slice());
+    assert_same(&rt, &numbers.as_slice(), &[7].as_slice());
     Ok(())
 }
 

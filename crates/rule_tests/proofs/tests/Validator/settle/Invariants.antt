@@ -2,4 +2,4 @@ use Rattle.std.proofs.Common.{false, []}
 use Rattle.rule_tests.proofs.tests.Validator.settle.Given as goal
 
 abbrev pub ghost-step : goal.ghost-step
-ghost-step a = record { powers = a.self.now.state.powers; me = a.self.now.state.me; genuine = λ _. a.self.now.genuine; vouches = λ _ _. false; certified = λ _. []; own_tags = λ _ _ _. a.self.now.own_tags }
+ghost-step g a = record { powers = a.self.now.state.powers; me = a.self.now.state.me; genuine = λ _. a.self.now.genuine; vouches = λ _ _. false; certified = λ _. []; own_tags = λ _ _ _. a.self.now.own_tags }

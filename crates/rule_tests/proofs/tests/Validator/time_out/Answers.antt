@@ -5,7 +5,7 @@ use Rattle.protocol.specs.Values.{Value}
 use Rattle.protocol.specs.declared.types.Step.{Step}
 use Rattle.protocol.specs.declared.types.Step.TheVariants.{Propose, Prevote, Precommit}
 use Rattle.protocol.specs.State.{Context}
-use Rattle.round_states.specs.Machine.{Machine}
+use Rattle.round_states.specs.Machine.{Machine, Agrees}
 use Rattle.round_states.specs.Steps.{IsPick, IsPickTold}
 use Rattle.round_states.specs.declared.plans.Picked.{Picked}
 use Rattle.round_machine.specs.Naming.{pick_in, ServesTimeout}
@@ -21,9 +21,9 @@ serves g m flag Propose input same h = tt
 serves g m flag Prevote input same h = tt
 serves g m flag Precommit input same h = let t = told g flag (pick_in input) same h.0 in (t.0, t.1, λ own none. h.1)
 
-pub fire-requires : goal.fire-requires
-fire-requires g c =
-    let v = c.args.self.now in (
-      rw c.requires (record { powers = refl; me = refl; genuine = v.told }),
-      (tt, (sym (c.holds_timeout.ensures g.g) ∙ c.if-not-holds_timeout.false, serves g.g v.state v.genuine c.args.kind c.in_ok-input.input (λ x. ap (λ (k : Context). k.genuine x) c.requires) c.in_ok-input.ensures)),
-    )
+pub fire-body-requires : goal.fire-body-requires
+fire-body-requires g c κs within =
+    let v = c.args.self.now in
+    let agrees : Agrees g.g v.state = rw c.requires.1 (record { powers = refl; me = refl; genuine = v.told }) in
+    let served = serves g.g v.state v.genuine c.args.kind c.pick-input.result (λ x. ap (λ (k : Context). k.genuine x) c.requires.1) c.pick-input.ensures in
+    (within, (agrees, (tt, (sym (c.holds_timeout.ensures g.g) ∙ c.if-not-holds_timeout.false, served))))
