@@ -193,7 +193,7 @@ impl PeerCore {
     fn keep_prevote(&mut self, sender: u16, frame: &Bytes) -> Result<(), AllocError>
         ensures { self.new.links ≡ self.old.links }
     {
-        // (where there is no room for it, the node has none either)
+        // (of another validator a node takes in no more than are kept; own ones are kept of the first 512 rounds)
         let _ = self.prevotes.keep(sender, frame.clone()?);
         Ok(())
     }

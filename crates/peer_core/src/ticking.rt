@@ -21,8 +21,8 @@ use std::alloc::{AllocError, Global};
 /// How long a height doesn't move until its frames are passed on and all are asked, in milliseconds.
 const STILL_MS: u64 = 1_000;
 
-/// How many validators a cluster has at most in which a bundle takes little to make: its tags are over all of it, one for each validator,
-/// and so are those of the votes that it brings. With 16 they take 94 kB of hashing, with 128 45 MB.
+/// The most validators of a small cluster, in which making a bundle costs little. A bundle holds a quorum's precommits, each with a tag for
+/// every validator, and is tagged as a whole for every validator too: 94 kB are hashed for one among 16 validators, 45 MB among 128.
 pub(crate) const MOST_SMALL: u16 = 16;
 
 /// How many seconds' worth of the newest frames are passed on by turns.

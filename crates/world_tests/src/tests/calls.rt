@@ -1,6 +1,6 @@
 //! The text of a fault, and that the calls of a core get on.
 
-ghost use Rattle.std.specs.Prelude.{◌≡◌, IfOk, length};
+ghost use Rattle.std.specs.Prelude.{◌≡◌, length};
 ghost use Rattle.protocol.specs.Tags.{Validator};
 
 use super::assert_same;
@@ -10,7 +10,6 @@ use powers::Powers;
 use protocol::{Refusal, Step, Timeout};
 use std::alloc::{AllocError, Global};
 use std::process::Abort;
-use std::test::Fail;
 use stopped_cores::{begin_again, end};
 use transactions::Seq;
 use vote_journal::{Journal, MemoryStore};
@@ -46,12 +45,12 @@ fn faults_show_their_event_and_number(rt: HostRuntime) {
     );
 }
 
-fn own_ring(rt: &impl Abort, alloc: Global) -> Result<KeyRing, Fail>
-    ensures { IfOk result (λ ring. (ring.me ≡ Validator 1) × (ring.count ≡ 2)) }
+fn own_ring(rt: &impl Abort, alloc: Global) -> KeyRing
+    ensures { (result.me ≡ Validator 1) × (result.count ≡ 2) }
 {
-    let ring = KeyRing::read(alloc, KEYS, Party::Validator(1), 2)?;
+    let ring = KeyRing::read(alloc, KEYS, Party::Validator(1), 2).expect(rt, "they are keys");
     assert_ring(rt, &ring);
-    Ok(ring)
+    ring
 }
 
 fn assert_ring(rt: &impl Abort, ring: &KeyRing)
@@ -61,12 +60,13 @@ fn assert_ring(rt: &impl Abort, ring: &KeyRing)
     assert_eq!(rt; ring.count(), 2);
 }
 
-fn two_powers(rt: &impl Abort, alloc: Global) -> Result<Powers, Fail>
-    ensures { IfOk result (λ powers. length powers ≡ 2) }
+fn two_powers(rt: &impl Abort, alloc: Global) -> Powers
+    ensures { length result ≡ 2 }
 {
-    let powers = Powers::new(vec![in alloc; 1, 1]?)?;
+    let each = vec![in alloc; 1, 1].expect(rt, "two numbers have room");
+    let powers = Powers::new(each).expect(rt, "they are powers");
     assert_same(rt, &powers.count(), &2);
-    Ok(powers)
+    powers
 }
 
 /// Each call is made once.
@@ -87,24 +87,29 @@ fn assert_calls(rt: &impl Abort, core: &mut NodeCore<MemoryStore>) {
 }
 
 #[test]
-fn calls_of_a_core(rt: HostRuntime) -> Result<(), Fail> {
+fn calls_of_a_core(rt: HostRuntime) {
     let alloc = rt.alloc();
-    let ring = own_ring(&rt, alloc)?;
-    let powers = two_powers(&rt, alloc)?;
-    let journal = Journal::in_memory(alloc, 1)?;
+    let ring = own_ring(&rt, alloc);
+    let powers = two_powers(&rt, alloc);
+    let journal = Journal::in_memory(alloc, 1).expect(&rt, "the journal has room");
     let mut core = NodeCore::new(alloc, Config { me: 1, powers }, ring, journal);
     assert_calls(&rt, &mut core);
-    comes_back(&rt, alloc, core)
+    comes_back(&rt, alloc, core);
 }
 
 /// It ends, and another one over its store has said what it said: a prevote of nil.
-fn comes_back(rt: &impl Abort, alloc: Global, core: NodeCore<MemoryStore>) -> Result<(), Fail> {
+fn comes_back(rt: &impl Abort, alloc: Global, core: NodeCore<MemoryStore>) {
     let store = end(core);
-    let ring = own_ring(rt, alloc)?;
-    let powers = two_powers(rt, alloc)?;
+    let ring = own_ring(rt, alloc);
+    let powers = two_powers(rt, alloc);
     let Ok(again) = begin_again(alloc, Config { me: 1, powers }, ring, store) else {
         panic!(rt; "it comes back");
     };
-    assert_same(rt, &again.base()?.said.len(), &1);
-    Ok(())
+    assert_said(rt, &again);
+}
+
+/// It has said one message.
+fn assert_said(rt: &impl Abort, core: &NodeCore<MemoryStore>) {
+    let base = core.base().expect(rt, "the copy has room");
+    assert_same(rt, &base.said.len(), &1);
 }

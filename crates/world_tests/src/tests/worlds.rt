@@ -3,7 +3,7 @@
 use super::{assert_same, run, world};
 use std::alloc::Global;
 use std::process::Abort;
-use std::test::Fail;
+use std::slice;
 use transactions::{Op, Seq};
 use world_schedule::{Event, Failing, FaultNumber, Told, What, World};
 
@@ -26,52 +26,63 @@ fn is_message(told: &Told) -> bool {
 
 /// A liar is asked for nothing, and has no store.
 #[test]
-fn events_of_a_liar(rt: HostRuntime) -> Result<(), Fail> {
-    let mut world = world(rt.alloc(), &[0])?;
+fn events_of_a_liar(rt: HostRuntime) {
+    let mut world = world(&rt, rt.alloc(), &[0]);
+    refuses_events_of_a_liar(&rt, &mut world);
+}
+
+fn refuses_events_of_a_liar(rt: &impl Abort, world: &mut World) {
     let failing = Failing { call: 1, keep: 0 };
     let nobody = Some((1, FaultNumber::NoSuchParty, 0));
-    assert_same(&rt, &fault_of(&mut world, &[Event::Ask(0)]), &nobody);
-    assert_same(&rt, &fault_of(&mut world, &[Event::Resend(0)]), &nobody);
-    assert_same(
-        &rt,
-        &fault_of(&mut world, &[Event::Fail(0, failing)]),
-        &nobody,
-    );
-    Ok(())
+    for event in &[Event::Ask(0), Event::Resend(0), Event::Fail(0, failing)] {
+        assert_same(rt, &fault_of(world, slice::from_ref(event)), &nobody);
+    }
 }
 
 /// An item of more than 1,024 bytes has no spelling. The events before it stand: their messages come in a further run.
 #[test]
-fn runs_after_a_fault(rt: HostRuntime) -> Result<(), Fail> {
-    let alloc = rt.alloc();
-    let mut world = world(alloc, &[])?;
-    let long = Op::Bytes(Seq::from_vec(vec![in alloc; 0; 1025]?));
+fn runs_after_a_fault(rt: HostRuntime) {
+    let mut world = world(&rt, rt.alloc(), &[]);
+    refuses_a_long_item(&rt, rt.alloc(), &mut world);
+    delivers_after_a_fault(&rt, rt.alloc(), &mut world);
+}
+
+fn refuses_a_long_item(rt: &impl Abort, alloc: Global, world: &mut World) {
+    let zeros = vec![in alloc; 0; 1025].expect(rt, "the bytes have room");
+    let long = Op::Bytes(Seq::from_vec(zeros));
     let too_long = Some((2, FaultNumber::TooLong, 3));
     let events = [Event::Ask(1), Event::Send(7, long)];
-    assert_same(&rt, &fault_of(&mut world, &events), &too_long);
-    let numbers = answered(alloc, &mut world, &[Event::Deliver(2, 0)])?;
-    assert_same(&rt, &numbers.as_slice(), &[7].as_slice());
-    Ok(())
+    assert_same(rt, &fault_of(world, &events), &too_long);
+}
+
+fn delivers_after_a_fault(rt: &impl Abort, alloc: Global, world: &mut World) {
+    let numbers = answered(rt, alloc, world, &[Event::Deliver(2, 0)]);
+    assert_same(rt, &numbers.as_slice(), &[7].as_slice());
 }
 
 /// The numbers of the answers that a run of these events tells.
-fn answered(alloc: Global, world: &mut World, events: &[Event]) -> Result<Vec<u8>, Fail> {
-    let report = run(world, events)?;
+fn answered(rt: &impl Abort, alloc: Global, world: &mut World, events: &[Event]) -> Vec<u8> {
+    let report = run(rt, world, events);
     let mut numbers = Vec::new(alloc);
     for one in report.told.as_slice() {
         if let What::Answered(answer) = &one.what {
-            numbers.push(answer.number)?;
+            numbers
+                .push(answer.number)
+                .expect(rt, "the number has room");
         }
     }
-    Ok(numbers)
+    numbers
 }
 
 /// A validator that lies has no variables, and neither has a number that is no validator's.
 #[test]
-fn states_of_others(rt: HostRuntime) -> Result<(), Fail> {
-    let world = world(rt.alloc(), &[0, 1, 2])?;
-    assert!(rt; is_up(&world, 3) && !is_up(&world, 0) && !is_up(&world, 4));
-    Ok(())
+fn states_of_others(rt: HostRuntime) {
+    let world = world(&rt, rt.alloc(), &[0, 1, 2]);
+    assert_states_of_others(&rt, &world);
+}
+
+fn assert_states_of_others(rt: &impl Abort, world: &World) {
+    assert!(rt; is_up(world, 3) && !is_up(world, 0) && !is_up(world, 4));
 }
 
 /// Whether this validator is a correct one that is open.
