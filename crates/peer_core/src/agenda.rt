@@ -3,8 +3,11 @@
 /// How often a node settles, and its edge looks what is to be repaired, in milliseconds.
 pub const TICK_MS: u64 = 1_000;
 
-/// How long a pause that doubles grows, in milliseconds.
-const LONGEST_PAUSE_MS: u64 = 32_000;
+/// How long the pause grows before the own messages are sent again, in milliseconds.
+const LONGEST_BEFORE_AGAIN_MS: u64 = 32_000;
+
+/// How long the pause grows before one more validator is asked, in milliseconds: some of those that were asked may be cut off.
+const LONGEST_BEFORE_ASK_MS: u64 = 8_000;
 
 /// Pauses that double, from a second on, until something moves.
 #[derive(Clone, Copy, Debug)]
@@ -12,14 +15,16 @@ struct Pauses {
     /// When this one is over.
     at: u64,
     pause: u64,
+    longest: u64,
 }
 
 impl Pauses {
-    /// The first one begins now.
-    fn new(now: u64) -> Pauses {
+    /// The first one begins now, and the longest one takes so long.
+    fn new(now: u64, longest: u64) -> Pauses {
         Pauses {
             at: now.saturating_add(TICK_MS),
             pause: TICK_MS,
+            longest,
         }
     }
 
@@ -28,7 +33,7 @@ impl Pauses {
         if now < self.at {
             return false;
         }
-        self.pause = self.pause.saturating_mul(2).min(LONGEST_PAUSE_MS);
+        self.pause = self.pause.saturating_mul(2).min(self.longest);
         self.at = now.saturating_add(self.pause);
         true
     }
@@ -56,8 +61,8 @@ impl Agenda {
             settles: false,
             resends,
             asks: false,
-            again: Pauses::new(now),
-            asking: Pauses::new(now),
+            again: Pauses::new(now, LONGEST_BEFORE_AGAIN_MS),
+            asking: Pauses::new(now, LONGEST_BEFORE_ASK_MS),
         }
     }
 
@@ -82,13 +87,13 @@ impl Agenda {
 
     /// Begins with the shortest pause again, since an own message goes out.
     pub(crate) fn moved(&mut self, now: u64) {
-        self.again = Pauses::new(now);
+        self.again = Pauses::new(now, LONGEST_BEFORE_AGAIN_MS);
     }
 
     /// Begins with the shortest pauses again, since another height has come.
     pub(crate) fn advanced(&mut self, now: u64) {
-        self.again = Pauses::new(now);
-        self.asking = Pauses::new(now);
+        self.again = Pauses::new(now, LONGEST_BEFORE_AGAIN_MS);
+        self.asking = Pauses::new(now, LONGEST_BEFORE_ASK_MS);
     }
 }
 

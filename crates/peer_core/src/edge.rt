@@ -53,11 +53,15 @@ pub struct PeerCore {
     pub(crate) passed_to: Option<LinkId>,
     /// The validator that was asked last in this height.
     pub(crate) asked: Option<u16>,
+    /// How many times another validator was asked for the height's bundle.
+    pub(crate) asks: u32,
     pub(crate) own: OwnFrames,
     /// The last own vote, of whichever height.
     pub(crate) last_vote: Option<Bytes>,
     /// The bundles that the node made last, for who asks for one of them next.
     pub(crate) bundles: OwnFrames,
+    /// When the last of them was made.
+    pub(crate) made: u64,
     pub(crate) held: HeldFrames,
     /// How long the node waits before it asks where it is one height behind, in milliseconds.
     pub(crate) moment: u64,
@@ -90,7 +94,7 @@ impl PeerCore {
             alloc,
             idle: manner.idle,
             links: PeerLinks::new(alloc, me, count, manner.keeping),
-            redial: Redial::new(me, count, manner),
+            redial: Redial::new(me, count, manner, now),
             early: EarlyFrames::new(alloc),
             taken: HeightFrames::new(alloc),
             turn: 0,
@@ -98,9 +102,11 @@ impl PeerCore {
             grounds: None,
             passed_to: None,
             asked: None,
+            asks: 0,
             own: OwnFrames::new(alloc),
             last_vote: None,
             bundles: OwnFrames::new(alloc),
+            made: 0,
             held: HeldFrames::new(alloc),
             moment: moment_of(count),
             catch_up: CatchUp::new(moment_of(count)),
@@ -196,6 +202,7 @@ impl PeerCore {
         self.own.clear();
         self.held.forget();
         self.asked = None;
+        self.asks = 0;
         self.catch_up.advanced(height);
         self.plan.forget_below(height);
         self.rest.forget_below(height);

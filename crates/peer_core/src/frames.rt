@@ -15,9 +15,11 @@ use crate::grounds::Grounds;
 use crate::heading::{Heading, Kind, heading_of, is_transaction};
 use crate::holding::MOST_BEHIND;
 use crate::idle::idle_height;
+use crate::link::AGAIN_MS;
 use crate::manner::Keeping;
 use crate::quiet::{has_transactions, is_quiet};
 use crate::showing::{is_news, shown_by};
+use crate::ticking::FIRST_ASKED;
 use bytes::Bytes;
 use edge_frames::LinkId;
 use messages::Reply;
@@ -26,6 +28,9 @@ use std::alloc::AllocError;
 
 /// For how many of a node's moments, in which it waits before it asks, others aren't answered who ask for the height that it left.
 const EARLY_MOMENTS: u64 = 4;
+
+/// How long a validator asks for a height until any other one makes its bundle in a large cluster, in milliseconds.
+const LONG_MS: u64 = 5_000;
 
 impl PeerCore {
     /// Notes before a frame is handed in what the node may release for it, and returns whether it is to be handed in: a bundle goes
@@ -49,7 +54,7 @@ impl PeerCore {
         if self.is_behind(ask) {
             self.asks_node(id, ask, now)
         } else {
-            self.note_ask(id, ask.height);
+            self.note_ask(id, ask.height, now);
             true
         }
     }
@@ -65,9 +70,9 @@ impl PeerCore {
     }
 
     /// Notes that the peer of a link asks for this height's bundle.
-    fn note_ask(&mut self, id: LinkId, height: u64) {
+    fn note_ask(&mut self, id: LinkId, height: u64, now: u64) {
         if let Some(link) = self.links.link_mut(id) {
-            link.ask(height);
+            link.ask(height, now);
         }
     }
 
@@ -77,17 +82,35 @@ impl PeerCore {
         let Some(link) = self.links.link_mut(id) else {
             return true;
         };
-        link.ask(ask.height);
-        let is_known = link.is_of(ask.sender);
-        if self.is_early(ask, now) {
+        link.ask(ask.height, now);
+        let (is_known, waited) = (link.is_of(ask.sender), link.asked_for(now));
+        if self.is_early(ask, now) || !self.is_helper(ask.height, waited) {
             return false;
         }
-        if is_known && (self.send_made(ask.height, now) || is_making) {
-            return false;
-        }
-        self.links
-            .link_mut(id)
-            .is_some_and(|link| link.make(ask.height, now))
+        let is_shared = if is_known {
+            self.send_made(ask.height, now) || is_making
+        } else {
+            self.is_large() && (is_making || self.made_lately(ask.height, now))
+        };
+        !is_shared
+            && self
+                .links
+                .link_mut(id)
+                .is_some_and(|link| link.make(ask.height, now))
+    }
+
+    /// Returns whether this validator is one that makes a height's bundle for who has waited so long for it: in a large cluster one of those
+    /// that are asked first, since a node that has cast no vote asks all when it greets them; and any for who gets none of these.
+    fn is_helper(&self, height: u64, waited: u64) -> bool {
+        let count = u64::from(self.redial.count()).max(1);
+        let place = u64::from(self.redial.me()).saturating_add(count) - height % count;
+        !self.is_large() || place % count < u64::from(FIRST_ASKED) || waited >= LONG_MS
+    }
+
+    /// Returns whether a height's bundle was made within the last second. Who has shown nothing, but for an ask that the node wasn't handed, gets the
+    /// next one, so that many of them have one made each second, and not each of them.
+    fn made_lately(&self, height: u64, now: u64) -> bool {
+        now.saturating_sub(self.made) < AGAIN_MS && self.made(height).is_some()
     }
 
     /// Returns whether a height was left so lately that who asks for it may just as well decide it by itself, or has since it asked. In a large
@@ -360,11 +383,12 @@ impl PeerCore {
     {
         let links = self.links.for_bundle(self.alloc, height, now)?;
         self.links.made(height);
+        self.made = now;
+        // (without memory for it, it is made once more)
+        let _ = self.bundles.keep(&frame);
         if links.is_empty() {
             return Ok(None);
         }
-        // (without memory for it, it is made once more)
-        let _ = self.bundles.keep(&frame);
         Ok(Some(fresh(frame, links)))
     }
 

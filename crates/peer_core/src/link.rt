@@ -18,7 +18,7 @@ pub(crate) const MOST_SILENT: u32 = 10;
 const BEAT_MS: u64 = 3_000;
 
 /// How long a height that a link was sent a bundle of isn't answered again on it, in milliseconds.
-const AGAIN_MS: u64 = 1_000;
+pub(crate) const AGAIN_MS: u64 = 1_000;
 
 /// For how long a node that was asked for a bundle isn't asked for it again unless it has made it, in milliseconds. A machine that has much
 /// to do makes one in seconds, at 128 validators, and one for each second of them would take it over.
@@ -48,7 +48,7 @@ pub enum Shown {
     Nothing,
 }
 
-/// A bundle that was sent on a link, or that the node was asked for.
+/// A bundle that was sent on a link, or asked for.
 #[derive(Clone, Copy, Debug)]
 struct Answered {
     height: u64,
@@ -65,6 +65,8 @@ pub struct PeerLink {
     pub opened: u64,
     /// Which of all frames that were new to the node was the last one that came here from the validator behind it; 0 where none was.
     pub news: u64,
+    /// How many frames were new to the node when the validator was found behind it.
+    pub(crate) met: u64,
     /// Whether it is the one of its validator's links that is sent what all get.
     pub is_chosen: bool,
     /// Whether the next ask that the node releases goes here.
@@ -84,6 +86,8 @@ pub struct PeerLink {
     useless: u32,
     /// The height whose bundle the peer asked for and wasn't sent.
     asked: Option<u64>,
+    /// The height that the peer asked for last, and when it did so first.
+    asked_first: Option<Answered>,
     answered: Option<Answered>,
     /// The last bundle that the node was asked for, as the peer asks.
     making: Option<Answered>,
@@ -104,6 +108,7 @@ impl PeerLink {
             behind,
             opened: now,
             news: 0,
+            met: 0,
             is_chosen: false,
             wants_ask: false,
             wants_own: false,
@@ -115,6 +120,7 @@ impl PeerLink {
             sent: now,
             useless: 0,
             asked: None,
+            asked_first: None,
             answered: None,
             making: None,
             asks_left: asks,
@@ -227,8 +233,17 @@ impl PeerLink {
     }
 
     /// Notes that the peer asks for this height.
-    pub(crate) fn ask(&mut self, height: u64) {
+    pub(crate) fn ask(&mut self, height: u64, now: u64) {
         self.asked = Some(height);
+        if self.asked_first.is_none_or(|asked| asked.height != height) {
+            self.asked_first = Some(Answered { height, at: now });
+        }
+    }
+
+    /// Returns for how long the peer has asked for what it asked for last, in milliseconds.
+    pub(crate) fn asked_for(&self, now: u64) -> u64 {
+        self.asked_first
+            .map_or(0, |asked| now.saturating_sub(asked.at))
     }
 
     /// Returns whether the node was asked for this height's bundle within the last minute, as the peer asks, and hasn't made it yet.

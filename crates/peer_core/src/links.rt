@@ -7,6 +7,7 @@ use crate::choosing::{best_of, mark_chosen};
 use crate::duty::{Closing, OpenFault};
 use crate::link::{Behind, MOST_SILENT, PeerLink, Shown};
 use crate::manner::Keeping;
+use crate::ticking::MOST_SMALL;
 use edge_frames::{LinkId, MOST_LINKS};
 use peer_links::Way;
 use std::alloc::{AllocError, AllocFailed, Global};
@@ -25,6 +26,10 @@ const MANY_SILENT: usize = 8;
 
 /// For how many seconds a link of a validator may be silent where many are, and more than half.
 const MOST_SILENT_TOGETHER: u32 = 60;
+
+/// How many new frames each validator may bring, on average, before a link that brought none isn't taken for its validator's in a large
+/// cluster: what two heights bring.
+const MOST_NEWS_OF_OTHERS: u64 = 4;
 
 /// How many asks for bundles the node is handed each second from one link, divided by the number of validators, since each bundle is
 /// tagged for all.
@@ -147,7 +152,9 @@ impl PeerLinks {
     /// Has a validator's link named, and sent the own messages where links are guarded, and chooses among that validator's links.
     fn greet(&mut self, id: LinkId, validator: u16) {
         let is_guarded = self.keeping == Keeping::Guarded;
+        let news = self.news;
         if let Some(link) = self.link_mut(id) {
+            link.met = news;
             link.wants_own = is_guarded;
             link.wants_name = true;
         }
@@ -290,13 +297,20 @@ impl PeerLinks {
         Ok(ids)
     }
 
+    /// Returns whether a link gets what is for the validators alone: the open ones that are used do.
+    fn is_for_validators(&self, link: &PeerLink) -> bool
+        ensures { result ≡ is_for_validators link.now }
+    {
+        link.is_open() && link.is_chosen
+    }
+
     /// Returns the links that are used of validators.
     fn chosen(&self, alloc: Global) -> Result<Vec<LinkId>, AllocError>
         ensures { IfOk result (λ ids. ids.items ≡ ids_of is_for_validators self.now.links.items) }
     {
         self.links
             .iter()
-            .filter(|link| link.is_open() && link.is_chosen)
+            .filter(|link| self.is_for_validators(link))
             .map(|link| link.id)
             .collect(alloc)
     }
@@ -558,8 +572,18 @@ impl PeerLinks {
         Some(link.id)
     }
 
-    /// Returns whether a link to this validator is open that was dialed, or one that brought something new of it.
+    /// Returns whether a link to this validator is open that was dialed, or one that brought something new of it. Who replays a
+    /// validator's frames brings nothing new; in a large cluster a link may pass for the validator's as long as others too bring little.
     pub fn is_linked(&self, validator: u16) -> bool {
-        self.links.iter().any(|link| link.is_of(validator) && (link.is_dialed() || link.news > 0))
+        self.links
+            .iter()
+            .any(|link| link.is_of(validator) && self.is_used(link))
+    }
+
+    /// Returns whether a validator's link was dialed, or brought something new, or may have had nothing to bring yet.
+    fn is_used(&self, link: &PeerLink) -> bool {
+        let since = self.news.saturating_sub(link.met);
+        let is_early = since < u64::from(self.count).saturating_mul(MOST_NEWS_OF_OTHERS);
+        link.is_dialed() || link.news > 0 || (self.count > MOST_SMALL && is_early)
     }
 }

@@ -3,6 +3,7 @@
 ghost use Rattle.std.specs.Prelude.{◌≡◌, ◌≢◌, ◌<◌, IfSome};
 
 use crate::manner::{Keeping, Manner};
+use crate::ticking::MOST_SMALL;
 use powers::MOST_VALIDATORS;
 
 /// How many times its first value the pause before an address is dialed again has at most.
@@ -22,6 +23,9 @@ struct Address {
 /// With open links each is dialed once. With guarded ones an address without an open link is dialed again after a pause, which
 /// doubles with each failure in a row. A little is added to it, so that validators that were cut off together don't dial all at
 /// once.
+///
+/// In a large cluster with guarded links each validator dials the half of the others that follow it, and the other half only where they
+/// haven't dialed it for longer: one link for each pair takes half of the threads and places that two take.
 #[derive(Debug, Drop)]
 pub struct Redial {
     me: u16,
@@ -32,9 +36,9 @@ pub struct Redial {
 }
 
 impl Redial {
-    /// All addresses but the own one are to be dialed at once.
-    pub fn new(me: u16, count: u16, manner: Manner) -> Redial {
-        Redial {
+    /// All addresses but the own one are to be dialed: at once, or behind a pause from now on where others dial first.
+    pub fn new(me: u16, count: u16, manner: Manner, now: u64) -> Redial {
+        let mut redial = Redial {
             me,
             count,
             is_guarded: manner.keeping == Keeping::Guarded,
@@ -43,7 +47,40 @@ impl Redial {
                 due: Some(0),
                 pause: manner.redial,
             }; MOST_VALIDATORS],
+        };
+        for validator in 0..count {
+            if redial.is_dialed_by(validator) {
+                redial.linked(validator, now);
+            }
         }
+        redial
+    }
+
+    /// Returns whether another validator dials this one first, in a large cluster with guarded links: it is in the half of the others
+    /// that this one follows.
+    fn is_dialed_by(&self, validator: u16) -> bool {
+        let ahead = if validator >= self.me {
+            validator - self.me
+        } else {
+            self.count.saturating_sub(self.me - validator)
+        };
+        self.is_guarded && self.count > MOST_SMALL && ahead > self.count / 2
+    }
+
+    /// Returns how long an address isn't dialed that has a link, or may get one: the first pause, or as many of them as there are sixteens of validators
+    /// where the other one dials first, as it takes so much longer until all of a large cluster have links.
+    fn pause_of(&self, validator: u16) -> u64 {
+        if self.is_dialed_by(validator) {
+            self.first
+                .saturating_mul(u64::from(self.count / MOST_SMALL))
+        } else {
+            self.first
+        }
+    }
+
+    /// Returns which validator this one is.
+    pub fn me(&self) -> u16 {
+        self.me
     }
 
     /// Returns how many validators there are.
@@ -77,11 +114,12 @@ impl Redial {
         is_due
     }
 
-    /// Has an address looked at again after the first pause, since a link to it is open.
+    /// Has an address looked at again after a pause, since a link to it is open, or may be soon.
     pub fn linked(&mut self, validator: u16, now: u64) {
+        let pause = self.pause_of(validator);
         if let Some(address) = self.addresses.get_mut(usize::from(validator)) {
             address.pause = self.first;
-            address.due = due_after(self.is_guarded, now, self.first);
+            address.due = due_after(self.is_guarded, now, pause);
         }
     }
 

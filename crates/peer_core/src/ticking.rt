@@ -25,6 +25,10 @@ const STILL_MS: u64 = 1_000;
 /// every validator, and is tagged as a whole for every validator too: 94 kB are hashed for one among 16 validators, 45 MB among 128.
 pub(crate) const MOST_SMALL: u16 = 16;
 
+/// How many validators make a height's bundle for whoever asks for it in a large cluster, from the one on whose number is the height's. Others make it
+/// for who has asked for longer, so behind as many asks each is asked twice.
+pub(crate) const FIRST_ASKED: u32 = 8;
+
 /// How many seconds' worth of the newest frames are passed on by turns.
 const TURN_SECONDS: u32 = 8;
 
@@ -238,13 +242,20 @@ impl PeerCore {
         self.agenda.asks = true;
         let count = u64::from(self.redial.count()).max(1);
         let from = match self.asked {
+            Some(validator) if self.asks_again() => validator,
             Some(validator) => validator.saturating_add(1),
             None => (self.height % count) as u16,
         };
         if let Some((link, validator)) = self.links.next_validator(from) {
             self.asked = Some(validator);
+            self.asks = self.asks.saturating_add(1);
             self.links.want_ask(link);
         }
+    }
+
+    /// Returns whether the one that was asked last is asked again, since it may make the bundle only for who has asked for longer.
+    fn asks_again(&self) -> bool {
+        self.is_large() && self.asks > FIRST_ASKED && self.asks % 2 == 1
     }
 
     /// Has all validators of a small cluster asked. Of a large one the next one is, after a pause that doubles, since whoever is asked makes a

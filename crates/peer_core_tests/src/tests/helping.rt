@@ -1,7 +1,7 @@
 //! Early frames, catching up, and what is sent again.
 
 use super::{
-    ASK, GUARDED, PRECOMMIT, PREVOTE, asks, assert_same, came, dial_all, duties, of_height,
+    ASK, BUNDLE, GUARDED, PRECOMMIT, PREVOTE, asks, assert_same, came, dial_all, duties, of_height,
     of_round, on_edge, on_large_edge, open, released,
 };
 use edge_frames::LinkId;
@@ -151,6 +151,89 @@ fn try_in_a_large_cluster_a_late_ask_is_passed_over<R: Abort + AllocGlobal>(
     assert!(rt; !edge.expect(LinkId(1), &late, 500));
     assert!(rt; edge.expect(LinkId(2), &of_height(ASK, 0, 2), 500));
     assert!(rt; edge.expect(LinkId(1), &late, 600));
+}
+
+/// Behind eight asks of a large cluster each validator is asked twice, since it may answer only who has asked for longer.
+#[test]
+fn who_is_behind_for_long_asks_each_twice(rt: HostRuntime) {
+    on_large_edge(&rt, try_who_is_behind_for_long_asks_each_twice);
+}
+
+fn try_who_is_behind_for_long_asks_each_twice<R: Abort + AllocGlobal>(rt: &R, edge: &mut PeerCore) {
+    assert_same(rt, &released(rt, edge, &of_round(PREVOTE, 0, 1), 0), &0);
+    dial_all(rt, edge);
+    let _ = duties(edge, 0);
+    came(
+        edge,
+        2,
+        &of_height(ASK, 2, 2),
+        Err(Refusal::OtherHeight),
+        0,
+        0,
+    );
+    let ask = of_height(ASK, 0, 1);
+    let asked = [
+        (0, 1),
+        (1_000, 2),
+        (3_000, 3),
+        (7_000, 1),
+        (15_000, 2),
+        (23_000, 3),
+        (31_000, 1),
+        (39_000, 2),
+        (47_000, 3),
+        (55_000, 3),
+        (63_000, 1),
+        (71_000, 1),
+    ];
+    for (now, link) in asked {
+        for open in 1..=3 {
+            edge.heard(LinkId(open), now);
+        }
+        assert_same(rt, &duties(edge, now).asks, &1);
+        assert_same(rt, &released(rt, edge, &ask, now), &link);
+    }
+}
+
+/// Of twenty validators the eight from number 5 on make the bundle of height 5 for whoever asks, and validator 1 only for who has asked for five seconds.
+#[test]
+fn in_a_large_cluster_eight_make_a_bundle(rt: HostRuntime) {
+    on_large_edge(&rt, try_in_a_large_cluster_eight_make_a_bundle);
+}
+
+fn try_in_a_large_cluster_eight_make_a_bundle<R: Abort + AllocGlobal>(rt: &R, edge: &mut PeerCore) {
+    dial_all(rt, edge);
+    edge.told(30, 0);
+    for (height, is_handed_in) in [(5, false), (13, false), (14, true), (1, true), (2, false)] {
+        let ask = of_height(ASK, height, 2);
+        assert_same(rt, &edge.expect(LinkId(2), &ask, 9_000), &is_handed_in);
+    }
+    let ask = of_height(ASK, 5, 0);
+    assert!(rt; !edge.expect(LinkId(1), &ask, 9_000));
+    assert!(rt; !edge.expect(LinkId(1), &ask, 13_999));
+    assert!(rt; edge.expect(LinkId(1), &ask, 14_000));
+}
+
+/// Where several ask for one height of whom nothing is known, one bundle a second is made for all of them.
+#[test]
+fn in_a_large_cluster_strangers_share_a_bundle(rt: HostRuntime) {
+    on_large_edge(&rt, try_in_a_large_cluster_strangers_share_a_bundle);
+}
+
+fn try_in_a_large_cluster_strangers_share_a_bundle<R: Abort + AllocGlobal>(
+    rt: &R,
+    edge: &mut PeerCore,
+) {
+    edge.told(30, 0);
+    for link in [7, 8, 9] {
+        open(rt, edge, LinkId(link), Way::Accepted, 0);
+    }
+    assert!(rt; edge.expect(LinkId(7), &of_height(ASK, 1, 5), 5_000));
+    assert!(rt; !edge.expect(LinkId(8), &of_height(ASK, 1, 6), 5_000));
+    let bundle = of_height(BUNDLE, 1, 1);
+    assert_same(rt, &released(rt, edge, &bundle, 5_000), &78);
+    assert!(rt; !edge.expect(LinkId(9), &of_height(ASK, 1, 9), 5_999));
+    assert!(rt; edge.expect(LinkId(9), &of_height(ASK, 1, 9), 6_000));
 }
 
 /// The own messages are sent again after 1, 3 and 7 seconds.

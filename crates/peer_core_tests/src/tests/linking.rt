@@ -1,6 +1,9 @@
 //! Which links are kept, and who is dialed.
 
-use super::{GUARDED, asks, assert_same, came, dial_all, duties, on_edge, on_edge_of, open};
+use super::{
+    GUARDED, PREVOTE, asks, assert_same, came, dial_all, duties, of_round, on_edge, on_edge_of,
+    on_large_edge, open,
+};
 use edge_frames::LinkId;
 use peer_core::{MOST_STRANGERS, Manner, PeerCore};
 use peer_links::Way;
@@ -67,6 +70,69 @@ fn try_a_link_that_ended_comes_back<R: Abort + AllocGlobal>(rt: &R, edge: &mut P
     assert_same(rt, &dialed(edge, 5_000), &1);
     edge.ended(LinkId(2));
     assert_same(rt, &dialed(edge, 6_000), &12);
+}
+
+/// Dials whom it is time to dial, who are all reached by links of their numbers, and returns who they are, a bit for each.
+fn dial_those_due<R: Abort>(rt: &R, edge: &mut PeerCore, now: u64) -> u32 {
+    let mut dialed = 0u32;
+    for _ in 0..20 {
+        let Some(validator) = edge.next_dial(now) else {
+            break;
+        };
+        edge.dialed(validator, true, now);
+        open(
+            rt,
+            edge,
+            LinkId(u32::from(validator)),
+            Way::Dialed(validator),
+            now,
+        );
+        dialed |= 1u32.checked_shl(u32::from(validator)).unwrap_or(0);
+    }
+    dialed
+}
+
+/// Of twenty validators, validator 1 dials 2 to 11 at once, and the others only where they haven't dialed it within a second.
+#[test]
+fn in_a_large_cluster_one_of_a_pair_dials(rt: HostRuntime) {
+    on_large_edge(&rt, try_in_a_large_cluster_one_of_a_pair_dials);
+}
+
+fn try_in_a_large_cluster_one_of_a_pair_dials<R: Abort + AllocGlobal>(rt: &R, edge: &mut PeerCore) {
+    assert_same(rt, &dial_those_due(rt, edge, 0), &0b1111_1111_1100);
+    assert_same(rt, &dial_those_due(rt, edge, 999), &0);
+    open(rt, edge, LinkId(50), Way::Accepted, 999);
+    asks(edge, 50, 15, 999);
+    assert_same(
+        rt,
+        &dial_those_due(rt, edge, 1_000),
+        &0b1111_0111_0000_0000_0001,
+    );
+}
+
+/// A link on which a validator has shown may have had nothing new to bring; once others have brought a lot, its validator is dialed. One that
+/// brought something isn't.
+#[test]
+fn in_a_large_cluster_who_brings_nothing_is_dialed(rt: HostRuntime) {
+    on_large_edge(&rt, try_in_a_large_cluster_who_brings_nothing_is_dialed);
+}
+
+fn try_in_a_large_cluster_who_brings_nothing_is_dialed<R: Abort + AllocGlobal>(
+    rt: &R,
+    edge: &mut PeerCore,
+) {
+    for (link, validator) in [(50, 15), (51, 16)] {
+        open(rt, edge, LinkId(link), Way::Accepted, 0);
+        asks(edge, link, validator, 0);
+    }
+    let _ = dial_those_due(rt, edge, 0);
+    let _ = dial_those_due(rt, edge, 1_000);
+    for _ in 0..79 {
+        came(edge, 51, &of_round(PREVOTE, 0, 16), Ok(()), 0, 1_000);
+    }
+    assert_same(rt, &dial_those_due(rt, edge, 2_000), &0);
+    came(edge, 51, &of_round(PREVOTE, 0, 16), Ok(()), 0, 2_000);
+    assert_same(rt, &dial_those_due(rt, edge, 3_000), &0b1000_0000_0000_0000);
 }
 
 #[test]
