@@ -4,7 +4,7 @@
 usage: test/crowds.py (--validators N | --powers P,P,..) [--with PROGRAM] [--seconds S] [--transactions T]
 
 Each of N validators has the power 1. With guarded links and nothing to do, N validators decide heights for S seconds, 20 if no number is given; then they are started again to
-rest, S seconds long; T transactions, 1,000 if no number is given, are sent to three of them; all are stopped for S seconds (SIGSTOP) and
+rest, S seconds long; T transactions, 1,000 if no number is given, are sent to a third of them and one; all are stopped for S seconds (SIGSTOP) and
 let go; and two thirds of them and one are killed and started again. Each time heights have to go on, all that was sent has to be
 delivered by all, and no link may be lost for good. It prints a line for each part with what it took. It is no part of the gate, as it
 takes minutes and every processor. The status is 0 where all held.
@@ -24,8 +24,12 @@ from link_trials import GUARDED, heights_of, processor_seconds, sizes_of
 from validators import Cluster, Failed, dial, peak_of, want
 
 TOP = os.path.dirname(os.path.dirname(os.path.realpath(__file__)))
-# How long a part may take until all go on, in seconds.
+# How long a part may take until all go on, in seconds, and how much longer for each validator: a turn comes, and a crowd that was woken rests, behind
+# as many heights as there are validators.
 PATIENCE = 300
+HEIGHT = 4
+# Who decides no height for so long, in seconds, rests.
+STILL = 20
 
 
 def low_addresses(count):
@@ -43,6 +47,7 @@ class Crowd(Cluster):
 
     def __init__(self, program, folder, powers, how):
         super().__init__(program, folder, powers)
+        self.patience = PATIENCE + HEIGHT * self.count
         addresses = low_addresses(2 * self.count)
         self.how, self.addresses, self.told_at = how, addresses[: self.count], addresses[self.count :]
 
@@ -69,12 +74,17 @@ class Crowd(Cluster):
             seen = self.statuses()
             if all(map(is_so, seen)):
                 return seen, time.monotonic() - began
-            want(time.monotonic() < began + PATIENCE, f"{what}: after {PATIENCE} s the heights are {[it[0] for it in seen]}, items {[it[1] for it in seen]}, links {[it[2] for it in seen]}")
+            want(time.monotonic() < began + self.patience, f"{what}: after {self.patience} s the heights are {[it[0] for it in seen]}, items {[it[1] for it in seen]}, links {[it[2] for it in seen]}")
             time.sleep(0.2)
 
     def wait_until_all_go_on(self, what):
         highest = max(it[0] for it in self.statuses())
         return self.wait_for(lambda it: it[0] > highest + 1, what)
+
+    def receivers(self):
+        """Returns a third of the validators and one: as many as a client sends to, so that one of them is correct."""
+        wanted = self.count // 3 + 1
+        return [place * self.count // wanted for place in range(wanted)]
 
     def spent(self):
         return sum(processor_seconds(self.running[me]) for me in self.running)
@@ -105,9 +115,8 @@ def rests(crowd, seconds):
     crowd.send_until_taken(9, 0, 1, "--data", "")
     _, took = crowd.wait_for(lambda it: it[1] >= 1, "a first transaction")
     tell(f"started again: a first transaction is delivered by all after {took:.1f} s")
-    time.sleep(5)
-    ends = time.monotonic() + PATIENCE
-    while (sizes := sizes_of(crowd, range(crowd.count))) != (time.sleep(2) or sizes_of(crowd, range(crowd.count))):
+    ends = time.monotonic() + crowd.patience
+    while (sizes := sizes_of(crowd, range(crowd.count))) != (time.sleep(STILL) or sizes_of(crowd, range(crowd.count))):
         want(time.monotonic() < ends, "they never rest")
     spent = crowd.spent()
     time.sleep(seconds)
@@ -116,11 +125,11 @@ def rests(crowd, seconds):
 
 
 def delivers(crowd, first, count, what):
-    """Transactions that are sent to three validators are delivered by all."""
+    """Transactions that are sent to a third of the validators and one are delivered by all."""
     began, wanted = time.monotonic(), max(it[1] for it in crowd.statuses()) + count
     file = crowd.file_of([f"{it:08x}" for it in range(count)])
     words = crowd.words_of_send(7, 0, first, "--file", file)
-    words[words.index("--to") + 1] = ",".join(crowd.addresses[it] for it in (0, crowd.count // 2, crowd.count - 1))
+    words[words.index("--to") + 1] = ",".join(crowd.addresses[it] for it in crowd.receivers())
     with subprocess.Popen(words, stdout=subprocess.DEVNULL) as sender:
         crowd.wait_for(lambda it: it[1] >= wanted, what)
         sender.kill()
