@@ -84,15 +84,16 @@ impl PeerCore {
         };
         link.ask(ask.height, now);
         let (is_known, waited) = (link.is_of(ask.sender), link.asked_for(now));
-        if self.is_early(ask, now) || !self.is_helper(ask.height, waited) {
+        if self.is_early(ask, now) || is_known && self.send_made(ask.height, now) {
             return false;
         }
         let is_shared = if is_known {
-            self.send_made(ask.height, now) || is_making
+            is_making
         } else {
             self.is_large() && (is_making || self.made_lately(ask.height, now))
         };
         !is_shared
+            && self.is_helper(ask.height, waited)
             && self
                 .links
                 .link_mut(id)

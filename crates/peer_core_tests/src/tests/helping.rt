@@ -214,6 +214,28 @@ fn try_in_a_large_cluster_eight_make_a_bundle<R: Abort + AllocGlobal>(rt: &R, ed
     assert!(rt; edge.expect(LinkId(1), &ask, 14_000));
 }
 
+/// A bundle that was made goes to any validator that asks for it, also from one that makes none for who has only just asked.
+#[test]
+fn in_a_large_cluster_a_made_bundle_goes_to_any(rt: HostRuntime) {
+    on_large_edge(&rt, try_in_a_large_cluster_a_made_bundle_goes_to_any);
+}
+
+fn try_in_a_large_cluster_a_made_bundle_goes_to_any<R: Abort + AllocGlobal>(
+    rt: &R,
+    edge: &mut PeerCore,
+) {
+    dial_all(rt, edge);
+    edge.told(30, 0);
+    let ask = of_height(ASK, 5, 0);
+    assert!(rt; !edge.expect(LinkId(1), &ask, 9_000));
+    assert!(rt; edge.expect(LinkId(1), &ask, 14_000));
+    let bundle = of_height(BUNDLE, 5, 1);
+    assert_same(rt, &released(rt, edge, &bundle, 14_000), &1);
+    let _ = duties(edge, 14_000);
+    assert!(rt; !edge.expect(LinkId(2), &of_height(ASK, 5, 2), 14_000));
+    assert_same(rt, &duties(edge, 14_000).sent, &1);
+}
+
 /// Where several ask for one height of whom nothing is known, one bundle a second is made for all of them.
 #[test]
 fn in_a_large_cluster_strangers_share_a_bundle(rt: HostRuntime) {
