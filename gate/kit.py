@@ -91,7 +91,7 @@ def moved():
     crate = crates()[0]
     found += [f"a crate has no {it}" for it in FIELDS if not hasattr(crate, it)]
     help_text = subprocess.run([rt.rtlib.RATTLE, "check", "--help"], capture_output=True, text=True, check=False).stdout
-    found += [f"rattle check has no {it}" for it in ("--only", "--incremental", "--jobs") if not re.search(rf"^ +{it}\b", help_text, re.M)]
+    found += [f"rattle check has no {it}" for it in ("--only", "--incremental", "--jobs", "--links") if not re.search(rf"^ +{it}\b", help_text, re.M)]
     return found
 
 
@@ -110,7 +110,7 @@ def main():
     found = moved()
     for line in found:
         print(line)
-    print(f"{len(FUNCTIONS) + len(VALUES) + len(FIELDS) + 3 - len(found)} passed, {len(found)} failed")
+    print(f"{len(FUNCTIONS) + len(VALUES) + len(FIELDS) + 4 - len(found)} passed, {len(found)} failed")
     return 1 if found else 0
 
 

@@ -4,11 +4,11 @@
 usage: gate/wrong_bodies.py [--built] [--anew] [CRATE [EDIT..]]
 
 Edits of functions' bodies stand in one check together: each in a copy of its function beside it, with the same contract and
-the same proof files, so that what calls the function is proved over the one that wasn't edited. Of a function with proof
+the same proof files. Every other function has a placeholder for its body there (`gate/placeholders.py`). Of a function with proof
 files one more copy, in which nothing is edited, has to be proved there, or its copies tell nothing. Of a method of a trait no
-copy can be made: its edit is made in place, in a further check. An edit counts as refused where the prover names a goal of
-its copy, or of its function; what its check didn't name goes into a further one, and in the end is tried alone, as
-is an edit of a constant or a type. An edit of a definition has a line
+copy can be made: its edit is made in place, in the same check where no copy calls it, else in a further one. An edit counts as refused
+where the prover names a goal of its copy, or of its function; what its check didn't name goes into a further one, without
+placeholders, and in the end is tried alone, as is an edit of a constant or a type. An edit of a definition has a line
 'by: LAW', and that law has to be refused with it. So may an edit of code have, with a function in the law's place: where the
 whole check of its crate is dear, that function alone is checked.
 Beside them stand the edits of crates/NAME/equal/, which say the same in other words: each has to be proved, so that a
@@ -27,13 +27,14 @@ import shutil
 import sys
 import tempfile
 import threading
-from typing import NamedTuple
 
 sys.dont_write_bytecode = True
 from definitions import NAMES, batches, errors_of
+from functions import functions_of, modules_of_types
 from kept import Kept
 from kit import ONE_JOB, PARTS, TOP, crates as crates_below, guard, rt
 from libraries import where_built
+from placeholders import MODULE, files_of, is_proof_of, linked, with_placeholders
 
 printing = threading.Lock()
 # What checks take of the memory that is planned for a proof of their whole crate: of one edit of definitions, which proves one function, of several
@@ -50,113 +51,6 @@ def say(text):
 
 class BadEdit(Exception):
     """An edit that can't be tried: a fault of its own text."""
-
-
-def modules_of(file):
-    """The names of the modules that lead to a file."""
-    path = file[len("src/") : -len(".rt")].split("/")
-    return [it for it in path if it not in ("lib", "main", "mod")]
-
-
-def modules_of_types(folder):
-    """Returns where each type of a crate stands."""
-    found = {}
-    for above, _, names in os.walk(f"{folder}/src"):
-        for path in (f"{above}/{name}" for name in names if name.endswith(".rt")):
-            with open(path, encoding="utf-8") as it:
-                types = re.findall(r"(?m)^(?:pub(?:\(\w+\))? )?(?:struct|enum) (\w+)", it.read())
-            found.update(dict.fromkeys(types, modules_of(os.path.relpath(path, folder))))
-    return found
-
-
-class Function(NamedTuple):
-    """A function of a file in the layout of `rt fmt`: its lines, from 0 and from its attributes on, and where its body begins.
-    `owner` is the type or trait that it belongs to, and `block` what the check calls its `impl` or trait."""
-
-    file: str
-    owner: str
-    block: str
-    name: str
-    first: int
-    body: int
-    last: int
-
-    @property
-    def key(self):
-        return self.file, self.owner, self.name
-
-    def path(self, modules):
-        """Its path below the crate, as the check prints it: a type's own function stands where the type does."""
-        return "::".join(filter(None, [*modules.get(self.block, self.modules()), self.block, self.name]))
-
-    def modules(self):
-        return modules_of(self.file)
-
-    def is_of_trait(self):
-        """Whether it is a method that its type has by a trait: none can stand beside it under another name."""
-        return self.block.partition("+")[0] != self.owner
-
-    def has_proof_folder(self, folder):
-        """Whether the proof files of this folder below proofs/ are the function's: a method's stand at its type."""
-        *above, name = folder.split("/")
-        if self.owner:
-            return name == self.name and bool(above) and re.fullmatch(rf"{self.owner}([A-Z]\w*)?", above[-1]) is not None
-        return name == self.name and above == self.modules()
-
-    def is_named(self, crate, path):
-        """Whether the check's line of this path is the function's."""
-        first, *above, name = path.split("::")
-        return first == crate and self.has_proof_folder("/".join([*above, name]))
-
-
-def without_arguments(head):
-    """Returns the head of a block without what stands between angle brackets."""
-    while re.search(r"<[^<>]*>", head):
-        head = re.sub(r"<[^<>]*>", "", head)
-    return head
-
-
-def owner_of(head):
-    """Returns the type that an `impl` is of, or the trait that a `trait` declares, and what the check calls the block: an
-    `impl` of a trait by its type, the trait, and the type that the trait is given; another of a type that is given one by
-    both."""
-    given = re.findall(r"\bFrom<(\w+).* for ", head) or [f"+{it}" for it in re.findall(r"^impl \w+<([A-Z]\w+)> *$", head)]
-    parts = re.sub(r"^(unsafe )?(impl|trait)\b", "", without_arguments(head)).split(" for ")
-    names = [re.match(r"\W*(?:\w+::)*(\w+)", it)[1] for it in parts]
-    return names[-1], "".join([*reversed(names), *given])
-
-
-def functions_of(file, text):
-    """Returns the functions of a file, by its layout: a body ends at the line that closes it at the head's indent."""
-    lines, found, owner = text.split("\n"), [], ("", "")
-    for at, line in enumerate(lines):
-        head = re.match(r"(unsafe )?(impl\b|(pub )?trait ).*", line)
-        if head:
-            owner = owner_of(" ".join(lines[at : at + 4]).split("{")[0].replace("pub ", "", 1))
-        elif line == "}":
-            owner = ("", "")
-        head = re.match(r"( *)(pub(\([a-z]+\))? )?(const )?(unsafe )?fn (\w+)", line)
-        if not head:
-            continue
-        indent, name, first = head[1], head[6], at
-        while re.match(r"\s*(#\[|[^/{}\s][^{}]*$)", lines[first - 1]):
-            first -= 1
-        opened = (it for it in range(at, len(lines)) if opens_body(lines[it], indent))
-        body = next(opened, None)
-        if body is None:
-            continue
-        ended = (it for it in range(body + 1, len(lines)) if lines[it] == indent + "}")
-        last = body if lines[body].endswith("{}") else next(ended, len(lines) - 1)
-        found.append(Function(file, *(owner if indent else ("", "")), name, first, body, last))
-    return found
-
-
-def opens_body(line, indent):
-    """Whether a function's body opens on this line: its brace stands alone, or ends the line of its result."""
-    if line.startswith((indent + "{", indent + "{}")):
-        return True
-    is_clause = line.strip().startswith(("ensures", "requires", "ghost", "//"))
-    return not is_clause and line.endswith((" {", " {}"))
 
 
 class Edit:
@@ -232,13 +126,22 @@ def texts_with(crate, edits):
     return texts if all(texts.replace(*pair) for edit in edits for pair in edit.pairs) else None
 
 
+# How code calls a method of a trait, other than by its name.
+CALLS = {"from": r"\?|\binto\(", "fmt": r"!\(", "eq": r"[=!]=", "next": r"\bfor\b", "drop": r"\bfn\b"}
+
+
 class Together:
     """Edits of a crate's functions that stand in one check, in copies beside the functions or in place."""
 
     def __init__(self, crate):
         self.crate, self.texts, self.original = crate, Texts(crate), Texts(crate)
         # Where each edit stands, and the copy without an edit of each function that has copies and proof files.
-        self.places, self.controls = {}, {}
+        self.places, self.controls, self.copies = {}, {}, []
+
+    def may_call(self, edit):
+        """Whether a copy may call what an edit changes, by what stands in its text."""
+        names = {name for _, _, name in edit.functions}
+        return any(re.search("|".join([rf"\b{name}\b", *filter(None, [CALLS.get(name)])]), it) for name in names for it in self.copies)
 
     def add_in_place(self, edit):
         taken = {key for places in self.places.values() for key in places}
@@ -270,6 +173,7 @@ class Together:
     def copied(self, function, text, ending):
         """Puts a copy with this text behind the function, with the function's proof files, and returns its key."""
         name = f"{function.name}_{ending}"
+        self.copies.append(text)
         lines = self.texts.of(function.file).split("\n")
         at = next(it.last for it in functions_of(function.file, "\n".join(lines)) if it.key == function.key)
         lines[at + 1 : at + 1] = ["", *re.sub(rf"\bfn {function.name}\b", f"fn {name}", text, count=1).split("\n")]
@@ -299,16 +203,16 @@ class Together:
 
 
 def grouped(crate, edits, has_copies):
-    """Returns the edits in groups, each of which stands in one check: first those in copies, which say nothing of one another, and
-    then those in place, where what calls an edited function isn't told."""
+    """Returns the edits in groups, each of which stands in one check: first those in copies, which say nothing of one another, with those
+    in place that no copy calls, and then others in place, where what calls an edited function isn't told."""
     copies, groups = Together(crate), []
-    for edit in edits:
-        if not (has_copies and copies.add_copy(edit)) and not any(it.add_in_place(edit) for it in groups):
+    for edit in [it for it in edits if not (has_copies and copies.add_copy(it))]:
+        if has_copies and not copies.may_call(edit) and copies.add_in_place(edit):
+            continue
+        if not any(it.add_in_place(edit) for it in groups):
             groups.append(Together(crate))
             groups[-1].add_in_place(edit)
     return [it for it in (copies, *groups) if it.places]
-
-
 
 
 def goals_of(function, text, lines):
@@ -335,29 +239,38 @@ def is_proved(crate, function, text, lines):
 
 
 def checked(crate, texts, flags, kept):
-    """Checks a copy of the crate with these texts, some of files that it lacks."""
+    """Checks a copy of the crate with these texts, some of files that it lacks, and without those of which there is no text."""
     with tempfile.TemporaryDirectory(prefix="edits-") as room:
         for part in PARTS:
             if os.path.isdir(f"{crate.folder}/{part}"):
                 shutil.copytree(f"{crate.folder}/{part}", f"{room}/{part}")
         for path, text in texts.items():
+            if text is None:
+                os.remove(f"{room}/{path}")
+                continue
             os.makedirs(os.path.dirname(f"{room}/{path}"), exist_ok=True)
             with open(f"{room}/{path}", "w", encoding="utf-8") as it:
                 it.write(text)
         edited = copy.copy(crate)
         edited.folder = room
+        if f"src/{MODULE}.rt" in texts:
+            edited.words = lambda *given, **named: linked(crate, crate.words(*given, **named))
         return rt.checked(edited, {}, flags, kept)
 
 
 class Group:
-    """The check of edits that stand together: of the functions that they change and what those call."""
+    """The check of edits that stand together: of the functions that they change, and of what those call or placeholders for it."""
 
-    def __init__(self, together, kept):
-        self.crate, self.together, self.texts = together.crate, together, together.texts
+    def __init__(self, together, kept, has_placeholders):
+        self.crate, self.together, self.texts = together.crate, together, Texts(together.crate)
         where = modules_of_types(self.crate.folder)
         keys = [*together.controls.values(), *(key for places in together.places.values() for key in places)]
+        self.texts.changed = {**together.texts.changed}
+        if has_placeholders:
+            self.texts.changed.update(with_placeholders(self.crate, together.texts.of, keys))
         paths = {it.path(where) for key in keys for it in self.spans_of(key)}
-        ran = checked(self.crate, self.texts.changed, [*ONE_JOB, *(word for it in sorted(paths) for word in ("--only", it))], kept)
+        only = [word for it in sorted(paths) for word in ("--only", it)]
+        ran = checked(self.crate, self.texts.changed, [*ONE_JOB, *only], kept)
         if ran.returncode == 2 and paths:
             # (a function that the check calls otherwise)
             ran = checked(self.crate, self.texts.changed, ONE_JOB, kept)
@@ -373,7 +286,7 @@ class Group:
 
     def verdict(self, edit):
         """Returns whether all is well with the edit and what to say, or None where this check can't tell."""
-        places, control = self.together.places[edit], self.together.controls.get(edit.functions[0])
+        places, control = self.together.places[edit], self.together.controls.get(next(iter(edit.functions), None))
         if not self.is_read or control and not self.has_proved(control):
             return None
         if edit.is_equal:
@@ -396,12 +309,27 @@ def tried_alone(crate, edit, kept):
         return kind in (rt.REFUSED, rt.AT_LIMIT), f"{edit.label}: {text.partition(': ')[2]}"
     together = Together(crate)
     together.add_in_place(edit)
-    return Group(together, kept).verdict(edit) or (False, f"{edit.label}: NOT PROVED, though it does the same")
+    return Group(together, kept, False).verdict(edit) or (False, f"{edit.label}: NOT PROVED, though it does the same")
+
+
+def code_of(crate, law):
+    """Returns the function that stands in a law's place, or None where that is a law or has proof files."""
+    files = [it for it in files_of(crate, "src") if it.endswith(".rt")]
+    found = [it for file in files for it in functions_of(file, Texts(crate).of(file)) if it.is_named(crate.name, f"{crate.name}::{law}")]
+    has_files = any(is_proof_of(it, file) for it in found for file in files_of(crate, "proofs"))
+    return found[0] if len(found) == 1 and found[0].body < found[0].last and not has_files else None
 
 
 def verdict_by_law(crate, edit):
-    """Returns whether all is well with an edit of definitions, as the check of its law tells, and what to say."""
-    texts = texts_with(crate, [edit]).changed
+    """Returns whether all is well with an edit, as the check of its law or function tells, and what to say."""
+    edited, code = texts_with(crate, [edit]), code_of(crate, edit.law)
+    if code:
+        alone = Together(crate)
+        alone.texts, alone.places[edit] = edited, [code.key]
+        verdict = Group(alone, None, True).verdict(edit)
+        if verdict:
+            return verdict
+    texts = edited.changed
     ran = rt.checked(crate, texts, [*ONE_JOB, "--only", edit.law], None)
     lines = ran.stdout.rstrip("\n").split("\n")
     unread = next((it for it in lines if rt.unread(it, texts)), "")
@@ -446,7 +374,7 @@ def tried(crate, edits, note):
         while len(left) > (0 if is_first else 1):
             untold = []
             for together in grouped(crate, left, is_first):
-                group = Group(together, kept)
+                group = Group(together, kept, is_first)
                 for edit in together.places:
                     verdict = group.verdict(edit)
                     note(edit, *verdict) if verdict else untold.append(edit)
