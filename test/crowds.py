@@ -6,10 +6,12 @@ usage: test/crowds.py (--validators N | --powers P,P,..) [--with PROGRAM] [--sec
 Each of N validators has the power 1. With guarded links and nothing to do, N validators decide heights for S seconds, 20 if no number is given; then they are started again to
 rest, S seconds long; T transactions, 1,000 if no number is given, are sent to a third of them and one; all are stopped for S seconds (SIGSTOP) and
 let go; and two thirds of them and one are killed and started again. Each time heights have to go on, all that was sent has to be
-delivered by all, and no link may be lost for good. It prints a line for each part with what it took. It is no part of the gate, as it
+delivered by all, and no link may be lost for good. It prints a line for each part with what it took, and one with the frames on the links that
+validator 0 dialed, by kind and by who said what is in them. It is no part of the gate, as it
 takes minutes and every processor. The status is 0 where all held.
 """
 import argparse
+import collections
 import os
 import resource
 import shutil
@@ -18,18 +20,19 @@ import socket
 import subprocess
 import sys
 import tempfile
+import threading
 import time
 
 from link_trials import GUARDED, heights_of, processor_seconds, sizes_of
-from validators import Cluster, Failed, dial, peak_of, want
+from validators import ASK, BUNDLE, PRECOMMIT, PREVOTE, PROPOSAL, Cluster, Failed, Heading, Wires, dial, peak_of, want
 
 TOP = os.path.dirname(os.path.dirname(os.path.realpath(__file__)))
 # How long a part may take until all go on, in seconds, and how much longer for each validator: a turn comes, and a crowd that was woken rests, behind
 # as many heights as there are validators.
 PATIENCE = 300
 HEIGHT = 4
-# Who decides no height for so long, in seconds, rests.
-STILL = 20
+# Who decides no height for so long, in seconds, rests; and how long a height is held open, in milliseconds.
+STILL, REST = 20, 60_000
 
 
 def low_addresses(count):
@@ -42,6 +45,30 @@ def low_addresses(count):
     return found
 
 
+# What frames are called, by their kind.
+NAMES = {PROPOSAL: "proposals", PREVOTE: "prevotes", PRECOMMIT: "precommits", ASK: "asks", BUNDLE: "bundles"}
+
+
+class Traffic:
+    """Counts frames by kind, and of proposals and votes those that another validator than their sender passes on."""
+
+    def __init__(self):
+        self.counts, self.alone = collections.Counter(), threading.Lock()
+
+    def passes(self, source, _, frame):
+        heading = Heading(frame)
+        name = NAMES.get(heading.kind, "others")
+        with self.alone:
+            self.counts[f"{name} passed on" if heading.sender not in (None, source) else name] += 1
+        return True
+
+    def taken(self):
+        """Returns the counts since the last call, as a text."""
+        with self.alone:
+            counts, self.counts = self.counts, collections.Counter()
+        return ", ".join(f"{count} {name}" for name, count in sorted(counts.items())) or "none"
+
+
 class Crowd(Cluster):
     """Validators that tell how far they are."""
 
@@ -50,10 +77,13 @@ class Crowd(Cluster):
         self.patience = PATIENCE + HEIGHT * self.count
         addresses = low_addresses(2 * self.count)
         self.how, self.addresses, self.told_at = how, addresses[: self.count], addresses[self.count :]
+        self.traffic = Traffic()
+        self.peers = Wires(self.addresses, self.traffic.passes).peers_of(0)
 
     def start_all(self, who, **changed):
         for me in who:
-            self.start(me, {**GUARDED, **self.how, **changed, "log": "warn", "status": self.told_at[me]})
+            wired = {"peers": self.peers} if me == 0 else {}
+            self.start(me, {**GUARDED, **self.how, **changed, **wired, "log": "warn", "status": self.told_at[me]})
 
     def status_of(self, me):
         """Returns a validator's height, how many items it delivered, and how many links it has, or nothing."""
@@ -94,6 +124,10 @@ def tell(what):
     print(what, flush=True)
 
 
+def tell_traffic(crowd):
+    tell(f"frames on the links that validator 0 dialed: {crowd.traffic.taken()}")
+
+
 def works(crowd, seconds):
     """All decide heights with nothing to do."""
     crowd.start_all(range(crowd.count))
@@ -109,8 +143,8 @@ def works(crowd, seconds):
 
 
 def rests(crowd, seconds):
-    """All rest, and their journals don't grow."""
-    crowd.start_all(range(crowd.count), rest=60_000)
+    """All rest: a height takes a minute, and journals hardly grow."""
+    crowd.start_all(range(crowd.count), rest=REST)
     crowd.wait_for(lambda it: it[2] >= crowd.count - 1, "links")
     crowd.send_until_taken(9, 0, 1, "--data", "")
     _, took = crowd.wait_for(lambda it: it[1] >= 1, "a first transaction")
@@ -118,10 +152,12 @@ def rests(crowd, seconds):
     ends = time.monotonic() + crowd.patience
     while (sizes := sizes_of(crowd, range(crowd.count))) != (time.sleep(STILL) or sizes_of(crowd, range(crowd.count))):
         want(time.monotonic() < ends, "they never rest")
-    spent = crowd.spent()
+    heights, spent = max(it[0] for it in crowd.statuses()), crowd.spent()
     time.sleep(seconds)
-    want(sizes_of(crowd, range(crowd.count)) == sizes, "journals grow at rest")
-    tell(f"at rest: no journal grows, {(crowd.spent() - spent) / seconds:.3f} processors for all of them")
+    passed = max(it[0] for it in crowd.statuses()) - heights
+    want(passed <= seconds * 1000 // REST + 1, f"{passed} heights are decided in {seconds} s at rest")
+    grown = max(now - before for now, before in zip(sizes_of(crowd, range(crowd.count)), sizes))
+    tell(f"at rest: {passed} heights, journals grow by {grown} bytes, {(crowd.spent() - spent) / seconds:.3f} processors for all of them")
 
 
 def delivers(crowd, first, count, what):
@@ -151,7 +187,7 @@ def most_are_killed(crowd, sent):
     killed = range(2 * crowd.count // 3 + 1)
     for me in killed:
         crowd.kill(me)
-    crowd.start_all(killed, rest=60_000)
+    crowd.start_all(killed, rest=REST)
     crowd.wait_for(lambda it: it[2] >= crowd.count - 1, "links after most were killed")
     delivers(crowd, sent + 1, 10, f"{len(killed)} killed and started again")
 
@@ -172,11 +208,15 @@ def main():
     crowd = Crowd(os.path.realpath(asked.program), folder, asked.powers or ",".join(["1"] * asked.validators), {"start": asked.start, "delta": asked.start // 2, "redial": 1000})
     try:
         crowd.begin()
-        works(crowd, asked.seconds)
-        rests(crowd, asked.seconds)
-        delivers(crowd, 1, asked.transactions, "at work")
-        all_are_stopped(crowd, asked.seconds, asked.transactions)
-        most_are_killed(crowd, asked.transactions + 10)
+        for part in (
+            lambda: works(crowd, asked.seconds),
+            lambda: rests(crowd, asked.seconds),
+            lambda: delivers(crowd, 1, asked.transactions, "at work"),
+            lambda: all_are_stopped(crowd, asked.seconds, asked.transactions),
+            lambda: most_are_killed(crowd, asked.transactions + 10),
+        ):
+            part()
+            tell_traffic(crowd)
         tell(f"at the end: {max(map(peak_of, crowd.running.values())) / 1e6:.0f} MB at most in a process, journals of {max(sizes_of(crowd, range(crowd.count))) / 1e6:.1f} MB, links {min(it[2] for it in crowd.statuses())} at least, heights {max(heights_of(crowd, range(crowd.count)))}")
     except Failed as fault:
         print(f"FAILED: {fault}; see {folder}", file=sys.stderr)
