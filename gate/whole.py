@@ -54,7 +54,7 @@ BESIDE = ("what must not compile", "wrong bodies")
 # The stages that keep what they did.
 KEEP = ("proofs, tests and programs", "wrong bodies")
 # About what a whole run takes where nothing is kept, in processor seconds; its table says what it took.
-USUAL = 28_000
+USUAL = 18_800
 # The part of a crate's time that a check belongs to.
 PARTS = ("proof", "tests", "edits")
 TICKS = os.sysconf("SC_CLK_TCK")
