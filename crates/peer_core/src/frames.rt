@@ -103,9 +103,14 @@ impl PeerCore {
     /// Returns whether this validator is one that makes a height's bundle for who has waited so long for it: in a large cluster one of those
     /// that are asked first, since a node that has cast no vote asks all when it greets them; and any for who gets none of these.
     fn is_helper(&self, height: u64, waited: u64) -> bool {
+        self.makes_at_once(self.redial.me(), height) || waited >= LONG_MS
+    }
+
+    /// Returns whether a validator is one that makes a height's bundle for whoever asks.
+    pub(crate) fn makes_at_once(&self, validator: u16, height: u64) -> bool {
         let count = u64::from(self.redial.count()).max(1);
-        let place = u64::from(self.redial.me()).saturating_add(count) - height % count;
-        !self.is_large() || place % count < u64::from(FIRST_ASKED) || waited >= LONG_MS
+        let place = u64::from(validator).saturating_add(count) - height % count;
+        !self.is_large() || place % count < u64::from(FIRST_ASKED)
     }
 
     /// Returns whether a height's bundle was made within the last second. Who has shown nothing, but for an ask that the node wasn't handed, gets the
@@ -398,11 +403,6 @@ impl PeerCore {
         ensures { self.new.links ≡ self.old.links }
     {
         self.grounds = Grounds::after(self.grounds, frame);
-        if heading.kind != Kind::Proposal
-            && let Ok(vote) = frame.clone()
-        {
-            self.last_vote = Some(vote);
-        }
         if heading.kind == Kind::Prevote && !self.has_prevote(frame) {
             let _ = self.keep_prevote(heading.sender, frame);
         }
@@ -459,11 +459,24 @@ impl PeerCore {
         ensures links { IfOk result (λ sending. sending.links.items ≡ for_all self.old.links) }
     {
         let links = self.links.for_all(self.alloc, now)?;
+        self.note_vote(&frame);
         if self.links.keeping() == Keeping::Guarded {
             self.own.keep(&frame)?;
             self.agenda.moved(now);
         }
         Ok(fresh(frame, links))
+    }
+
+    /// Notes a vote that goes out as the last one: one that still waits behind an own proposal isn't said as a sign of life.
+    fn note_vote(&mut self, frame: &Bytes)
+        ensures { self.new.links ≡ self.old.links }
+    {
+        if let Ok(heading) = heading_of(frame)
+            && heading.kind != Kind::Proposal
+            && let Ok(vote) = frame.clone()
+        {
+            self.last_vote = Some(vote);
+        }
     }
 }
 

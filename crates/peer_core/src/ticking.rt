@@ -240,17 +240,29 @@ impl PeerCore {
     /// Has the next validator asked. Who lacks a height asks the same one first, which makes one bundle for all of them.
     fn ask_next(&mut self) {
         self.agenda.asks = true;
-        let count = u64::from(self.redial.count()).max(1);
-        let from = match self.asked {
-            Some(validator) if self.asks_again() => validator,
-            Some(validator) => validator.saturating_add(1),
-            None => (self.height % count) as u16,
-        };
-        if let Some((link, validator)) = self.links.next_validator(from) {
+        if let Some((link, validator)) = self.links.next_validator(self.next_asked()) {
             self.asked = Some(validator);
             self.asks = self.asks.saturating_add(1);
             self.links.want_ask(link);
         }
+    }
+
+    /// Returns from which validator on it is looked for the one that is asked next. Where the last one doesn't make the height's bundle at once, those that do
+    /// had no link, as where most validators are started together: by now one may have come back.
+    fn next_asked(&self) -> u16 {
+        match self.asked {
+            Some(validator) if self.asks_again() => validator,
+            Some(validator) if !self.asks_first_again(validator) => validator.saturating_add(1),
+            _ => {
+                let count = u64::from(self.redial.count()).max(1);
+                (self.height % count) as u16
+            }
+        }
+    }
+
+    /// Returns whether behind this validator it begins again with those that make the bundle at once.
+    fn asks_first_again(&self, validator: u16) -> bool {
+        self.asks < FIRST_ASKED && !self.makes_at_once(validator, self.height)
     }
 
     /// Returns whether the one that was asked last is asked again, since it may make the bundle only for who has asked for longer.

@@ -1,8 +1,8 @@
 //! Early frames, catching up, and what is sent again.
 
 use super::{
-    ASK, BUNDLE, GUARDED, PRECOMMIT, PREVOTE, asks, assert_same, came, dial_all, duties, of_height,
-    of_round, on_edge, on_large_edge, open, released,
+    ASK, BUNDLE, GUARDED, PRECOMMIT, PREVOTE, PROPOSAL, asks, assert_same, came, dial_all, duties,
+    of_height, of_round, on_edge, on_edge_of, on_large_edge, open, released,
 };
 use edge_frames::LinkId;
 use peer_core::{Duty, Grounds, Manner, PeerCore, Sending};
@@ -134,6 +134,36 @@ fn try_in_a_large_cluster_a_vote_is_a_sign_of_life<R: Abort + AllocGlobal>(
     assert_same(rt, &duties(edge, 4_000).asks, &0);
 }
 
+/// In a large cluster at rest an own prevote that waits behind the own proposal is no sign of life: it would say that the height goes on.
+#[test]
+fn in_a_large_cluster_a_held_vote_is_not_said(rt: HostRuntime) {
+    let resting = Manner {
+        rest: 60_000,
+        ..GUARDED
+    };
+    on_edge_of(
+        &rt,
+        1,
+        20,
+        resting,
+        try_in_a_large_cluster_a_held_vote_is_not_said,
+    );
+}
+
+fn try_in_a_large_cluster_a_held_vote_is_not_said<R: Abort + AllocGlobal>(
+    rt: &R,
+    edge: &mut PeerCore,
+) {
+    let vote = of_round(PREVOTE, 0, 1);
+    assert_same(rt, &released(rt, edge, &vote, 0), &0);
+    edge.told(1, 0);
+    assert_same(rt, &released(rt, edge, &of_round(PROPOSAL, 1, 1), 0), &0);
+    let held = of_round(PREVOTE, 1, 1);
+    assert_same(rt, &released(rt, edge, &held, 0), &0);
+    open(rt, edge, LinkId(1), Way::Dialed(0), 0);
+    assert_sent_first(rt, edge, 0, &vote);
+}
+
 /// In a large cluster who asks for the height that was left a moment ago isn't answered: it may have asked before it decided.
 #[test]
 fn in_a_large_cluster_a_late_ask_is_passed_over(rt: HostRuntime) {
@@ -193,6 +223,54 @@ fn try_who_is_behind_for_long_asks_each_twice<R: Abort + AllocGlobal>(rt: &R, ed
         assert_same(rt, &duties(edge, now).asks, &1);
         assert_same(rt, &released(rt, edge, &ask, now), &link);
     }
+}
+
+/// Of twenty validators 15 and 18 don't make the bundle of height 0 at once. Where one that does comes back it is asked next.
+#[test]
+fn who_makes_a_bundle_at_once_is_asked_first(rt: HostRuntime) {
+    on_large_edge(&rt, try_who_makes_a_bundle_at_once_is_asked_first);
+}
+
+fn try_who_makes_a_bundle_at_once_is_asked_first<R: Abort + AllocGlobal>(
+    rt: &R,
+    edge: &mut PeerCore,
+) {
+    let ask = of_height(ASK, 0, 1);
+    assert_same(rt, &falls_behind(rt, edge, &ask), &1);
+    open(rt, edge, LinkId(3), Way::Dialed(5), 0);
+    let _ = duties(edge, 500);
+    assert_same(rt, &duties(edge, 1_000).asks, &1);
+    assert_same(rt, &released(rt, edge, &ask, 1_000), &3);
+}
+
+/// Where none comes back the same one is asked again, which makes it for who has asked for five seconds.
+#[test]
+fn who_makes_a_bundle_later_is_asked_again(rt: HostRuntime) {
+    on_large_edge(&rt, try_who_makes_a_bundle_later_is_asked_again);
+}
+
+fn try_who_makes_a_bundle_later_is_asked_again<R: Abort + AllocGlobal>(
+    rt: &R,
+    edge: &mut PeerCore,
+) {
+    let ask = of_height(ASK, 0, 1);
+    assert_same(rt, &falls_behind(rt, edge, &ask), &1);
+    for now in [1_000, 3_000, 7_000] {
+        assert_same(rt, &duties(edge, now).asks, &1);
+        assert_same(rt, &released(rt, edge, &ask, now), &1);
+    }
+}
+
+/// Opens links 1 and 2 to validators 15 and 18, brings a frame of two heights later, and returns the links that the first ask goes to.
+fn falls_behind<R: Abort + AllocGlobal>(rt: &R, edge: &mut PeerCore, ask: &[u8]) -> u32 {
+    assert_same(rt, &released(rt, edge, &of_round(PREVOTE, 0, 1), 0), &0);
+    open(rt, edge, LinkId(1), Way::Dialed(15), 0);
+    open(rt, edge, LinkId(2), Way::Dialed(18), 0);
+    let _ = duties(edge, 0);
+    let later = of_height(ASK, 2, 15);
+    came(edge, 1, &later, Err(Refusal::OtherHeight), 0, 0);
+    assert_same(rt, &duties(edge, 0).asks, &1);
+    released(rt, edge, ask, 0)
 }
 
 /// Of twenty validators the eight from number 5 on make the bundle of height 5 for whoever asks, and validator 1 only for who has asked for five seconds.
