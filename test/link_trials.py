@@ -247,7 +247,10 @@ def too_few_files(cluster, _):
     for limit in (24, 25):
         cluster.start(3, {**GUARDED, "idle": 50, "status": told_at, "metrics": asked_at}, **limited(NOFILE=limit))
         want_all_to_go_on(cluster, range(4), PATIENCE, "at first")
-        held = [hold(cluster.addresses[3], b"") for _ in range(30)] + [hold(it, b"") for it in (told_at, asked_at) for _ in range(3)]
+        held = [hold(cluster.addresses[3], b"") for _ in range(30)]
+        # (first links take what files are left, and who asks for more comes behind them)
+        time.sleep(0.5)
+        held += [hold(it, b"") for it in (told_at, asked_at) for _ in range(3)]
         time.sleep(1)
         want_all_to_go_on(cluster, range(4), 20, "with no files left")
         for it in held:

@@ -1,5 +1,6 @@
 //! The time that threads share.
 
+use crate::bell::Bell;
 use std::sync::Wait;
 use std::time;
 
@@ -11,4 +12,7 @@ pub trait Clock {
     /// Waits for at most so many milliseconds. It may come back earlier, but never at once, so that
     /// who calls it again and again doesn't spin.
     fn wait_ms<R: Wait + time::Clock>(&self, rt: &R, milliseconds: u64);
+
+    /// Waits in the same way, but no longer than until the bell is rung: then it comes back at once.
+    fn wait_for_ring<R: Wait + time::Clock>(&self, rt: &R, bell: &Bell, milliseconds: u64);
 }

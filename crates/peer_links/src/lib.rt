@@ -5,6 +5,7 @@
 //! writes down before.
 #![tactic(auto)]
 
+mod bell;
 mod clock;
 mod link;
 mod memory_clock;
@@ -12,6 +13,7 @@ mod memory_link;
 mod memory_source;
 mod wire;
 
+pub use bell::Bell;
 pub use clock::Clock;
 pub use link::{Dialed, Dialer, Link, Links, Next, PIECE_BYTES, Peer, Received, Sent, Way};
 pub use memory_clock::MemoryClock;

@@ -1,5 +1,6 @@
 //! A clock in memory.
 
+use crate::bell::Bell;
 use crate::clock::Clock;
 use std::sync::{Condvar, Mutex, Wait};
 use std::time;
@@ -51,5 +52,9 @@ impl Clock for MemoryClock {
             .moved
             .wait_timeout(rt, now, Duration::from_millis(TURN_MS));
         self.advance(rt, self.step);
+    }
+
+    fn wait_for_ring<R: Wait + time::Clock>(&self, rt: &R, _bell: &Bell, milliseconds: u64) {
+        self.wait_ms(rt, milliseconds);
     }
 }

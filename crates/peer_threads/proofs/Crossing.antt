@@ -25,7 +25,7 @@ use Rattle.peer_core.specs.contracts.edge.PeerCore as PeerCore
 use Rattle.vote_journal.specs.declared.store.Store as stores
 use Rattle.status_words.specs.declared.words.Node as names
 use Rattle.locked_node.proofs.Crossing.{locked_sync}
-use Rattle.peer_threads.specs.contracts.bell.Bell as Bell
+use Rattle.peer_links.specs.contracts.bell.Bell as Bell
 use Rattle.peer_threads.specs.contracts.departed.Departed as Departed
 use Rattle.peer_threads.specs.contracts.outlets.Outlets as Outlets
 use Rattle.peer_threads.specs.contracts.shared.Shared as Shared

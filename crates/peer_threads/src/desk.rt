@@ -28,6 +28,8 @@ pub(crate) struct Desk {
     logged: u64,
     /// How many frames were dropped at all, those that repair what may be lost and replies too.
     lost: u64,
+    /// Until when the timer sleeps.
+    wakes: u64,
 }
 
 impl Desk {
@@ -41,7 +43,19 @@ impl Desk {
             dropped: 0,
             logged: 0,
             lost: 0,
+            wakes: 0,
         }
+    }
+
+    /// Notes that the timer sleeps from now on, and returns until when: what comes next is due then.
+    pub(crate) fn sleeps_from(&mut self, now: u64) -> u64 {
+        self.wakes = self.core.wake_at(now);
+        self.wakes
+    }
+
+    /// Whether something is due before the timer wakes.
+    pub(crate) fn wakes_late(&self, now: u64) -> bool {
+        self.core.wake_at(now) < self.wakes
     }
 
     /// Queues what the node released, and plans what it scheduled.

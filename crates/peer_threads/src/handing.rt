@@ -216,9 +216,7 @@ impl<S: Store + Drop, J: Node, C: Clock> Shared<'_, S, J, C> {
         seat: &mut Seat<J>,
     ) {
         for _ in rt.forever() {
-            let now = self.clock.now_ms(rt);
-            let duty = self.desk.lock(rt).next_call(rt, now);
-            let Some(duty) = duty else {
+            let Some(duty) = self.next_call(rt) else {
                 break;
             };
             if self.has_ended(rt) {
@@ -226,6 +224,17 @@ impl<S: Store + Drop, J: Node, C: Clock> Shared<'_, S, J, C> {
             }
             self.perform(rt, seat, duty);
         }
+    }
+
+    /// Returns the next duty that takes the node. Where none is left, the timer is woken if something comes before what it waits for.
+    fn next_call<R: Wait + time::Clock + Log>(&self, rt: &R) -> Option<Duty> {
+        let now = self.clock.now_ms(rt);
+        let mut desk = self.desk.lock(rt);
+        let duty = desk.next_call(rt, now);
+        if duty.is_none() && desk.wakes_late(now) {
+            self.alarm.ring(rt);
+        }
+        duty
     }
 
     /// Does what takes the node.

@@ -2,7 +2,7 @@
 //!
 //! [`serve`] runs them until enough is delivered, no peer is left, or the node has halted. They share
 //! the node, which is locked for each call, what decides around it (`peer_core`) with the queues of what is to be sent, under one
-//! lock, and whether all is to end. No thread spins: each waits for its link, its queue or the clock.
+//! lock, and whether all is to end. No thread spins: each waits for its link, its queue, its bell or the clock.
 //!
 //! What is sent to whom, when, and which addresses are dialed is decided by `peer_core`: here are loops, locks and sockets. That a
 //! thread gets on, and so that anything is decided, is claimed by no contract.
@@ -10,7 +10,6 @@
 
 mod answers;
 mod batch;
-mod bell;
 mod beside;
 mod departed;
 mod desk;
@@ -23,8 +22,8 @@ mod shared;
 mod tagging;
 mod timing;
 
-pub use bell::Bell;
 pub use outlets::MOST_OPEN_LINKS;
+pub use peer_links::Bell;
 pub use serving::{Pace, serve, serve_at_pace};
 pub use shared::Ending;
-pub use timing::{TURN_MS, wait_until};
+pub use timing::{MOST_WAIT_MS, wait_until};

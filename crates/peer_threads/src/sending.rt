@@ -133,5 +133,6 @@ impl<S: Store + Drop, J: Node, C: Clock> Shared<'_, S, J, C> {
         desk.core.ended(link);
         desk.outlets.close(rt, link);
         desk.outlets.leave(link);
+        self.alarm.ring(rt);
     }
 }

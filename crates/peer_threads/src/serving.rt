@@ -2,7 +2,6 @@
 
 ghost use denote.Param.Send.{IsSend, IsSync};
 
-use crate::bell::Bell;
 use crate::desk::Desk;
 use crate::outlets::{OpenLink, Outlets, Queue};
 use crate::shared::{Ending, Shared};
@@ -11,7 +10,7 @@ use locked_node::LockedNode;
 use log::{Log, info, warn};
 use node_meters::Meters;
 use peer_core::{Manner, OpenFault, PeerCore};
-use peer_links::{Clock, Dialed, Dialer, Link, Links, Next, Peer, Way};
+use peer_links::{Bell, Clock, Dialed, Dialer, Link, Links, Next, Peer, Way};
 use status_words::{Node, Seat};
 use std::alloc::Global;
 use std::sync::{Mutex, Wait};
@@ -22,6 +21,9 @@ use vote_journal::Store;
 
 /// How long it waits for links to end, in milliseconds at a time.
 const TURN_MS: u64 = 10;
+
+/// How long the dialer waits where nobody is to be dialed, in milliseconds.
+const DIAL_TURN_MS: u64 = 250;
 
 /// When the timers of a node go, how it keeps its links, and when it ends.
 #[derive(Drop)]
@@ -94,6 +96,7 @@ pub fn serve_at_pace<
         node,
         clock,
         bell,
+        alarm: Bell::new(),
         meters,
         stop,
         desk: Mutex::new(desk),
@@ -168,7 +171,7 @@ impl<'n, S: Store + Drop + Send, J: Node + Send + Sync, C: Clock + Sync> Shared<
         let now = self.clock.now_ms(rt);
         let next = self.desk.lock(rt).core.next_dial(now);
         let Some(validator) = next else {
-            self.clock.wait_ms(rt, TURN_MS);
+            self.clock.wait_ms(rt, DIAL_TURN_MS);
             return self.desk.lock(rt).core.dials_again();
         };
         let is_reached = dialer.dial(rt, validator) == Dialed::Reached;
@@ -231,6 +234,7 @@ impl<'n, S: Store + Drop + Send, J: Node + Send + Sync, C: Clock + Sync> Shared<
         match self.open(rt, way) {
             Ok(OpenLink { link, queue }) => {
                 info!(rt; "link {}: {name}", link.0);
+                self.alarm.ring(rt);
                 self.start_reader(rt, scope, link, reader);
                 self.start_writer(rt, scope, link, queue, writer);
             }

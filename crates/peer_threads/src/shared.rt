@@ -1,11 +1,10 @@
 //! What the threads share.
 
-use crate::bell::Bell;
 use crate::desk::Desk;
 use locked_node::LockedNode;
 use log::Log;
 use node_meters::Meters;
-use peer_links::Clock;
+use peer_links::{Bell, Clock};
 use status_words::{Node, Seat};
 use std::alloc::Global;
 use std::sync::{Mutex, Wait};
@@ -33,6 +32,8 @@ pub(crate) struct Shared<'a, S: Store + Drop, J: Node, C: Clock> {
     pub(crate) clock: &'a C,
     /// Who follows the node's list is woken by it.
     pub(crate) bell: &'a Bell,
+    /// The timer is woken by it.
+    pub(crate) alarm: Bell,
     /// What the threads count.
     pub(crate) meters: &'a Meters,
     /// How many delivered items are enough.
@@ -57,6 +58,7 @@ impl<S: Store + Drop, J: Node, C: Clock> Shared<'_, S, J, C> {
         desk.release(rt, released, now);
         self.note_ending(rt, ending);
         desk.outlets.close_all(rt);
+        self.alarm.ring(rt);
     }
 
     fn note_ending<R: Wait>(&self, rt: &R, ending: Ending) {

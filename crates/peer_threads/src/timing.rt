@@ -13,17 +13,17 @@ use std::thread::Threads;
 use std::time;
 use vote_journal::Store;
 
-/// How long the timer waits at most, in milliseconds: what is scheduled meanwhile is late by no more.
-pub const TURN_MS: u64 = 10;
+/// How long the timer waits at most, in milliseconds. Where another thread brings something that is due before, it wakes the timer.
+pub const MOST_WAIT_MS: u64 = 1_000;
 
 /// How long it is between two looks at what the node and the edge have, in milliseconds.
 const MEASURE_MS: u64 = 1_000;
 
-/// How long the timer waits now: until what comes next, but no longer than ten milliseconds.
+/// How long the timer waits now: until what comes next, but no longer than a second.
 pub fn wait_until(now: u64, next: u64) -> u64
-    ensures { result ≡ min (next - now) 10 }
+    ensures { result ≡ min (next - now) 1000 }
 {
-    next.saturating_sub(now).min(TURN_MS)
+    next.saturating_sub(now).min(MOST_WAIT_MS)
 }
 
 /// The same counts, as meters show them.
@@ -49,7 +49,7 @@ impl<S: Store + Drop, J: Node, C: Clock> Shared<'_, S, J, C> {
             self.follow(rt, &mut seat);
             self.look(rt, &mut seat);
             due = self.measure_at(rt, due);
-            self.wait(rt);
+            self.wait(rt, due);
         }
     }
 
@@ -74,10 +74,11 @@ impl<S: Store + Drop, J: Node, C: Clock> Shared<'_, S, J, C> {
         self.meters.set_dropped(desk.lost());
     }
 
-    /// Waits for what comes next.
-    fn wait<R: Wait + time::Clock>(&self, rt: &R) {
+    /// Waits for what comes next and until it is to be measured, or until another thread brings something that comes before that.
+    fn wait<R: Wait + time::Clock>(&self, rt: &R, due: u64) {
         let now = self.clock.now_ms(rt);
-        let next = self.desk.lock(rt).core.wake_at(now);
-        self.clock.wait_ms(rt, wait_until(now, next));
+        let next = self.desk.lock(rt).sleeps_from(now).min(due);
+        self.clock
+            .wait_for_ring(rt, &self.alarm, wait_until(now, next));
     }
 }

@@ -1,12 +1,12 @@
 //! The time by the host's clock.
 
-use peer_links::Clock;
+use peer_links::{Bell, Clock};
 use std::sync::{Mutex, Wait};
 use std::time::Duration;
 use std::{thread, time};
 
-/// How long one wait lasts at most, in milliseconds: what is scheduled meanwhile is late by no more.
-const TURN_MS: u64 = 10;
+/// How long one wait lasts at most, in milliseconds.
+const MOST_MS: u64 = 1_000;
 
 /// The milliseconds that the host's clock which isn't set back counts. Threads share it.
 #[derive(Drop)]
@@ -34,7 +34,11 @@ impl Clock for HostClock {
     }
 
     fn wait_ms<R: Wait + time::Clock>(&self, rt: &R, milliseconds: u64) {
-        thread::sleep(rt, Duration::from_millis(milliseconds.clamp(1, TURN_MS)));
+        thread::sleep(rt, Duration::from_millis(milliseconds.clamp(1, MOST_MS)));
+    }
+
+    fn wait_for_ring<R: Wait + time::Clock>(&self, rt: &R, bell: &Bell, milliseconds: u64) {
+        bell.wait(rt, milliseconds.clamp(1, MOST_MS));
     }
 }
 

@@ -15,8 +15,10 @@ use std::sync::{Arc, Wait};
 use std::time::{Clock, Duration};
 use std::{io, thread};
 
-/// How long it waits where nobody dials, in milliseconds.
-const ACCEPT_MS: u64 = 10;
+/// How long it waits where nobody dials, in milliseconds: at first, and at most. Each wait is twice as long as the one before.
+const FIRST_WAIT_MS: u64 = 1;
+
+const MOST_WAIT_MS: u64 = 50;
 
 /// The peers of a node: those that its dialers reach, and those that dial it. What fails is logged.
 #[derive(Drop)]
@@ -26,6 +28,8 @@ pub struct TcpLinks<'a, N> {
     listener: TcpListener,
     addresses: Addresses<'a>,
     reached: Arc<ReachedPeers>,
+    /// How long it waits next where nobody dials.
+    wait_ms: u64,
 }
 
 impl<'a, N: Log + Net<Stream = TcpStream, Listener = TcpListener>> TcpLinks<'a, N> {
@@ -51,21 +55,31 @@ impl<'a, N: Log + Net<Stream = TcpStream, Listener = TcpListener>> TcpLinks<'a, 
             listener,
             addresses,
             reached,
+            wait_ms: FIRST_WAIT_MS,
         })
     }
 
     /// Takes who dials, or waits for a moment where nobody does.
-    fn accept<R: Clock>(&self, rt: &R) -> Next<TcpLink> {
+    fn accept<R: Clock>(&mut self, rt: &R) -> Next<TcpLink> {
         match self.listener.accept() {
-            Ok((stream, address)) => self.peer(stream, &address),
+            Ok((stream, address)) => {
+                self.wait_ms = FIRST_WAIT_MS;
+                self.peer(stream, &address)
+            }
             Err(error) => {
                 if error.kind() != ErrorKind::WouldBlock {
                     warn!(self.net; "a peer cannot be taken: {error}");
                 }
-                thread::sleep(rt, Duration::from_millis(ACCEPT_MS));
+                self.wait(rt);
                 Next::Idle
             }
         }
+    }
+
+    /// Waits for a moment, and the next time for twice as long.
+    fn wait<R: Clock>(&mut self, rt: &R) {
+        thread::sleep(rt, Duration::from_millis(self.wait_ms));
+        self.wait_ms = self.wait_ms.saturating_mul(2).min(MOST_WAIT_MS);
     }
 
     /// Makes a peer of a connection that dialed this node.

@@ -1,7 +1,7 @@
 //! Links over loopback: what no contract says.
 
 use super::assert_same;
-use peer_links::{Clock, Link, PIECE_BYTES, Received, Sent};
+use peer_links::{Bell, Clock, Link, PIECE_BYTES, Received, Sent};
 use std::net::{Net, TcpListener, TcpStream};
 use std::process::Abort;
 use std::sync::Wait;
@@ -128,5 +128,24 @@ fn time_goes_on(rt: HostRuntime) {
     let clock = HostClock::new();
     let before = clock.now_ms(&rt);
     clock.wait_ms(&rt, 5);
+    assert!(rt; clock.now_ms(&rt) > before);
+}
+
+/// A wait that a ring ends doesn't last as long as the host's clock waits at most.
+#[test]
+fn a_ring_ends_a_wait(rt: HostRuntime) {
+    let (clock, bell) = (HostClock::new(), Bell::new());
+    bell.ring(&rt);
+    let before = clock.now_ms(&rt);
+    clock.wait_for_ring(&rt, &bell, 1_000);
+    assert!(rt; clock.now_ms(&rt) < before.saturating_add(1_000));
+}
+
+/// Where nobody rings it lasts as long as it was told to.
+#[test]
+fn without_a_ring_a_wait_lasts(rt: HostRuntime) {
+    let (clock, bell) = (HostClock::new(), Bell::new());
+    let before = clock.now_ms(&rt);
+    clock.wait_for_ring(&rt, &bell, 5);
     assert!(rt; clock.now_ms(&rt) > before);
 }

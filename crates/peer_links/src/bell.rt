@@ -1,4 +1,4 @@
-//! What a thread waits for that follows a node's list.
+//! What a thread waits for that others wake.
 
 use std::sync::{Condvar, Mutex, Wait};
 use std::time::{Clock, Duration};
@@ -6,13 +6,13 @@ use std::time::{Clock, Duration};
 /// What was told, and not heard yet.
 #[derive(Clone, Copy, Drop)]
 struct Told {
-    /// The node has moved to another height since the last wait.
+    /// The bell was rung since the last wait.
     is_new: bool,
-    /// The node's threads have ended.
+    /// It isn't rung any more.
     is_over: bool,
 }
 
-/// Wakes a thread that waits, where a node has decided or its threads have ended.
+/// Wakes a thread that waits where something has happened, such as that a node has decided, or where all has ended.
 #[derive(Drop)]
 pub struct Bell {
     told: Mutex<Told>,
@@ -31,19 +31,19 @@ impl Bell {
         }
     }
 
-    /// Tells that the node has moved to another height.
+    /// Tells that something has happened.
     pub fn ring<R: Wait>(&self, rt: &R) {
         self.told.lock(rt).is_new = true;
         self.rung.notify_all();
     }
 
-    /// Tells that the node's threads have ended.
+    /// Tells that all has ended.
     pub fn end<R: Wait>(&self, rt: &R) {
         self.told.lock(rt).is_over = true;
         self.rung.notify_all();
     }
 
-    /// Whether the node's threads have ended.
+    /// Whether all has ended.
     pub fn is_over<R: Wait>(&self, rt: &R) -> bool {
         self.told.lock(rt).is_over
     }
