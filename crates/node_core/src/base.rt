@@ -72,9 +72,9 @@ impl Variables {
             are_prevotes_awaited: state.are_prevotes_awaited(),
             is_value_found: state.is_value_found(),
             are_precommits_awaited: state.are_precommits_awaited(),
+            stamps: copy_all(alloc, state.stamps())?,
             proposals: copy_all(alloc, state.kept())?,
             tally: state.tally().copy()?,
-            stamps: copy_all(alloc, state.stamps())?,
         })
     }
 }
@@ -85,14 +85,15 @@ impl<S: Store + Drop> NodeCore<S> {
     pub fn base(&self) -> Result<Base, AllocError>
         ensures { IfOk result (IsBase self.now) }
     {
+        // What owns most comes last: each way out of here has to leave all that was copied before it.
         Ok(Base {
-            variables: Variables::of(self.alloc, &self.state)?,
+            fired: self.fired,
+            scheduled: Vec::from_slice(self.alloc, &self.scheduled)?,
+            outgoing: copy_frames(self.alloc, &self.outgoing)?,
+            said: copy_all(self.alloc, &self.said)?,
             frontier: self.state.frontier().copy(self.alloc)?,
             queues: self.mempool.copy()?,
-            said: copy_all(self.alloc, &self.said)?,
-            outgoing: copy_frames(self.alloc, &self.outgoing)?,
-            scheduled: Vec::from_slice(self.alloc, &self.scheduled)?,
-            fired: self.fired,
+            variables: Variables::of(self.alloc, &self.state)?,
         })
     }
 }
