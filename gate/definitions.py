@@ -4,8 +4,8 @@ An edit of a definition has to make a law refuse. A check of its own takes some 
 reaches, so several stand in one: each in copies of the modules that it changes and of those on the way from them to its law, under names
 that end in its mark, and with a copy of the law. So edits say nothing of one another, nor of what isn't copied. Beside them stands, for
 each law, a copy over all of these modules in which nothing is edited: where it isn't proved the check tells nothing of that law's
-edits. A law over types, or whose proof cites a contract, stands in no such check, since no code is copied. What isn't told here is
-tried by itself (`gate/wrong_bodies.py`).
+edits. Since no code is copied, a law whose proof cites a contract stands in such a check only where the file of that contract rests on nothing that is changed. What
+isn't told here is tried by itself (`gate/wrong_bodies.py`).
 """
 import functools
 import os
@@ -18,7 +18,7 @@ from kit import rt
 MOST_LINES = 30_000
 # What a proof file says where it names what the edit took away: a refusal, but one that says little of the contract.
 NAMES = re.compile(r"has no field|is not in scope|has no `")
-LAW = re.compile(r"(?m)^pub fn (\w+)\(\)\n(?: +[^\n]*\n)*\{\}$")
+LAW = re.compile(r"(?m)^pub fn (\w+)(?:<\w+: \w+>)?\(\)\n(?: +[^\n]*\n)*\{(?:\n    (?P<cites>\w+)\(\);\n)?\}$")
 HEADER = re.compile(r"(?m)^(?:ghost )?use [^;]*;\n")
 
 
@@ -94,8 +94,13 @@ class Sources:
         file = f"src/{'/'.join(above) or 'lib'}.rt"
         if not os.path.isfile(f"{self.crate.folder}/{file}"):
             return None
-        found = [it[0] for it in LAW.finditer(self.text_of(file)) if it[1] == name]
+        text = self.text_of(file)
+        found = [it[0] for it in LAW.finditer(text) if it[1] == name and (not it["cites"] or self.is_of_another(it["cites"], text))]
         return Law(file, ".".join([*above, name]), found[0]) if len(found) == 1 else None
+
+    def is_of_another(self, name, text):
+        """Whether a file has this name from another crate."""
+        return any(uses(it, name) and not it.startswith(("use crate::", "use super::", "ghost")) for it in HEADER.findall(text))
 
     def proof_of(self, law):
         """Returns the modules of a law's own proof."""
@@ -118,12 +123,33 @@ class Sources:
         return found
 
     @functools.cache
-    def rests_on_code(self, law):
-        """Whether a law's proof names what the check makes of code, other than types: a contract would speak of what was copied, and isn't."""
+    def contracts_of(self, law):
+        """Returns what a law's proof names that the check makes of code, other than types and the law's own."""
         own = (f"{law.path}.", f"contracts.{law.path}.", "declared.")
         texts = (self.text_of(it.file) for it in self.reached(law))
         found = {path for text in texts for side, path in self.names.findall(text) if not self.module_of(side, path)}
-        return not all(f"{it}.".startswith(own) for it in found)
+        return {it for it in found if not f"{it}.".startswith(own)}
+
+    def rests_on_code(self, law, changed):
+        """Whether a law's proof names a contract that may speak of what is changed: the contract isn't copied, and so would speak of what was there before."""
+        return any(self.of_code(it) is None or self.of_code(it) & changed for it in self.contracts_of(law))
+
+    @functools.cache
+    def of_code(self, path):
+        """Returns the modules that the file of a contract rests on, or None where the file isn't known."""
+        front, _, rest = path.partition(".")
+        names = rest.split(".")
+        files = [f"src/{'/'.join(names[:it])}.rt" for it in range(len(names), 0, -1)]
+        file = next((it for it in files if os.path.isfile(f"{self.crate.folder}/{it}")), None)
+        if front != "contracts" or not file or "crate::" in self.text_of(file):
+            return None
+        found, left = set(), [*self.named_in(self.text_of(file))]
+        while left:
+            it = left.pop()
+            if it not in found:
+                found.add(it)
+                left += self.named(it)
+        return found
 
     def way(self, law, changed):
         """Returns the modules on the way from these to a law, with those of them that it reaches."""
@@ -266,7 +292,7 @@ def batches(crate, edits):
         law = sources.law(edit.law)
         files = {it[0] for it in edit.pairs}
         changed = {it for it in sources.modules if it.file in files}
-        if not law or sources.rests_on_code(law) or len(changed) < len(files) or any(it.side != "specs" for it in changed):
+        if not law or sources.rests_on_code(law, changed) or len(changed) < len(files) or any(it.side != "specs" for it in changed):
             continue
         modules = sources.way(law, changed)
         if not modules:
