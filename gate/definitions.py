@@ -114,7 +114,11 @@ class Sources:
     @functools.cache
     def reached(self, law):
         """Returns the modules that a law rests on."""
-        found, left = set(), [*self.first_of(law)]
+        return self.below(self.first_of(law))
+
+    def below(self, first):
+        """Returns these modules, and those that they rest on."""
+        found, left = set(), [*first]
         while left:
             it = left.pop()
             if it not in found:
@@ -143,13 +147,7 @@ class Sources:
         file = next((it for it in files if os.path.isfile(f"{self.crate.folder}/{it}")), None)
         if front != "contracts" or not file or "crate::" in self.text_of(file):
             return None
-        found, left = set(), [*self.named_in(self.text_of(file))]
-        while left:
-            it = left.pop()
-            if it not in found:
-                found.add(it)
-                left += self.named(it)
-        return found
+        return self.below(self.named_in(self.text_of(file)))
 
     def way(self, law, changed):
         """Returns the modules on the way from these to a law, with those of them that it reaches."""
