@@ -159,8 +159,7 @@ def rests(crowd, seconds):
     heights, spent = max(it[0] for it in crowd.statuses()), crowd.spent()
     time.sleep(seconds)
     passed = max(it[0] for it in crowd.statuses()) - heights
-    # (who was woken a height later than others rests from a later height on, and proposes at once what comes behind the first that is held open)
-    want(passed <= seconds * 1000 // REST + 2, f"{passed} heights are decided in {seconds} s at rest")
+    want(passed <= seconds * 1000 // REST + 1, f"{passed} heights are decided in {seconds} s at rest")
     grown = max(now - before for now, before in zip(sizes_of(crowd, range(crowd.count)), sizes))
     tell(f"at rest: {passed} heights, journals grow by {grown} bytes, {(crowd.spent() - spent) / seconds:.3f} processors for all of them")
 
