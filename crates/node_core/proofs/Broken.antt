@@ -27,9 +27,9 @@ use Rattle.protocol.specs.declared.refusal.Refusal.{Refusal as Answer}
 use Rattle.protocol.specs.declared.refusal.Refusal.TheVariants as answers
 use Rattle.node_core.specs.Core.{Core, JournalSeen, MayLeave, IsSound, Stands, IsSame, context_of, setting, setting_of}
 use Rattle.node_core.specs.Firing.{IsFit, IsNarrow, decision_in}
-use Rattle.node_core.specs.Saving.{HasBroken, IsUnwritten, of_unfired}
-use Rattle.node_core.specs.declared.journal.Unfired.{Unfired}
-use Rattle.node_core.specs.declared.journal.Unfired.TheVariants as unfired
+use Rattle.state_journal.specs.Saving.{HasBroken, IsUnwritten, of_unfired}
+use Rattle.state_journal.specs.declared.journal.Unfired.{Unfired}
+use Rattle.state_journal.specs.declared.journal.Unfired.TheVariants as unfired
 use Rattle.node_core.specs.Calls.{HasFired, IsTaken, IsUnchanged, IsBroken, IsLeft, Leaves, LeavesBy, TellsJournal, input_cut, next_cut}
 use Rattle.node_core.specs.Running.{HasRun, IsCutOff}
 use Rattle.node_core.proofs.Arrivals.{comes_in, answers_by}
@@ -39,13 +39,6 @@ use Rattle.node_core.proofs.Spelled.{rule_decided, bundle_decided}
 use Rattle.node_core.proofs.Stepwise.{called, taken_from, fired_failed, same_setting, stands_counted}
 
 -- ---- one save
-
--- why a record was not saved
-pub save_broke : (T : Type 0) (failed nothing : Type 0) (fault : JournalFault) → fault ≡ journal.Failed → IsSaveFault {T = T} (Err fault) failed nothing → failed
-save_broke T failed nothing fault e k = subst (λ f. IsSaveFault {T = T} (Err f) failed nothing) e k
-
-pub never_bad : (T : Type 0) (failed nothing : Type 0) (fault : JournalFault) → fault ≡ journal.BadRecord → IsSaveFault {T = T} (Err fault) failed nothing → ⊥
-never_bad T failed nothing fault e k = subst (λ f. IsSaveFault {T = T} (Err f) failed nothing) e k
 
 -- a record that was not saved for the device
 pub unfired_broken : (wrote : Option Record) (e : Unfired) (old new : JournalSeen) → IsUnwritten e wrote old new → of_unfired e ≡ answers.JournalFailed → (r : Record) × (wrote ≡ Some r) × HasBroken r old new

@@ -23,7 +23,7 @@ use Rattle.protocol.specs.contracts.types.ValueAt as ValueAt
 use Rattle.protocol.specs.contracts.types.Stamp as Stamp
 use Rattle.round_states.specs.contracts.state.KeptProposal as KeptProposal
 use Rattle.round_states.specs.contracts.state.State as State
-use Rattle.node_core.specs.contracts.journal.NodeJournal as NodeJournal
+use Rattle.state_journal.specs.contracts.journal.NodeJournal as NodeJournal
 use Rattle.node_core.specs.contracts.node.NodeCore as NodeCore
 use Rattle.vote_journal.specs.declared.store.Store.{Ghosts}
 

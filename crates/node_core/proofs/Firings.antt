@@ -34,7 +34,7 @@ use Rattle.vote_journal.specs.Laws.{EachFollows, IsLawful}
 use Rattle.vote_journal.specs.Saving.{WhereSaved}
 use Rattle.vote_journal.proofs.Following.{fired_lawful}
 use Rattle.vote_journal.proofs.Stops.{one_journal, whole_is_journal}
-use Rattle.node_core.specs.Saving.{IsWritten}
+use Rattle.state_journal.specs.Saving.{IsWritten}
 use Rattle.node_core.specs.Core.{Core, JournalSeen, Stands, IsSame, IsSaid, IsKept, IsSound, IsOf, IsStamp, delivered_in, setting, setting_of, context_of, frame_by}
 use Rattle.node_core.specs.Calls.{HasFiredOnce, Serves}
 use Rattle.node_core.specs.Firing.{decided_by, said_after, said_by, is_empty}

@@ -33,22 +33,6 @@ lawful_read powers me bytes rs whole = subst (AreLawful powers me []) whole.reco
 
 -- ---- what is read back has a spelling
 
-pub all_of_members : {X : Type 0} (P : X → Type 0) (xs : List X) → ((x : X) → x ∈ xs → P x) → All P xs
-all_of_members P [] each k d lt = absurd (omega (arith, lt))
-all_of_members P (x ∷ xs) each zero d lt = each x (inl refl)
-all_of_members P (x ∷ xs) each (suc k) d lt = all_of_members P xs (λ y i. each y (inr i)) k d (omega (arith, lt))
-
-proposed : (me h r : ℕ) (act : Act) → IsRecord me (Own h r act) → HasProposedValue act
-proposed me h r (Proposing valid_round value) is = is.0.value
-proposed me h r (Prevoting content) is = tt
-proposed me h r (Precommitting choice) is = tt
-
-pub own_fit : (me : ℕ) (own : List OwnMessage) → All (λ (m : OwnMessage). IsRecord me (said m)) own → All (λ (m : OwnMessage). HasProposedValue (act_of m.act)) own
-own_fit me own all k d lt = let m = get_or own k d in proposed me m.height m.round (act_of m.act) (all k d lt)
-
-pub decisions_fit : (me : ℕ) (decisions : List Bundle) → All (IsDecision me) decisions → All (λ (b : Bundle). IsValue b.value) decisions
-decisions_fit me decisions all k d lt = (all k d lt).fits.value
-
 said_spelled : (me h r : ℕ) (act : Act) → IsRecord me (Own h r act) → IsSaid me (body_of me h r act)
 said_spelled me h r act is = record { spelled = is.0; own = act_own me h r act }
 

@@ -2,10 +2,10 @@
 use Rattle.std.proofs.Common.{◌≡◌, true, false, Option, Some, None, Err, refl, sym, ap, subst, ◌∙◌}
 use Rattle.protocol.specs.Messages.{Record}
 use Rattle.node_core.specs.Core.{Core, JournalSeen, IsSound}
-use Rattle.node_core.specs.Saving.{IsUnwritten, of_unfired}
+use Rattle.state_journal.specs.Saving.{IsUnwritten, of_unfired}
 use Rattle.node_core.specs.Calls.{Serves, TellsJournal, IsUnfired}
-use Rattle.node_core.specs.declared.journal.Unfired.{Unfired}
-use Rattle.node_core.specs.declared.journal.Unfired.TheVariants as unfired
+use Rattle.state_journal.specs.declared.journal.Unfired.{Unfired}
+use Rattle.state_journal.specs.declared.journal.Unfired.TheVariants as unfired
 
 served : (old new : JournalSeen) → new ≡ old → Serves old new
 served old new e = record { failed = ap (λ (j : JournalSeen). j.failed) e; failures = ap (λ (j : JournalSeen). j.failures) e }

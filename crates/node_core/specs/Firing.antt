@@ -18,6 +18,7 @@ use Rattle.round_machine.specs.declared.rule.Input.{Input}
 use Rattle.node_core.specs.Core.{Core, context_of, frame_by}
 use Rattle.node_core.specs.declared.carrying.OwnFrame.{OwnFrame}
 use Rattle.node_core.specs.declared.firing.Ready.{Ready}
+pub use Rattle.state_journal.specs.Saving.{decision_in, IsNarrow}
 
 -- what is handed serves the rule as the queues' own pick would
 pub record IsHanded (core : Core) (rule : Name) (input : Input) : Type 0 where
@@ -54,10 +55,6 @@ pub record IsReady (core : Core) (rule : Name) (ready : Ready) : Type 0 where
 
 -- ---- what is said
 
-abbrev pub decision_in : Record → List Bundle
-decision_in (Own height round act) = []
-decision_in (Decided b) = b ∷ []
-
 abbrev pub decided_by : Option Pending → List Bundle
 decided_by None = []
 decided_by (Some u) = decision_in u.entry
@@ -74,10 +71,3 @@ said_by (Some u) said = said_after u.sender u.entry said
 abbrev pub is_empty : List Bundle → Bool
 is_empty [] = true
 is_empty (b ∷ bs) = false
-
--- the numbers of a bundle fit their fields
-pub record IsNarrow (b : Bundle) : Type 0 where
-  pub height : b.height < 2 ^ 64
-  pub round : b.round < 2 ^ 32
-  pub sender : b.sender < 2 ^ 16
-  pub id : length b.id ≡ 32

@@ -1,5 +1,4 @@
 pub mod Core
-pub mod Saving
 pub mod Seen
 pub mod Calls
 pub mod Firing

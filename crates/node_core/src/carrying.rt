@@ -1,24 +1,21 @@
-//! A plan is carried out: spelled, saved, and applied.
+//! What a plan says is spelled, and let go once it is said.
 
-ghost use Rattle.std.specs.Prelude.{◌≡◌, ◌∷◌, [], None, IfOk, IfErr, IfSome, OnOk, OnErr, map, option_map, option_to_list};
+ghost use Rattle.std.specs.Prelude.{◌≡◌, ◌∷◌, [], None, IfOk, IfSome, OnOk, map, option_map, option_to_list};
 ghost use Rattle.messages.specs.Grammar.{IsBody};
 ghost use Rattle.protocol.specs.Messages.{body_of};
 ghost use Rattle.protocol.specs.Records.{act_of, record_of};
 ghost use Rattle.protocol.specs.Rules.{released_by};
 ghost use Rattle.vote_journal.specs.Grammar.{record_spelling, IsRecord};
-ghost use Rattle.round_states.specs.Pending.{pending_of};
-ghost use Rattle.round_states.specs.Plans.{says, applied, IsOfPlace};
+ghost use Rattle.round_states.specs.Plans.{says, IsOfPlace};
 ghost use Rattle.node_core.specs.Core.{frame_by};
 ghost use Rattle.node_core.specs.Firing.{bytes_in};
-ghost use Rattle.node_core.specs.Saving.{IsWritten, IsUnwritten};
 
-use crate::journal::{NodeJournal, Unfired};
 use crate::node::NodeCore;
 use crate::outlet::{LeavingFrame, Outlet};
 use frame_admission::{Tagger, bytes_of, frame_of_body};
 use messages::Body;
-use protocol::{OwnMessage, Record, Timeout};
-use round_states::{Plan, Said, State};
+use protocol::{OwnMessage, Record};
+use round_states::{Plan, Said};
 use std::alloc::AllocError;
 use vote_journal::{Store, spell_own, spell_record};
 
@@ -43,13 +40,6 @@ impl OwnFrame {
 pub(crate) struct Spelled {
     pub(crate) record: Vec<u8>,
     pub(crate) frame: Option<OwnFrame>,
-}
-
-/// What a firing leaves to its node: what may be let go, and a timeout to schedule.
-#[derive(Drop)]
-pub(crate) struct Fired {
-    pub(crate) said: Option<Said>,
-    pub(crate) timeout: Option<Timeout>,
 }
 
 impl<S: Store + Drop> NodeCore<S> {
@@ -102,42 +92,6 @@ impl<S: Store + Drop> NodeCore<S> {
         match entry {
             None => Ok(Vec::new(self.alloc)),
             Some(entry) => spell_record(self.alloc, self.state.me(), entry),
-        }
-    }
-}
-
-/// Carries a plan of this state out: makes room for its change, saves its record, and then applies the change, which can't
-/// fail. Refused, the state is as it was.
-pub(crate) fn carry_out<S: Store + Drop>(
-    state: &mut State,
-    plan: Plan,
-    spelled: Vec<u8>,
-    journal: &mut NodeJournal<S>,
-) -> Result<Fired, Unfired>
-    requires place { IsOfPlace state.old plan.change (says plan) }
-    requires spelled { IfSome (says plan) (λ r. IsRecord journal.old.me r → spelled.items ≡ record_spelling journal.old.me r) }
-    requires room { state.old.room ≡ None }
-    ensures state { OnOk result (state.new ≡ applied state.old plan) }
-    ensures said { IfOk result (λ f. f.said ≡ pending_of state.old.me (says plan)) }
-    ensures timeout { IfOk result (λ f. f.timeout ≡ plan.timeout) }
-    ensures wrote { OnOk result (IsWritten (says plan) journal.old journal.new) }
-    ensures unwritten { IfErr result (λ e. IsUnwritten e (says plan) journal.old journal.new) }
-    ensures err { OnErr result (state.new ≡ state.old) }
-{
-    let Plan {
-        entry,
-        change,
-        timeout,
-    } = plan;
-    state.make_room(&change)?;
-    match journal.save(entry, spelled) {
-        Ok(saved) => {
-            let said = state.apply(change, saved);
-            Ok(Fired { said, timeout })
-        }
-        Err(unfired) => {
-            state.forget_room();
-            Err(unfired)
         }
     }
 }

@@ -12,9 +12,10 @@ ghost use Rattle.protocol.specs.Arrivals.{firing};
 ghost use Rattle.node_core.specs.Core.{Stands, context_of, setting_of};
 ghost use Rattle.node_core.specs.Calls.{HasFiredOnce, Leaves, IsUnfired, TellsJournal};
 ghost use Rattle.node_core.specs.Running.{HasRun, IsCutOff};
-ghost use Rattle.node_core.specs.Firing.{IsHanded, IsFit, IsReady, IsRoundHanded, decided_by, said_by, is_empty, IsNarrow};
+ghost use Rattle.node_core.specs.Firing.{IsHanded, IsFit, IsReady, IsRoundHanded, decided_by, said_by, is_empty};
+ghost use Rattle.state_journal.specs.Saving.{IsNarrow};
 
-use crate::carrying::{Fired, Spelled, carry_out, released};
+use crate::carrying::{Spelled, released};
 use crate::node::NodeCore;
 use crate::outlet::Outlet;
 use frame_admission::{Tagger, own_tags};
@@ -24,6 +25,7 @@ use messages::Body;
 use protocol::{Refusal, Step, Timeout};
 use round_machine::{Input, Rule, enabled, plan};
 use round_states::{Picked, Plan, Said, State, release};
+use state_journal::{Fired, carry_out};
 use std::alloc::AllocError;
 use vote_journal::Store;
 

@@ -15,7 +15,6 @@ mod base;
 mod calls;
 mod carrying;
 mod firing;
-mod journal;
 mod node;
 mod opening;
 mod outlet;

@@ -17,7 +17,7 @@ ghost use Rattle.node_core.specs.Core.{Stands, setting_of, context_of, frame_by}
 ghost use Rattle.protocol.specs.Answers.{IsAnswer};
 ghost use Rattle.node_core.specs.Calls.{IsReceived, Leaves, IsRefused, IsUnfired, IsBeside, HasFiredOnce, TellsJournal};
 
-use crate::carrying::{Fired, Spelled, carry_out};
+use crate::carrying::Spelled;
 use crate::firing::{make_room, note, push_one};
 use crate::node::NodeCore;
 use frame_admission::{InTurn, frame_for};
@@ -25,6 +25,7 @@ use height_catchup::{certified, judge};
 use messages::{Ask, Body, Bundle, Message, Proposal, Vote};
 use protocol::{MOST_HEIGHT, Refusal};
 use round_machine::plan_by_bundle;
+use state_journal::{Fired, carry_out};
 use std::alloc::AllocError;
 use transactions::{Duplicate, Seq, Tx};
 use vote_journal::Store;

@@ -8,7 +8,7 @@ use Rattle.round_machine.specs.Bundling.{Came}
 use Rattle.round_states.specs.Machine.{Agrees}
 use Rattle.round_states.specs.Plans.{says, moved, applied}
 use Rattle.node_core.specs.Core.{Core, context_of, setting_of}
-use Rattle.node_core.specs.Saving.{of_unfired}
+use Rattle.state_journal.specs.Saving.{of_unfired}
 use Rattle.node_core.specs.Seen.{seen}
 use Rattle.node_core.proofs.Known.{known, few_setting}
 use Rattle.node_core.proofs.Firings.{IsFiredTo, MayFire, fired_to, fired_once, fired_sound, written_serves, pending_decided}

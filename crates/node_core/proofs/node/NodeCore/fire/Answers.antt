@@ -6,7 +6,7 @@ use Rattle.protocol.specs.Rules.{fired, saved, released_by}
 use Rattle.round_machine.specs.Naming.{rule_of}
 use Rattle.round_states.specs.Plans.{says}
 use Rattle.node_core.specs.Core.{Core, context_of, frame_by}
-use Rattle.node_core.specs.Saving.{of_unfired}
+use Rattle.state_journal.specs.Saving.{of_unfired}
 use Rattle.node_core.specs.Seen.{seen}
 use Rattle.protocol.specs.Messages.{Bundle}
 use Rattle.protocol.specs.Queues.{pick}
