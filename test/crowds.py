@@ -24,7 +24,7 @@ import tempfile
 import threading
 import time
 
-from link_trials import GUARDED, heights_of, processor_seconds, sizes_of
+from link_trials import GUARDED, processor_seconds, sizes_of
 from validators import ASK, BUNDLE, PRECOMMIT, PREVOTE, PROPOSAL, Cluster, Failed, Heading, Wires, dial, peak_of, want
 
 TOP = os.path.dirname(os.path.dirname(os.path.realpath(__file__)))
@@ -222,7 +222,8 @@ def main():
         ):
             part()
             tell_traffic(crowd)
-        tell(f"at the end: {max(map(peak_of, crowd.running.values())) / 1e6:.0f} MB at most in a process, journals of {max(sizes_of(crowd, range(crowd.count))) / 1e6:.1f} MB, links {min(it[2] for it in crowd.statuses())} at least, heights {max(heights_of(crowd, range(crowd.count)))}")
+        seen = crowd.statuses()
+        tell(f"at the end: {max(map(peak_of, crowd.running.values())) / 1e6:.0f} MB at most in a process, journals of {max(sizes_of(crowd, range(crowd.count))) / 1e6:.1f} MB, links {min(it[2] for it in seen)} at least, heights {max(it[0] for it in seen)}")
     except Failed as fault:
         print(f"FAILED: {fault}; see {folder}", file=sys.stderr)
         return 1

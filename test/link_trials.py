@@ -4,10 +4,11 @@ import os
 import random
 import shutil
 import subprocess
+import threading
 import time
 
 from switches import AT_ITS_START, WITHIN_IT, Strangers, Switch, linked_pairs
-from validators import BUNDLE, PATIENCE, Client, LeftOut, among, dial, free_addresses, hold, limited, read, want
+from validators import BUNDLE, PATIENCE, PRECOMMIT, PREVOTE, Client, Heading, LeftOut, Wires, among, dial, free_addresses, hold, limited, read, want
 
 GUARDED = {"links": "guarded", "redial": 200}
 # How often a processor's clock ticks a second, by which the system counts the time of processes.
@@ -54,7 +55,7 @@ def links_that_are_half_open(cluster, _):
         switch.hold_half_open(3)
         want_all_to_go_on(cluster, range(4), 30, "with half-open links")
     for me in range(4):
-        want("closed: silent for 10 seconds" in read(cluster.path(f"v{me}.log")), f"validator {me} logs no link that is silent")
+        want("closed: silent for too long" in read(cluster.path(f"v{me}.log")), f"validator {me} logs no link that is silent")
 
 
 def a_switch_that_is_off_for_a_while(cluster, is_long):
@@ -88,12 +89,44 @@ def starts_in_any_order(cluster, is_long):
         cluster.end()
 
 
+def each_vote_comes_once(cluster, is_long):
+    """Of the links between two validators one is used: while heights follow, a vote comes to each of the others once."""
+    counts, counted = collections.Counter(), threading.Event()
+
+    def passes(source, target, frame):
+        heading = Heading(frame)
+        if counted.is_set() and heading.kind in (PREVOTE, PRECOMMIT) and heading.sender == source:
+            counts[target, frame] += 1
+        return True
+
+    wires = Wires(cluster.addresses, passes)
+    for me in range(4):
+        cluster.start(me, {**GUARDED, "idle": 50, "peers": wires.peers_of(me)})
+    want_all_to_go_on(cluster, range(4), PATIENCE, "at first")
+    counted.set()
+    time.sleep(20 if is_long else 2)
+    twice, pairs = sum(it > 1 for it in counts.values()), {(Heading(frame).sender, target) for target, frame in counts}
+    want(len(pairs) == 12, f"votes come between {sorted(pairs)} alone")
+    want(twice == 0, f"{twice} of {len(counts)} votes come to a validator several times")
+
+
+def timeouts_come_in_time(cluster, is_long):
+    """Of four validators one is gone. In its turns the others wait for a timeout of a tenth of a second, and hardly longer."""
+    for me in range(3):
+        cluster.start(me, {**GUARDED, "start": 100, "delta": 50, "idle": 0})
+    want_all_to_go_on(cluster, range(3), PATIENCE, "at first")
+    before, seconds = max(heights_of(cluster, range(3))), 20 if is_long else 4
+    time.sleep(seconds)
+    passed = min(heights_of(cluster, range(3))) - before
+    want(passed >= seconds * 8, f"{passed} heights are decided in {seconds} seconds")
+
+
 def strangers_hold_no_place(cluster, is_long):
     """Three hundred silent connections and hundreds of new ones a second, while clients are served and a validator comes back."""
     for me in range(4):
         cluster.start(me, {**GUARDED, "idle": 50})
     want_all_to_go_on(cluster, range(4), PATIENCE, "at first")
-    with Strangers(cluster.addresses[:3], 300, 100) as strangers:
+    with Strangers(cluster.addresses[:3], 300, 500 if is_long else 100) as strangers:
         clients = [Client(cluster, it) for it in (7, 9)]
         for it in clients:
             it.start()
@@ -131,7 +164,8 @@ def bundles_for_who_is_behind(cluster, is_long):
     with Switch(cluster.addresses) as switch:
         for me in range(3):
             cluster.start(me, {**quick, "peers": switch.peers_of(me)})
-        cluster.wait_for_heights(heights, 0, PATIENCE)
+        # (one height in four waits for two timeouts, since its proposer isn't there)
+        cluster.wait_for_heights(heights, 0, PATIENCE + heights // 8)
         before = switch.sent_of(BUNDLE)
         cluster.start(3, {**quick, "peers": switch.peers_of(3)})
         cluster.wait_for_heights(heights, 3, PATIENCE)
@@ -305,6 +339,8 @@ LINK_TRIALS = (
     links_that_are_half_open,
     a_switch_that_is_off_for_a_while,
     starts_in_any_order,
+    each_vote_comes_once,
+    timeouts_come_in_time,
     strangers_hold_no_place,
     strangers_get_nothing,
     bundles_for_who_is_behind,

@@ -16,7 +16,7 @@ use std::{io, thread, time};
 use vote_journal::Store;
 
 /// How long it waits where nobody is there, in milliseconds.
-const TURN_MS: u64 = 50;
+const TURN_MS: u64 = 250;
 
 /// The same where somebody is there who does nothing.
 const SHORT_TURN_MS: u64 = 5;

@@ -17,8 +17,8 @@ use subscriber_ring::Delivered;
 use tcp_links::HostClock;
 use vote_journal::Store;
 
-/// How long it waits for the bell at most, in milliseconds: what a full ring kept back is printed then.
-const TURN_MS: u64 = 100;
+/// How long it waits for the bell at most, in milliseconds: what no memory was there for is printed then.
+const TURN_MS: u64 = 1_000;
 
 /// The most bytes that leave by one write: as many as a pipe holds.
 const BLOCK_BYTES: usize = 64 * 1_024;

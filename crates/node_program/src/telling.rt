@@ -15,7 +15,7 @@ use std::{io, thread};
 use vote_journal::Store;
 
 /// How long it waits where nobody connects, in milliseconds.
-const TURN_MS: u64 = 100;
+const TURN_MS: u64 = 250;
 
 /// Listens on the address. Taking a connection then doesn't wait for one.
 pub(crate) fn listen<N: Net<Stream = TcpStream, Listener = TcpListener>>(

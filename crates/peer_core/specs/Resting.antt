@@ -1,5 +1,5 @@
 -- When a height is held open.
-use Rattle.std.specs.Prelude.{ℕ, Bool, true, false, not, ◌&&◌, ◌==◌, ◌+◌, ◌-◌, ◌/◌, ◌^◌, nat_lt, nat_le, min, max, if◌then◌else◌, Option, Some, None}
+use Rattle.std.specs.Prelude.{ℕ, Bool, true, false, not, ◌&&◌, ◌||◌, ◌==◌, ◌+◌, ◌-◌, ◌/◌, ◌^◌, nat_lt, nat_le, min, max, if◌then◌else◌, Option, Some, None}
 use Rattle.protocol.specs.declared.types.Step.{Step}
 use Rattle.protocol.specs.declared.types.Step.TheVariants.{Propose, Prevote, Precommit}
 use Rattle.protocol.specs.declared.types.Timeout.{Timeout}
@@ -58,6 +58,14 @@ is_due now (Some h) = nat_le h.due now
 abbrev pub is_below : ℕ → Option HeldTimeout → Bool
 is_below height None = false
 is_below height (Some h) = nat_lt h.timeout.height height
+
+-- what waits is of this height or a lower one, or of one in which it doesn't rest
+abbrev pub ends_in : Rest → ℕ → Option HeldTimeout → Bool
+ends_in r height None = true
+ends_in r height (Some h) = nat_le h.timeout.height height || not (rests r h.timeout.height)
+
+abbrev pub ends_by : Rest → ℕ → Bool
+ends_by r height = ends_in r height r.held
 
 abbrev pub without : Rest → Rest
 without r = record r { held = None }

@@ -25,8 +25,8 @@ pub struct Sending {
 /// Why a link is closed that didn't end by itself.
 #[derive(Clone, Copy, Debug, Error, PartialEq, Eq)]
 pub enum Closing {
-    /// Nothing came from a validator for ten seconds.
-    #[error("silent for 10 seconds")]
+    /// Nothing came from a validator for ten seconds, for each sixteen validators.
+    #[error("silent for too long")]
     Silent,
     /// Another one had more right to its place.
     #[error("its place was wanted")]

@@ -259,7 +259,7 @@ impl PeerCore {
         } else if !is_quiet(frame) {
             self.rest.stir(self.height);
         }
-        if rests {
+        if rests && self.rest.ends_by(heading.height) {
             self.go_on(now);
         }
     }

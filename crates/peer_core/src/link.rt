@@ -10,12 +10,12 @@ use peer_links::Way;
 /// How many frames in a row that are of no use close a link.
 const MOST_USELESS: u32 = 1_000;
 
-/// For how many seconds a link of a validator may be silent, as this validator sees them pass.
+/// For how many seconds a link of a validator may be silent for each sixteen validators, as this validator sees them pass.
 pub(crate) const MOST_SILENT: u32 = 10;
 
-/// How long nothing is sent on a link of a validator until it is sent an ask, in milliseconds: often enough that its other
-/// end doesn't take it for silent.
-const BEAT_MS: u64 = 3_000;
+/// How long nothing is sent on a link of a validator for each sixteen validators until it is sent an ask, in milliseconds: often enough
+/// that its other end doesn't take it for silent.
+pub(crate) const MOST_QUIET_MS: u64 = 3_000;
 
 /// How long a height that a link was sent a bundle of isn't answered again on it, in milliseconds.
 pub(crate) const AGAIN_MS: u64 = 1_000;
@@ -188,9 +188,9 @@ impl PeerLink {
         self.is_open() && self.validator().is_some() && self.silent >= seconds
     }
 
-    /// Returns whether a validator is behind it that was sent nothing for three seconds.
-    pub(crate) fn is_quiet(&self, now: u64) -> bool {
-        self.is_open() && self.validator().is_some() && now.saturating_sub(self.sent) >= BEAT_MS
+    /// Returns whether a validator is behind it that was sent nothing for so many milliseconds.
+    pub(crate) fn is_quiet(&self, now: u64, pause: u64) -> bool {
+        self.is_open() && self.validator().is_some() && now.saturating_sub(self.sent) >= pause
     }
 
     /// Lets it be closed, for the first cause that comes.

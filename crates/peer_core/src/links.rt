@@ -5,9 +5,9 @@ ghost use Rattle.peer_core.specs.Choosing.{gets_all, gets_ask, gets_bundle, is_f
 
 use crate::choosing::{best_of, mark_chosen};
 use crate::duty::{Closing, OpenFault};
-use crate::link::{Behind, MOST_SILENT, PeerLink, Shown};
+use crate::link::{Behind, MOST_QUIET_MS, MOST_SILENT, PeerLink, Shown};
 use crate::manner::Keeping;
-use crate::ticking::MOST_SMALL;
+use crate::ticking::{MOST_SMALL, sixteens};
 use edge_frames::{LinkId, MOST_LINKS};
 use peer_links::Way;
 use std::alloc::{AllocError, AllocFailed, Global};
@@ -24,7 +24,7 @@ const MOST_DIALED_HERE: usize = 2;
 /// From how many links on it is not a few that are silent.
 const MANY_SILENT: usize = 8;
 
-/// For how many seconds a link of a validator may be silent where many are, and more than half.
+/// For how many seconds at least a link of a validator may be silent where many are, and more than half.
 const MOST_SILENT_TOGETHER: u32 = 60;
 
 /// How many new frames each validator may bring, on average, before a link that brought none isn't taken for its validator's in a large
@@ -449,23 +449,25 @@ impl PeerLinks {
         }
     }
 
-    /// Returns the links of validators on which nothing was sent for three seconds, and notes that something is now.
+    /// Returns the links of validators on which nothing was sent for a while, and notes that something is now.
     pub fn quiet(&mut self, alloc: Global, now: u64) -> Result<Vec<LinkId>, AllocError> {
+        let pause = self.most_quiet();
         let ids: Vec<LinkId> = self
             .links
             .iter()
-            .filter(|link| link.is_quiet(now))
+            .filter(|link| link.is_quiet(now, pause))
             .map(|link| link.id)
             .collect(alloc)?;
         self.note_sent(&ids, now);
         Ok(ids)
     }
 
-    /// Has an ask go to each validator's link on which nothing was sent for three seconds, and returns whether there is one.
+    /// Has an ask go to each validator's link on which nothing was sent for a while, and returns whether there is one.
     pub fn beat(&mut self, now: u64) -> bool {
+        let pause = self.most_quiet();
         let mut any = false;
         for link in self.links.iter_mut() {
-            if link.is_quiet(now) {
+            if link.is_quiet(now, pause) {
                 link.wants_ask = true;
                 any = true;
             }
@@ -493,13 +495,19 @@ impl PeerLinks {
     /// Returns for how many seconds a link of a validator may be silent now. Where more than half are silent, and not just a few,
     /// all have more to do than they get done, and closing their links would give them more.
     fn most_silent(&self) -> u32 {
+        let most = MOST_SILENT.saturating_mul(u32::from(sixteens(self.count)));
         let all = self.count_silent_for(0);
-        let silent = self.count_silent_for(MOST_SILENT);
+        let silent = self.count_silent_for(most);
         if silent >= MANY_SILENT && silent > all / 2 {
-            MOST_SILENT_TOGETHER
+            most.max(MOST_SILENT_TOGETHER)
         } else {
-            MOST_SILENT
+            most
         }
+    }
+
+    /// Returns for how long nothing may be sent on a link of a validator, in milliseconds.
+    fn most_quiet(&self) -> u64 {
+        MOST_QUIET_MS.saturating_mul(u64::from(sixteens(self.count)))
     }
 
     fn count_silent_for(&self, seconds: u32) -> usize {

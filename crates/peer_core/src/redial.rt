@@ -3,7 +3,7 @@
 ghost use Rattle.std.specs.Prelude.{◌≡◌, ◌≢◌, ◌<◌, IfSome};
 
 use crate::manner::{Keeping, Manner};
-use crate::ticking::MOST_SMALL;
+use crate::ticking::{MOST_SMALL, sixteens};
 use powers::MOST_VALIDATORS;
 
 /// How many times its first value the pause before an address is dialed again has at most.
@@ -71,8 +71,7 @@ impl Redial {
     /// where the other one dials first, as it takes so much longer until all of a large cluster have links.
     fn pause_of(&self, validator: u16) -> u64 {
         if self.is_dialed_by(validator) {
-            self.first
-                .saturating_mul(u64::from(self.count / MOST_SMALL))
+            self.first.saturating_mul(u64::from(sixteens(self.count)))
         } else {
             self.first
         }

@@ -1,7 +1,7 @@
 //! When a height is held open, since nothing waits anywhere.
 
 ghost use Rattle.std.specs.Prelude.{◌≡◌, None, true, false, if◌then◌else◌};
-ghost use Rattle.peer_core.specs.Resting.{rests, wait_of, is_held, holding, woken, stirred, is_drowsy, timeout_in, due_in, is_due, is_below, without};
+ghost use Rattle.peer_core.specs.Resting.{rests, wait_of, is_held, holding, woken, stirred, is_drowsy, timeout_in, due_in, is_due, is_below, ends_by, without};
 
 use protocol::{Step, Timeout};
 
@@ -110,6 +110,17 @@ impl Rest {
         ensures { self.new ≡ record self.old { may_have = false } }
     {
         self.may_have = false;
+    }
+
+    /// Returns whether what waits no longer has to behind a frame of this height, which says that its height goes on. A timeout that waits
+    /// may be of the next height already, as the node is told of a frame before its answer is looked at here: then that height may rest.
+    pub fn ends_by(&self, height: u64) -> bool
+        ensures { result ≡ ends_by self.now height }
+    {
+        let Some(held) = self.held else {
+            return true;
+        };
+        held.timeout.height <= height || !self.rests(held.timeout.height)
     }
 
     /// Gives the timeout that waits, whenever it is due.

@@ -25,6 +25,12 @@ const STILL_MS: u64 = 1_000;
 /// every validator, and is tagged as a whole for every validator too: 94 kB are hashed for one among 16 validators, 45 MB among 128.
 pub(crate) const MOST_SMALL: u16 = 16;
 
+/// Returns how many sixteens of validators there are, at least one. Pauses that keep so many links from taking all processors are as many
+/// times as long: that of a link that another validator is to dial, that of a sign of life, and how long a link may be silent.
+pub(crate) fn sixteens(count: u16) -> u16 {
+    (count / MOST_SMALL).max(1)
+}
+
 /// How many validators make a height's bundle for whoever asks for it in a large cluster, from the one on whose number is the height's. Others make it
 /// for who has asked for longer, so behind as many asks each is asked twice.
 pub(crate) const FIRST_ASKED: u32 = 8;

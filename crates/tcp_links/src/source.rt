@@ -18,7 +18,7 @@ use std::{io, thread};
 /// How long it waits where nobody dials, in milliseconds: at first, and at most. Each wait is twice as long as the one before.
 const FIRST_WAIT_MS: u64 = 1;
 
-const MOST_WAIT_MS: u64 = 50;
+const MOST_WAIT_MS: u64 = 100;
 
 /// The peers of a node: those that its dialers reach, and those that dial it. What fails is logged.
 #[derive(Drop)]

@@ -152,6 +152,29 @@ fn try_a_silent_validator_is_closed<R: Abort + AllocGlobal>(rt: &R, edge: &mut P
     assert!(rt; edge.has_links());
 }
 
+/// Of forty-eight validators one may be silent for three times as long as of sixteen, and says something three times as seldom.
+#[test]
+fn in_a_large_cluster_silence_is_longer(rt: HostRuntime) {
+    on_edge_of(
+        &rt,
+        1,
+        48,
+        GUARDED,
+        try_in_a_large_cluster_silence_is_longer,
+    );
+}
+
+fn try_in_a_large_cluster_silence_is_longer<R: Abort + AllocGlobal>(rt: &R, edge: &mut PeerCore) {
+    dial_all(rt, edge);
+    let _ = duties(edge, 0);
+    for second in 1..=29u64 {
+        let done = duties(edge, second * 1_000);
+        assert_same(rt, &done.closed, &0);
+        assert_same(rt, &done.asks, &u32::from(second >= 9));
+    }
+    assert_same(rt, &duties(edge, 30_000).closed, &3);
+}
+
 /// Where most of many validators are silent they have too much to do, as this one has: their links are given a minute.
 #[test]
 fn many_silent_validators_are_given_time(rt: HostRuntime) {

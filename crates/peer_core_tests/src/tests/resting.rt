@@ -71,6 +71,25 @@ fn try_a_transaction_wakes<R: Abort + AllocGlobal>(rt: &R, edge: &mut PeerCore) 
     assert_same(rt, &fired(edge, 2, 3), &1);
 }
 
+/// A vote of the height that the node has just left doesn't say that the next one goes on, whose propose timeout it has scheduled.
+#[test]
+fn a_vote_of_the_height_before_wakes_nobody(rt: HostRuntime) {
+    on_edge(&rt, RESTING, try_a_vote_of_the_height_before_wakes_nobody);
+}
+
+fn try_a_vote_of_the_height_before_wakes_nobody<R: Abort + AllocGlobal>(
+    rt: &R,
+    edge: &mut PeerCore,
+) {
+    dial_all(rt, edge);
+    let _ = duties(edge, 0);
+    schedule(rt, edge, 1, 0);
+    came(edge, 1, &of_round(PREVOTE, 0, 0), Ok(()), 1, 0);
+    assert_same(rt, &fired(edge, 0, 10), &0);
+    came(edge, 1, &of_round(PREVOTE, 1, 0), Ok(()), 1, 10_000);
+    assert_same(rt, &fired(edge, 10, 11), &1);
+}
+
 /// A vote for nil says that something happens in this height; one for a value that it goes on.
 #[test]
 fn a_vote_stirs(rt: HostRuntime) {
