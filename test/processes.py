@@ -394,6 +394,19 @@ def proposers_by_power(cluster, is_long):
     want(set(proposed.values()) == set(range(7)), f"only {sorted(set(proposed.values()))} have proposed")
 
 
+@among("100,100,100,100")
+def a_far_turn_is_not_waited_for(cluster, _):
+    """The last of four validators proposes only after three hundred heights. It alone is sent transactions, one as soon as the one
+    before is delivered, and passes each on: none waits for more than some heights."""
+    for me in range(4):
+        cluster.start(me, {"links": "guarded", "idle": 100})
+    for number in range(1, 12):
+        cluster.send_until_taken(7, 3, number, "--data", "61")
+        cluster.want_same(number, *range(4))
+    passed = cluster.decisions_of(0)
+    want(passed < 100, f"{passed} heights are decided until eleven transactions are delivered")
+
+
 def cut_off(cluster, is_long):
     """Links delay all that they carry, and for a while nothing comes to or from a validator: it prints a beginning of the list,
     and catches up."""
@@ -722,6 +735,7 @@ TESTS = (
     a_file_is_one_session,
     a_journal_of_before_sessions,
     proposers_by_power,
+    a_far_turn_is_not_waited_for,
     cut_off,
     far_behind,
     a_prevote_that_reached_one_alone,

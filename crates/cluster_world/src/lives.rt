@@ -8,7 +8,7 @@ use cluster_actors::{Deed, Engine, Post, Seat};
 use cluster_checks::{Event, Failure, Note, Progress};
 use cluster_parts::{DiskStore, End};
 use node_core::{Config, NodeCore};
-use peer_core::{Manner, PeerCore};
+use peer_core::{Manner, PeerCore, Turns};
 use std::alloc::{AllocFailed, Global};
 use std::mem;
 use timeouts::Plan;
@@ -181,7 +181,14 @@ impl World {
             |_| Failure::Usage,
         )?;
         let count = self.parties.count();
-        let core = PeerCore::new(self.alloc, validator, count, self.manner(), plan, shown);
+        let core = PeerCore::new(
+            self.alloc,
+            validator,
+            count,
+            self.manner(validator),
+            plan,
+            shown,
+        );
         let engine = Engine {
             alloc: self.alloc,
             node,
@@ -199,13 +206,14 @@ impl World {
         }
     }
 
-    /// How validators behave at their edge.
-    fn manner(&self) -> Manner {
+    /// How a validator behaves at its edge.
+    fn manner(&self, validator: u16) -> Manner {
         Manner {
             keeping: self.settings.keeping,
             idle: self.settings.idle,
             rest: self.settings.rest,
             redial: self.settings.redial,
+            turns: Turns::of(self.parties.powers(), validator),
         }
     }
 

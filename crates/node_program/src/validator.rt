@@ -21,13 +21,14 @@ use journal_file::FileStore;
 use key_files::{memory_or, read_ring};
 use leveled_runtime::Leveled;
 use locked_node::{LockedNode, Subscription, words_for};
-use log::{Log, info};
+use log::{Log, info, warn};
 use metered_store::MeteredStore;
 use node_core::{Config, NodeCore};
 use node_meters::Meters;
 use node_settings::{Failure, RunSettings};
-use peer_core::{Keeping, Manner};
+use peer_core::{Keeping, Manner, Turns};
 use peer_threads::{Bell, Ending, Pace, serve_at_pace};
+use powers::Powers;
 use status_words::{Node, Opened};
 use std::alloc::{AllocError, Global};
 use std::fs::File;
@@ -45,6 +46,9 @@ use vote_journal::Store;
 
 /// How many delivered items wait to be printed at most.
 const WAITING_ITEMS: usize = 1_024;
+
+/// From so many turns in a row on the log says that a validator has many.
+const MANY_TURNS: u32 = 16;
 
 /// How the validator serves: where, at which pace, for how long, and what it tells meanwhile.
 #[derive(Drop)]
@@ -88,6 +92,7 @@ pub(crate) fn run<
         core.height(),
         core.delivered().len()
     );
+    warn_of_turns(&logged, &settings.powers);
     let Ok(opened) = words_for(rt.alloc(), &core) else {
         return Err(Failure::OutOfMemory);
     };
@@ -95,6 +100,17 @@ pub(crate) fn run<
     serve_core::<MeteredStore<'_, FileStore, R>, Brand, W, Leveled<'_, R>>(
         &logged, core, opened, service, out,
     )
+}
+
+/// Says where a validator has many turns in a row: while it is gone a height may take as many rounds.
+fn warn_of_turns<R: Log>(rt: &R, powers: &Powers) {
+    let mut most = 0u32;
+    for validator in 0..powers.count() {
+        most = most.max(powers.power_of(validator).unwrap_or(0));
+    }
+    if most >= MANY_TURNS {
+        warn!(rt; "a validator has {most} turns in a row: while it is gone a height may take as many rounds");
+    }
 }
 
 /// The validator of these settings, which comes back over the journal in its file. The syncs of the file are counted.
@@ -174,6 +190,7 @@ fn manner_of(settings: &RunSettings<'_>) -> Manner
         idle: settings.idle,
         rest: settings.rest,
         redial: settings.redial,
+        turns: Turns::of(&settings.powers, settings.me),
     }
 }
 

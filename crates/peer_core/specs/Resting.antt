@@ -43,6 +43,10 @@ stirred r height = record r { awake_until = max r.awake_until (plus height 1) }
 abbrev pub is_drowsy : Rest → ℕ → Bool
 is_drowsy r height = nat_lt 0 r.longest && nat_le r.awake_until (plus height (r.heights / 2))
 
+-- it doesn't stay awake for so many heights
+abbrev pub is_far : Rest → ℕ → Bool
+is_far r count = nat_le r.heights count
+
 abbrev pub timeout_in : Option HeldTimeout → Option Timeout
 timeout_in None = None
 timeout_in (Some h) = Some h.timeout

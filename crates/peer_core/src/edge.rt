@@ -16,6 +16,7 @@ use crate::own::OwnFrames;
 use crate::redial::Redial;
 use crate::rest::Rest;
 use crate::ticking::MOST_SMALL;
+use crate::turns::Turns;
 use bytes::Bytes;
 use edge_frames::{CatchUp, EarlyFrames, HeightFrames, LinkId};
 use peer_links::Way;
@@ -70,6 +71,7 @@ pub struct PeerCore {
     /// A timeout whose rule was refused memory, where there is none to schedule it again.
     pub(crate) unfired: Option<Timeout>,
     pub(crate) rest: Rest,
+    pub(crate) turns: Turns,
     pub(crate) budget: Budget,
     pub(crate) agenda: Agenda,
     pub(crate) outbox: Outbox,
@@ -113,6 +115,7 @@ impl PeerCore {
             plan,
             unfired: None,
             rest: Rest::new(manner.rest, count),
+            turns: manner.turns,
             budget: Budget::new(count),
             agenda: Agenda::new(now, manner.keeping == Keeping::Guarded),
             outbox: Outbox::new(alloc),

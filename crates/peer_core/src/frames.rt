@@ -32,6 +32,10 @@ const EARLY_MOMENTS: u64 = 4;
 /// How long a validator asks for a height until any other one makes its bundle in a large cluster, in milliseconds.
 const LONG_MS: u64 = 5_000;
 
+/// A validator on whose turn a transaction waits stays awake until then, unless that is more than so many times as long as it is awake for a
+/// transaction anyway.
+const TOO_FAR: u64 = 4;
+
 impl PeerCore {
     /// Notes before a frame is handed in what the node may release for it, and returns whether it is to be handed in: a bundle goes
     /// to whom an ask came from.
@@ -172,7 +176,7 @@ impl PeerCore {
             Then::Note { height } => self.catch_up.saw(height, now),
             Then::Halt | Then::Nothing => {}
         }
-        self.rouse(frame, heading, answer, now);
+        self.rouse(link, frame, heading, answer, now);
         reply_to(frame, answer)
     }
 
@@ -230,6 +234,7 @@ impl PeerCore {
     /// Wakes the validator where a frame says that something happens.
     fn rouse(
         &mut self,
+        link: LinkId,
         frame: &[u8],
         heading: Option<Heading>,
         answer: Result<(), Refusal>,
@@ -237,7 +242,7 @@ impl PeerCore {
     ) {
         match heading {
             Some(heading) => self.rouse_by(frame, heading, answer, now),
-            None if answer.is_ok() && is_transaction(frame) => self.rouse_for(frame, now),
+            None if answer.is_ok() && is_transaction(frame) => self.rouse_for(link, frame, now),
             None => {}
         }
     }
@@ -265,12 +270,17 @@ impl PeerCore {
     }
 
     /// Wakes the validator for a transaction that it accepted. Where it rested, or soon would have, the others may rest before its
-    /// turn comes, so it passes the transaction on to them.
-    fn rouse_for(&mut self, frame: &[u8], now: u64) {
-        if self.rest.is_drowsy(self.height) {
+    /// turn comes, so it passes the transaction on to them. So it does where its turn is far, with one that no validator passed on.
+    /// Where that is several times too far it doesn't stay awake until then.
+    fn rouse_for(&mut self, link: LinkId, frame: &[u8], now: u64) {
+        let count = self.turns.heights_to_next(self.height);
+        let is_late = self.rest.is_far(count) && !self.links.is_validators(link);
+        if is_late || self.rest.is_drowsy(self.height) {
             self.pass_to_all(frame, now);
         }
-        self.rest.accepted();
+        if !self.rest.is_far(count / TOO_FAR) {
+            self.rest.accepted();
+        }
         self.rest.wake(self.height);
         self.go_on(now);
     }

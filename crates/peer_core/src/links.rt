@@ -110,6 +110,14 @@ impl PeerLinks {
         if found.id == id { Some(place) } else { None }
     }
 
+    /// Returns whether a validator is behind a link.
+    pub(crate) fn is_validators(&self, id: LinkId) -> bool {
+        match self.place_of(id) {
+            Some(place) => self.links[place].validator().is_some(),
+            None => false,
+        }
+    }
+
     /// The link of this number.
     pub(crate) fn link_mut(&mut self, id: LinkId) -> Option<&mut PeerLink> {
         let place = self.place_of(id)?;

@@ -1,5 +1,7 @@
 //! How a validator keeps its links, and its pace.
 
+use crate::turns::Turns;
+
 /// How a validator keeps its links.
 #[derive(Clone, Copy, Debug, PartialEq, Eq)]
 pub enum Keeping {
@@ -21,14 +23,17 @@ pub struct Manner {
     pub rest: u64,
     /// After how long an address without an open link is dialed again; the pause doubles up to 32 of these.
     pub redial: u64,
+    /// When it proposes, which says whether a transaction can wait for that.
+    pub turns: Turns,
 }
 
 impl Manner {
-    /// Open links, where nothing waits and no height is held open.
+    /// Open links, where nothing waits, no height is held open and no transaction is passed on.
     pub const PLAIN: Manner = Manner {
         keeping: Keeping::Open,
         idle: 0,
         rest: 0,
         redial: 0,
+        turns: Turns::ALL,
     };
 }

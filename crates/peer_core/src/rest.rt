@@ -1,7 +1,7 @@
 //! When a height is held open, since nothing waits anywhere.
 
 ghost use Rattle.std.specs.Prelude.{◌≡◌, None, true, false, if◌then◌else◌};
-ghost use Rattle.peer_core.specs.Resting.{rests, wait_of, is_held, holding, woken, stirred, is_drowsy, timeout_in, due_in, is_due, is_below, ends_by, without};
+ghost use Rattle.peer_core.specs.Resting.{rests, wait_of, is_held, holding, woken, stirred, is_drowsy, is_far, timeout_in, due_in, is_due, is_below, ends_by, without};
 
 use protocol::{Step, Timeout};
 
@@ -96,6 +96,13 @@ impl Rest {
         ensures { result ≡ is_drowsy self.now height }
     {
         self.longest > 0 && self.awake_until <= height.saturating_add(self.heights / 2)
+    }
+
+    /// Returns whether it doesn't stay awake for so many heights.
+    pub fn is_far(&self, count: u64) -> bool
+        ensures { result ≡ is_far self.now count }
+    {
+        count >= self.heights
     }
 
     /// Notes that a transaction was accepted, so that one may wait.

@@ -4,10 +4,11 @@ mod helping;
 mod linking;
 mod resting;
 mod sending;
+mod turns;
 
 use bytes::Bytes;
 use edge_frames::LinkId;
-use peer_core::{Duty, Keeping, Manner, PeerCore, Sending};
+use peer_core::{Duty, Keeping, Manner, PeerCore, Sending, Turns};
 use peer_links::Way;
 use protocol::Refusal;
 use std::alloc::AllocGlobal;
@@ -35,6 +36,7 @@ const GUARDED: Manner = Manner {
     idle: 0,
     rest: 0,
     redial: 1_000,
+    turns: Turns::ALL,
 };
 
 /// Lets validator 1 of four go through a test's steps.

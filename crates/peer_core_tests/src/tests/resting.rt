@@ -1,5 +1,6 @@
 //! Heights that are held open while nothing waits.
 
+use super::turns::turns_of;
 use super::{
     GUARDED, PREVOTE, PROPOSAL, assert_same, came, dial_all, duties, of_round, on_edge, released,
 };
@@ -145,4 +146,69 @@ fn try_an_own_proposal_rests<R: Abort + AllocGlobal>(rt: &R, edge: &mut PeerCore
     assert_same(rt, &duties(edge, 59_999).sent, &0);
     came(edge, 9, &TRANSACTION, Ok(()), 0, 59_999);
     assert_same(rt, &duties(edge, 59_999).sent, &2);
+}
+
+/// A second transaction isn't passed on where its own turn comes soon.
+#[test]
+fn a_near_turn_is_waited_for(rt: HostRuntime) {
+    on_edge(&rt, RESTING, try_a_near_turn_is_waited_for);
+}
+
+fn try_a_near_turn_is_waited_for<R: Abort + AllocGlobal>(rt: &R, edge: &mut PeerCore) {
+    dial_all(rt, edge);
+    let _ = duties(edge, 0);
+    came(edge, 9, &TRANSACTION, Ok(()), 0, 1_000);
+    assert_same(rt, &duties(edge, 1_000).sent, &1);
+    came(edge, 9, &TRANSACTION, Ok(()), 0, 1_000);
+    assert_same(rt, &duties(edge, 1_000).sent, &0);
+    assert!(rt; edge.told(5, 2_000));
+    schedule(rt, edge, 5, 2_000);
+    assert_same(rt, &fired(edge, 2, 3), &1);
+}
+
+/// The second of four validators in this manner, whose turns are the height behind the first hundred of 301, and so on.
+fn seldom<R: Abort + AllocGlobal>(rt: &R, manner: Manner) -> Manner {
+    Manner {
+        turns: turns_of(rt, &[100, 1, 100, 100], 1),
+        ..manner
+    }
+}
+
+/// Where its own turn is far it passes on each transaction of a client, and rests as soon as the others do.
+#[test]
+fn a_far_turn_is_not_waited_for(rt: HostRuntime) {
+    on_edge(&rt, seldom(&rt, RESTING), try_a_far_turn_is_not_waited_for);
+}
+
+fn try_a_far_turn_is_not_waited_for<R: Abort + AllocGlobal>(rt: &R, edge: &mut PeerCore) {
+    dial_all(rt, edge);
+    let _ = duties(edge, 0);
+    came(edge, 9, &TRANSACTION, Ok(()), 0, 1_000);
+    came(edge, 9, &TRANSACTION, Ok(()), 0, 1_000);
+    assert_same(rt, &duties(edge, 1_000).sent, &2);
+    assert!(rt; edge.told(5, 2_000));
+    schedule(rt, edge, 5, 2_000);
+    assert_same(rt, &fired(edge, 2, 61), &0);
+}
+
+/// Where no height is held open it does so too, but not with what a validator passed on, nor shortly before its turn.
+#[test]
+fn awake_a_far_turn_is_not_waited_for(rt: HostRuntime) {
+    on_edge(
+        &rt,
+        seldom(&rt, GUARDED),
+        try_awake_a_far_turn_is_not_waited_for,
+    );
+}
+
+fn try_awake_a_far_turn_is_not_waited_for<R: Abort + AllocGlobal>(rt: &R, edge: &mut PeerCore) {
+    dial_all(rt, edge);
+    let _ = duties(edge, 0);
+    came(edge, 9, &TRANSACTION, Ok(()), 0, 1_000);
+    assert_same(rt, &duties(edge, 1_000).sent, &1);
+    came(edge, 2, &TRANSACTION, Ok(()), 0, 1_000);
+    assert_same(rt, &duties(edge, 1_000).sent, &0);
+    assert!(rt; edge.told(96, 1_000));
+    came(edge, 9, &TRANSACTION, Ok(()), 96, 1_000);
+    assert_same(rt, &duties(edge, 1_000).sent, &0);
 }
