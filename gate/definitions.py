@@ -245,8 +245,8 @@ class Batch:
     def copies(self):
         return [*self.edits.values(), *self.controls.values()]
 
-    def texts(self):
-        """Returns the texts that the check reads in the place of the crate's own, or beside them."""
+    def texts(self, root=None):
+        """Returns the texts that the check reads in the place of the crate's own, or beside them, where the crate's first file has this text."""
         found, declared = {}, {}
         for it in self.copies():
             found.update(it.texts())
@@ -254,7 +254,7 @@ class Batch:
                 declared.setdefault(module.node, []).append((module.name, f"{module.name}{it.mark}"))
         for node, names in declared.items():
             found[node] = with_modules(self.sources.text_of(node), names)
-        root = self.sources.text_of("src/lib.rt")
+        root = root or self.sources.text_of("src/lib.rt")
         # (behind what the file says of itself)
         at = re.search(r"(?m)^(?!//!|#!|\n)", root).start()
         found["src/lib.rt"] = root[:at] + "".join(f"mod {it.above};\n" for it in self.copies()) + root[at:]

@@ -35,7 +35,7 @@ class Function(NamedTuple):
 
     @property
     def key(self):
-        return self.file, self.owner, self.name
+        return self.file, self.block, self.name
 
     def path(self, modules):
         """Its path below the crate, as the check prints it: a type's own function stands where the type does."""
@@ -109,3 +109,18 @@ def opens_body(line, indent):
         return True
     is_clause = line.strip().startswith(("ensures", "requires", "ghost", "//"))
     return not is_clause and line.endswith((" {", " {}"))
+
+
+# What begins an item that is no function, and its name.
+ITEM = re.compile(r"(?:pub(?:\(\w+\))? )?(?:const|static|enum|struct|type) (\w+)\b(?! fn)")
+
+
+def items_of(text):
+    """Returns the text of each item of a file that is no function and stands in no block, by its name: it ends at the line that closes it."""
+    lines, found = text.split("\n"), {}
+    for at, line in enumerate(lines):
+        head = ITEM.match(line)
+        if head:
+            last = next((it for it in range(at, len(lines)) if lines[it].endswith(";") and not lines[it].startswith(" ") or lines[it] == "}"), at)
+            found[head[1]] = "\n".join(lines[at : last + 1])
+    return found

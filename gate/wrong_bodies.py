@@ -6,11 +6,12 @@ usage: gate/wrong_bodies.py [--built] [--anew] [CRATE [EDIT..]]
 Edits of functions' bodies stand in one check together: each in a copy of its function beside it, with the same contract and
 the same proof files. Every other function has a placeholder for its body there (`gate/placeholders.py`). Of a function with proof
 files one more copy, in which nothing is edited, has to be proved there, or its copies tell nothing. Of a method of a trait no
-copy can be made: its edit is made in place, in the same check where no copy calls it, else in a further one. An edit counts as refused
-where the prover names a goal of its copy, or of its function; what its check didn't name goes into a further one, without
+copy can be made: its edit is made in place, in the same check where no copy is likely to call it, else in a further one. An edit counts as
+refused where the prover names a goal of its copy, or of its function; what its check didn't name goes into a further one, without
 placeholders, and in the end is tried alone, as is an edit of a constant or a type. An edit of a definition has a line
 'by: LAW', and that law has to be refused with it. So may an edit of code have, with a function in the law's place: where the
-whole check of its crate is dear, that function alone is checked.
+whole check of its crate is dear, that function alone is checked, together with others that rest on nothing that its edit changes. Edits of
+definitions stand in one check too (`gate/definitions.py`), which is that of the edits of code where there are few of either.
 Beside them stand the edits of crates/NAME/equal/, which say the same in other words: each has to be proved, so that a
 run can't call everything refused.
 
@@ -30,7 +31,7 @@ import threading
 
 sys.dont_write_bytecode = True
 from definitions import NAMES, batches, errors_of
-from functions import functions_of, modules_of_types
+from functions import functions_of, items_of, modules_of_types
 from kept import Kept
 from kit import ONE_JOB, PARTS, TOP, crates as crates_below, guard, rt
 from libraries import where_built
@@ -42,6 +43,8 @@ printing = threading.Lock()
 LAW_SHARE = 0.4
 BATCH_SHARE = 0.8
 CODE_SHARE = 0.75
+# Of this many edits of code, or of a batch of definitions, no check of their own is made where the crate has both: more of them fill a lane.
+MOST_BESIDE = 12
 
 
 def say(text):
@@ -130,18 +133,28 @@ def texts_with(crate, edits):
 CALLS = {"from": r"\?|\binto\(", "fmt": r"!\(", "eq": r"[=!]=", "next": r"\bfor\b", "drop": r"\bfn\b"}
 
 
+def calls(function, owner, text):
+    """Whether a text of a function of this type may call another function."""
+    is_near = function.owner == owner or re.search(rf"\b{function.owner}\b", text)
+    return is_near and re.search("|".join([rf"\b{function.name}\b", *filter(None, [CALLS.get(function.name)])]), text)
+
+
 class Together:
     """Edits of a crate's functions that stand in one check, in copies beside the functions or in place."""
 
     def __init__(self, crate):
         self.crate, self.texts, self.original = crate, Texts(crate), Texts(crate)
-        # Where each edit stands, and the copy without an edit of each function that has copies and proof files.
+        # Where each edit stands, the copy without an edit of each function that has copies and proof files, and of each copy the type that it belongs
+        # to, and its text.
         self.places, self.controls, self.copies = {}, {}, []
 
     def may_call(self, edit):
-        """Whether a copy may call what an edit changes, by what stands in its text."""
-        names = {name for _, _, name in edit.functions}
-        return any(re.search("|".join([rf"\b{name}\b", *filter(None, [CALLS.get(name)])]), it) for name in names for it in self.copies)
+        """Whether a copy may call what an edit changes: it has to do with its type, and has its name or another word for a call of it. (A copy that
+        calls it all the same has no verdict here, and is tried once more.)"""
+        return any(calls(it, owner, text) for it in self.functions_changed(edit) for owner, text in self.copies)
+
+    def functions_changed(self, edit):
+        return [it for file, _, _ in edit.functions for it in functions_of(file, self.original.of(file)) if it.key in edit.functions]
 
     def add_in_place(self, edit):
         taken = {key for places in self.places.values() for key in places}
@@ -173,7 +186,7 @@ class Together:
     def copied(self, function, text, ending):
         """Puts a copy with this text behind the function, with the function's proof files, and returns its key."""
         name = f"{function.name}_{ending}"
-        self.copies.append(text)
+        self.copies.append((function.owner, text))
         lines = self.texts.of(function.file).split("\n")
         at = next(it.last for it in functions_of(function.file, "\n".join(lines)) if it.key == function.key)
         lines[at + 1 : at + 1] = ["", *re.sub(rf"\bfn {function.name}\b", f"fn {name}", text, count=1).split("\n")]
@@ -259,24 +272,29 @@ def checked(crate, texts, flags, kept):
 
 
 class Group:
-    """The check of edits that stand together: of the functions that they change, and of what those call or placeholders for it."""
+    """The check of edits that stand together: of the functions that they change, and of what those call or placeholders for it. A batch of edits of
+    definitions may stand in it too."""
 
-    def __init__(self, together, kept, has_placeholders):
-        self.crate, self.together, self.texts = together.crate, together, Texts(together.crate)
+    def __init__(self, together, kept, has_placeholders, batch=None):
+        self.crate, self.together, self.texts, self.batch = together.crate, together, Texts(together.crate), batch
         where = modules_of_types(self.crate.folder)
         keys = [*together.controls.values(), *(key for places in together.places.values() for key in places)]
         self.texts.changed = {**together.texts.changed}
         if has_placeholders:
             self.texts.changed.update(with_placeholders(self.crate, together.texts.of, keys))
-        paths = {it.path(where) for key in keys for it in self.spans_of(key)}
+        if batch:
+            self.texts.changed.update(batch.texts(self.texts.of("src/lib.rt")))
+        paths = {it.path(where) for key in keys for it in self.spans_of(key)} | {*(batch.only() if batch else ())}
         only = [word for it in sorted(paths) for word in ("--only", it)]
         ran = checked(self.crate, self.texts.changed, [*ONE_JOB, *only], kept)
         if ran.returncode == 2 and paths:
             # (a function that the check calls otherwise)
             ran = checked(self.crate, self.texts.changed, ONE_JOB, kept)
         self.lines = ran.stdout.rstrip("\n").split("\n")
-        reached = ran.returncode in (0, 1) and self.lines[-1].startswith(("logic=", "only="))
-        self.is_read = reached and not any(rt.unread(it, {}) for it in self.lines)
+        self.reached = ran.returncode in (0, 1) and self.lines[-1].startswith(("logic=", "only="))
+        # (what a copy of definitions says is its own)
+        own = (it for it in self.lines if not any(copy.has(it) for copy in (batch.copies() if batch else ())))
+        self.is_read = self.reached and not any(rt.unread(it, {}) for it in own)
 
     def spans_of(self, key):
         return [it for it in functions_of(key[0], self.texts.of(key[0])) if it.key == key]
@@ -286,6 +304,9 @@ class Group:
 
     def verdict(self, edit):
         """Returns whether all is well with the edit and what to say, or None where this check can't tell."""
+        if self.batch and edit in self.batch.edits:
+            said = self.batch.verdict(edit, self.lines) if self.reached else None
+            return (True, f"{edit.label}: {said}") if said else None
         places, control = self.together.places[edit], self.together.controls.get(next(iter(edit.functions), None))
         if not self.is_read or control and not self.has_proved(control):
             return None
@@ -318,6 +339,60 @@ def code_of(crate, law):
     found = [it for file in files for it in functions_of(file, Texts(crate).of(file)) if it.is_named(crate.name, f"{crate.name}::{law}")]
     has_files = any(is_proof_of(it, file) for it in found for file in files_of(crate, "proofs"))
     return found[0] if len(found) == 1 and found[0].body < found[0].last and not has_files else None
+
+
+class Items:
+    """The constants and types of a crate, and which of them a text rests on."""
+
+    def __init__(self, crate):
+        self.found = {}
+        for file in (it for it in files_of(crate, "src") if it.endswith(".rt")):
+            for name, text in items_of(Texts(crate).of(file)).items():
+                # (of items of one name in several files each counts as all)
+                self.found[name] = self.found.get(name, "") + text
+
+    def rested_on(self, text):
+        names, left = set(), [text]
+        while left:
+            new = {*re.findall(r"\w+", left.pop())} & {*self.found} - names
+            names |= new
+            left += [self.found[it] for it in new]
+        return names
+
+    def changed(self, edit):
+        """Returns the items in which the edit's old texts stand, or None where one of them stands elsewhere."""
+        around = [[name for name, text in self.found.items() if old in text] for _, old, _ in edit.pairs]
+        return {it[0] for it in around} if all(len(it) == 1 for it in around) else None
+
+
+def shared(crate, edits):
+    """Returns the edits of constants and types that functions in the place of laws refuse, those together that may stand in one check: no
+    function rests on what an edit of another one changes."""
+    items, groups = Items(crate), []
+    for edit in edits:
+        code, changed = code_of(crate, edit.law), items.changed(edit)
+        if not code or not changed:
+            continue
+        rests = items.rested_on(code.owner + "\n" + "\n".join(Texts(crate).of(code.file).split("\n")[code.first : code.last + 1]))
+        fits = (it for it in groups if all(not (changed & other[2] or rests & other[1]) for other in it))
+        group = next(fits, None)
+        if group is None:
+            groups.append(group := [])
+        group.append((edit, changed, rests))
+    return [[it[0] for it in group] for group in groups if len(group) > 1]
+
+
+def tried_by_functions(crate, edits, note):
+    """Tries edits that may stand in one check, and by itself what it doesn't tell."""
+    together = Together(crate)
+    together.texts = texts_with(crate, edits)
+    if not together.texts:
+        return tried_by_law(crate, edits, note)
+    together.places = {it: [code_of(crate, it.law).key] for it in edits}
+    group = Group(together, None, True)
+    for edit in edits:
+        note(edit, *(group.verdict(edit) or verdict_by_law(crate, edit)))
+    return None
 
 
 def verdict_by_law(crate, edit):
@@ -367,22 +442,33 @@ def tried_in_batches(crate, edits, note):
 
 
 def tried(crate, edits, note):
-    """Tries a crate's edits of code. Each verdict is noted as it is known."""
-    left, alone, is_first = [it for it in edits if it.functions], [it for it in edits if not it.functions], True
+    """Tries a crate's edits of code, and of definitions those of a batch that stands in the first check with them. Each verdict is noted as it is known."""
+    left, alone, is_first = [it for it in edits if it.functions], [it for it in edits if not it.functions and not it.law], True
+    by_law, told = [it for it in edits if it.law], set()
+    batch = next(iter(batches(crate, by_law)), None)
+
+    def verdicts(group):
+        """Notes what a check tells, and returns the edits of code of which it tells nothing."""
+        untold = []
+        for edit in [*group.together.places, *(group.batch.edits if group.batch else ())]:
+            verdict = group.verdict(edit)
+            if verdict:
+                told.add(edit)
+                note(edit, *verdict)
+            elif not edit.law:
+                untold.append(edit)
+        return untold
 
     with tempfile.TemporaryDirectory(prefix="wrong-bodies-") as kept:
         while len(left) > (0 if is_first else 1):
-            untold = []
-            for together in grouped(crate, left, is_first):
-                group = Group(together, kept, is_first)
-                for edit in together.places:
-                    verdict = group.verdict(edit)
-                    note(edit, *verdict) if verdict else untold.append(edit)
+            groups = grouped(crate, left, is_first)
+            untold = [it for at, together in enumerate(groups) for it in verdicts(Group(together, kept, is_first, batch if is_first and not at else None))]
             if len(untold) == len(left) and not is_first:
                 break
             left, is_first = untold, False
         for edit in [*left, *alone]:
             note(edit, *tried_alone(crate, edit, kept))
+    tried_in_batches(crate, [it for it in by_law if it not in told], note)
 
 
 def edits_of(crate, names):
@@ -411,10 +497,20 @@ def tasks_of(crate, edits, kept):
     tasks = {}
     by_law = [it for it in edits if it.law]
     together = [[*it.edits] for it in batches(crate, by_law)]
-    for group in together:
+    if code and together and min(len(code), len(together[0])) <= MOST_BESIDE:
+        beside, *rest = together
+        code += beside
+    else:
+        rest = together
+    for group in rest:
         call = lambda given, jobs, group=group: kept.told(crate, group, tried_in_batches, say)
         tasks[crate.name, "edits", group[0].label] = [], size * len(group), BATCH_SHARE * memory, call
-    for edit in (it for it in by_law if not any(it in group for group in together)):
+    left = [it for it in by_law if not any(it in group for group in together)]
+    sharing = shared(crate, left)
+    for group in sharing:
+        call = lambda given, jobs, group=group: kept.told(crate, group, tried_by_functions, say)
+        tasks[crate.name, "edits", group[0].label] = [], size * len(group), LAW_SHARE * memory, call
+    for edit in (it for it in left if not any(it in group for group in sharing)):
         call = lambda given, jobs, edit=edit: kept.told(crate, [edit], tried_by_law, say)
         tasks[crate.name, "edits", edit.label] = [], size, LAW_SHARE * memory, call
     if code:

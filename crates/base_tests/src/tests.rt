@@ -1,5 +1,6 @@
-//! Powers, keys, plans, refusals, and values and sessions that come next.
+//! Powers, keys, plans, refusals, values and sessions that come next, and a client's side.
 
+mod clients;
 mod key_files;
 mod next_values;
 mod plans;

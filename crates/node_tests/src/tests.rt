@@ -1,5 +1,5 @@
 //! What no schedule tells of a node: its calls and what they answer, the timeouts that it schedules, streams of frames, memory that
-//! is refused, and journals that others wrote. What it answers to frames, `schedules/` tells.
+//! is refused, and journals that others wrote; and of worlds of a few nodes. What a node answers to frames, `schedules/` tells.
 //!
 //! Most are of validator 3 of four of power 1. The key of what validator S sends to it is 32 times the byte 0xSS, and that of
 //! what client 7 sends 32 times the byte 0x77.
@@ -9,11 +9,14 @@ ghost use Rattle.protocol.specs.Tags.{Validator};
 ghost use Rattle.vote_journal.specs.Layout.{IsWhole};
 
 mod base;
+mod core_calls;
 mod memory;
 mod opening;
+mod parties;
 mod proposer;
 mod streams;
 mod timeouts;
+mod worlds;
 
 use authenticators::{KeyRing, Party, hmac};
 use messages::{Body, Proposal, Step as VoteStep, Vote, frame_of, spell_body};

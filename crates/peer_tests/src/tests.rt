@@ -11,7 +11,9 @@ mod bells;
 mod clients;
 mod edges;
 mod failing;
+mod frame_turns;
 mod frames;
+mod kept_frames;
 mod running;
 
 use authenticators::{KeyRing, Party};

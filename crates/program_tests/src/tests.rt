@@ -2,6 +2,7 @@ mod command_lines;
 mod config_files;
 mod drawn_keys;
 mod failures;
+mod metrics;
 mod running;
 
 use std::alloc::AllocError;

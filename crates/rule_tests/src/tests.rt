@@ -20,6 +20,7 @@ use vote_journal::{Journal, Saved, spell_record};
 
 mod scenes;
 mod single;
+mod tallies;
 
 /// Ends the test where what was found is not what is wanted, and shows both.
 fn assert_same<R: Abort, T: PartialEq + Debug>(rt: &R, found: &T, wanted: &T) {

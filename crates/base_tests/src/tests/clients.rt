@@ -1,20 +1,14 @@
 //! A client's side over a stream in memory, and lines of a list.
 
+use super::assert_same;
 use authenticators::{KeyRing, Party};
 use list_client::{ClientFault, Connection, Sender, frame_of, item_of};
 use messages::Reply;
 use std::alloc::Global;
-use std::fmt::Debug;
 use std::io;
 use std::io::{Read, Write};
-use std::process::Abort;
 use std::test::Fail;
 use transactions::{Fault, Op, Seq};
-
-/// Ends the test where what was found is not what is wanted, and shows both.
-fn assert_same<R: Abort, T: PartialEq + Debug>(rt: &R, found: &T, wanted: &T) {
-    assert_eq!(rt; found, wanted);
-}
 
 /// The keys of client 7 with two validators: of ones, and of twos.
 const KEYS: &str =

@@ -1,23 +1,13 @@
-//! Four validators, of whom 0 and 2 lie, and eight clients.
+//! The parties of a world: four validators, of whom 0 and 2 lie, and eight clients.
 
 ghost use Rattle.std.specs.Prelude.{◌≡◌, length};
 
-use super::assert_same;
+use super::{assert_same, four_powers};
 use messages::{Body, Message, Step, Vote, read};
-use powers::Powers;
 use std::alloc::Global;
 use std::process::Abort;
 use transactions::{Item, Op, Seq, Value, read_value, value_id};
 use world_parties::{FaultNumber, Parties, Proposing, Tagged, Voting};
-
-fn four_powers(rt: &impl Abort, alloc: Global) -> Powers
-    ensures { length result ≡ 4 }
-{
-    let each = vec![in alloc; 1, 1, 1, 1].expect(rt, "four numbers have room");
-    let powers = Powers::new(each).expect(rt, "they are powers");
-    assert_same(rt, &powers.count(), &4);
-    powers
-}
 
 fn parties_of(rt: &impl Abort, alloc: Global) -> Parties
     ensures { length result.powers ≡ 4 }

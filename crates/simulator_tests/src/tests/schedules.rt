@@ -8,13 +8,7 @@ mod streams;
 
 use schedule_text::simulate;
 use std::alloc::Global;
-use std::fmt::Debug;
 use std::process::Abort;
-
-/// Ends the test where what was found is not what is wanted, and shows both.
-fn assert_same<R: Abort, T: PartialEq + Debug>(rt: &R, found: &T, wanted: &T) {
-    assert_eq!(rt; found, wanted);
-}
 
 /// A world of four validators, of whom 0, 1 and 2 lie, and these lines.
 fn world(rt: &impl Abort, alloc: Global, lines: &str) -> String {

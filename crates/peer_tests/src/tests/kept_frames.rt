@@ -1,20 +1,13 @@
-//! That frames come out as they went in, and what no contract says: that a call can succeed.
+//! That early frames and those of a height come out as they went in, and what no contract says: that a call can succeed.
 
-mod turns;
-
+use super::assert_same;
 use bytes::Bytes;
 use edge_frames::{
     CatchUp, EarlyFrames, HeightFrames, KeepFault, LinkId, MOST_LINK_FRAMES, MOST_LINKS,
     MOST_SENDER_FRAMES, PassFault,
 };
 use std::alloc::{AllocError, Global};
-use std::fmt::Debug;
 use std::process::Abort;
-
-/// Ends the test where what was found is not what is wanted, and shows both.
-fn assert_same<R: Abort, T: PartialEq + Debug>(rt: &R, found: &T, wanted: &T) {
-    assert_eq!(rt; found, wanted);
-}
 
 /// A frame of one byte.
 fn frame_of(alloc: Global, number: u8) -> Result<Bytes, AllocError> {

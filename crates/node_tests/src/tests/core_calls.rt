@@ -1,4 +1,4 @@
-//! The text of a fault, and that the calls of a core get on.
+//! The text of a fault of a world, and that the calls of a world's core get on.
 
 ghost use Rattle.std.specs.Prelude.{◌≡◌, length};
 ghost use Rattle.protocol.specs.Tags.{Validator};

@@ -1,4 +1,5 @@
-use super::{assert_same, world};
+use super::world;
+use crate::tests::assert_same;
 use schedule_text::{Failure, HELP, simulate};
 use std::alloc::Global;
 use std::io;

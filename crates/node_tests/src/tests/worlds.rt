@@ -1,11 +1,28 @@
 //! What no line of a schedule does to a world of four validators.
 
-use super::{assert_same, run, world};
+use super::assert_same;
+use powers::Powers;
 use std::alloc::Global;
 use std::process::Abort;
 use std::slice;
 use transactions::{Op, Seq};
-use world_schedule::{Event, Failing, FaultNumber, Told, What, World};
+use world_schedule::{Event, Failing, FaultNumber, Report, Told, What, World};
+
+/// Four validators, of whom these lie, and eight clients.
+fn world(rt: &impl Abort, alloc: Global, liars: &[u16]) -> World {
+    let each = vec![in alloc; 1, 1, 1, 1].expect(rt, "four numbers have room");
+    let powers = Powers::new(each).expect(rt, "they are powers");
+    World::new(alloc, powers, 8, liars).expect(rt, "the world has room")
+}
+
+/// A run that no event ends. It has no contract, as a test of values has no use for one, which would go along each way out
+/// of the test.
+fn run(rt: &impl Abort, world: &mut World, events: &[Event]) -> Report {
+    let Ok(report) = world.run(events) else {
+        panic!(rt; "no event ends the run");
+    };
+    report
+}
 
 /// The event and the number of the fault by which a run of these events ends, and how many messages are told before it.
 fn fault_of(world: &mut World, events: &[Event]) -> Option<(u64, FaultNumber, usize)> {

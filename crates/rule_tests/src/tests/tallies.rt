@@ -1,15 +1,12 @@
+//! The tally of a validator: which messages it takes, and the power of their senders.
+
+use super::assert_same;
 use messages::{Proposal, Step, Vote};
 use powers::Powers;
 use std::alloc::Global;
-use std::fmt::Debug;
 use std::process::Abort;
 use transactions::{Id, Shared, Value};
 use vote_tally::*;
-
-/// Ends the test where what was found is not what is wanted, and shows both.
-fn assert_same<R: Abort, T: PartialEq + Debug>(rt: &R, found: &T, wanted: &T) {
-    assert_eq!(rt; found, wanted);
-}
 
 /// The id of a value A.
 const A: Id = [0xaa; 32];

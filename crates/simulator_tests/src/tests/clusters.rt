@@ -1,18 +1,12 @@
 //! That a run is repeated by its seed, that a cluster without faults delivers all, and that a disk which breaks its promise is found.
 
+use super::assert_same;
 use cluster_checks::{Asked, Costs, Failed, Kind, Settings, Trouble, Troubles};
 use cluster_parts::{Chance, Drift};
 use cluster_world::World;
 use peer_core::Keeping;
 use std::alloc::Global;
-use std::fmt::Debug;
-use std::process::Abort;
 use std::test::Fail;
-
-/// Ends the test where what was found is not what is wanted, and shows both.
-fn assert_same<R: Abort, T: PartialEq + Debug>(rt: &R, found: &T, wanted: &T) {
-    assert_eq!(rt; found, wanted);
-}
 
 /// How many events a run has at most.
 const MOST_EVENTS: u64 = 8_000;
