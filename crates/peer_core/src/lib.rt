@@ -30,7 +30,6 @@ mod redial;
 mod rest;
 mod showing;
 mod ticking;
-mod turns;
 
 pub use agenda::TICK_MS;
 pub use answering::{Then, halts, may_release, reply_to, then_after};
@@ -51,4 +50,3 @@ pub use quiet::{has_transactions, is_quiet};
 pub use redial::Redial;
 pub use rest::Rest;
 pub use showing::{is_news, shown_by};
-pub use turns::Turns;

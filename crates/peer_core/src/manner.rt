@@ -1,6 +1,6 @@
 //! How a validator keeps its links, and its pace.
 
-use crate::turns::Turns;
+use proposer_turns::Turns;
 
 /// How a validator keeps its links.
 #[derive(Clone, Copy, Debug, PartialEq, Eq)]

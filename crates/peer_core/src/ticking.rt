@@ -101,7 +101,9 @@ impl PeerCore {
         }
         match self.links.keeping() {
             Keeping::Open => {
-                self.agenda.resends = true;
+                if self.agenda.sends_again(now) {
+                    self.agenda.resends = true;
+                }
                 self.agenda.asks = true;
             }
             Keeping::Guarded => self.tick_guarded(now),

@@ -8,8 +8,9 @@ mod turns;
 
 use bytes::Bytes;
 use edge_frames::LinkId;
-use peer_core::{Duty, Keeping, Manner, PeerCore, Sending, Turns};
+use peer_core::{Duty, Keeping, Manner, PeerCore, Sending};
 use peer_links::Way;
+use proposer_turns::Turns;
 use protocol::Refusal;
 use std::alloc::AllocGlobal;
 use std::fmt::Debug;

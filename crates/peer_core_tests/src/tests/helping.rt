@@ -360,6 +360,39 @@ fn try_own_messages_are_sent_again_by_doubling_pauses<R: Abort + AllocGlobal>(
     }
 }
 
+/// How often the node is to send its own messages again, among at most a thousand duties.
+fn resends(edge: &mut PeerCore, now: u64) -> u32 {
+    let mut count = 0u32;
+    for _ in 0..1_000 {
+        match edge.next_duty(now) {
+            Some(Duty::Resend) => count = count.saturating_add(1),
+            Some(_) => {}
+            None => break,
+        }
+    }
+    count
+}
+
+/// With open links too the own messages are sent again after 1, 3 and 7 seconds.
+#[test]
+fn over_open_links_the_own_messages_are_sent_again_by_doubling_pauses(rt: HostRuntime) {
+    on_edge(
+        &rt,
+        Manner::PLAIN,
+        try_over_open_links_the_own_messages_are_sent_again_by_doubling_pauses,
+    );
+}
+
+fn try_over_open_links_the_own_messages_are_sent_again_by_doubling_pauses<R: Abort + AllocGlobal>(
+    rt: &R,
+    edge: &mut PeerCore,
+) {
+    let _ = resends(edge, 0);
+    for (second, again) in [(1, 1), (2, 0), (3, 1), (4, 0), (5, 0), (6, 0), (7, 1)] {
+        assert_same(rt, &resends(edge, second * 1_000), &again);
+    }
+}
+
 /// What another one said goes to one link at a time where a height stands still.
 #[test]
 fn what_others_said_is_passed_on_by_turns(rt: HostRuntime) {

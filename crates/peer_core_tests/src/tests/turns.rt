@@ -1,8 +1,8 @@
 //! When a validator proposes next.
 
 use super::assert_same;
-use peer_core::Turns;
 use powers::Powers;
+use proposer_turns::Turns;
 use std::alloc::AllocGlobal;
 use std::process::Abort;
 
