@@ -49,13 +49,13 @@ def links_that_are_reset(cluster, is_long):
 
 
 def links_that_are_half_open(cluster, _):
-    """All that comes on a validator's links vanishes, and nothing ends: it is noticed by the silence."""
+    """All that comes on a validator's links vanishes, and nothing ends: it is noticed by the silence, at one end of each link at least."""
     with Switch(cluster.addresses) as switch:
         start_behind(cluster, switch)
         switch.hold_half_open(3)
         want_all_to_go_on(cluster, range(4), 30, "with half-open links")
-    for me in range(4):
-        want("closed: silent for too long" in read(cluster.path(f"v{me}.log")), f"validator {me} logs no link that is silent")
+    silent = {me for me in range(4) if "closed: silent for too long" in read(cluster.path(f"v{me}.log"))}
+    want(3 in silent or silent == {0, 1, 2}, f"a link that is silent is logged by {sorted(silent)} alone")
 
 
 def a_switch_that_is_off_for_a_while(cluster, is_long):

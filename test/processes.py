@@ -174,10 +174,24 @@ def four_print_the_same_and_end(cluster, _):
         cluster.start(me, {"stop": 2})
     cluster.send_until_taken(7, 0, 1, "--data", "61")
     cluster.send_until_taken(7, 0, 2, "--close")
+    processes, lists = {me: cluster.running.pop(me) for me in range(4)}, {me: cluster.list_of(me) for me in range(4)}
+    # Who ends takes its links with it, so the last one may be left behind where a processor is short: it ends once another one is back.
+    behind = [me for me in range(4) if not ended(processes[me], 10)]
+    if behind:
+        cluster.start(next(me for me in range(4) if me not in behind))
     for me in range(4):
-        status = cluster.running.pop(me).wait(timeout=PATIENCE)
+        status = processes[me].wait(timeout=PATIENCE)
         want(status == 0, f"validator {me} ends with status {status}")
-        want(read(cluster.list_of(me)) == "0 7 1 61\n1 7 2 close\n", f"validator {me} prints {read(cluster.list_of(me))!r}")
+        want(read(lists[me]) == "0 7 1 61\n1 7 2 close\n", f"validator {me} prints {read(lists[me])!r}")
+
+
+def ended(process, seconds):
+    """Whether a process ends within so many seconds."""
+    try:
+        process.wait(timeout=seconds)
+    except subprocess.TimeoutExpired:
+        return False
+    return True
 
 
 def what_a_client_is_told(cluster, _):
