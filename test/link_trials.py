@@ -49,7 +49,7 @@ def links_that_are_reset(cluster, is_long):
 
 
 def links_that_are_half_open(cluster, _):
-    """All that comes on a validator's links vanishes, and nothing ends: it is noticed by the silence, at one end of each link at least."""
+    """All that comes on a validator's links vanishes, and nothing ends: it is noticed by the silence, by this validator or by all others."""
     with Switch(cluster.addresses) as switch:
         start_behind(cluster, switch)
         switch.hold_half_open(3)
