@@ -1,15 +1,29 @@
 """Proved libraries in a copy of the checkout, as `rt ci` keeps them on this machine."""
 import contextlib
 import os
+import shutil
 import tempfile
+from glob import glob
 
 from kit import TOP, crates, rt
 
 
+def put_with_wrong_bodies(top):
+    """Moves the edits that `rt ci` tries, in a copy of a checkout, to the other wrong bodies of their crates, so that it tries none."""
+    for folder in glob(f"{top}/crates/*/must-fail"):
+        for name in os.listdir(folder):
+            to = f"{os.path.dirname(folder)}/wrong/{name}"
+            if os.path.exists(to):
+                raise FileExistsError(f"{to} stands in must-fail/ too")
+            shutil.move(f"{folder}/{name}", to)
+        os.rmdir(folder)
+
+
 def prove(names, top, room):
     """Proves these crates and those below them in a copy of a checkout, and returns whether all went well. What an earlier run of `rt ci` proved
-    of the same files is taken from it, and what this proves is kept for the next."""
+    of the same files is taken from it, and what this proves is kept for the next. No edit is tried."""
     rt.copy_crates(top, f"{room}/repo")
+    put_with_wrong_bodies(f"{room}/repo")
     # (so it is the top of a repository)
     os.mkdir(f"{room}/repo/.git")
     os.mkdir(f"{room}/aside")
@@ -34,6 +48,7 @@ def where_built(wanted, is_built):
             return
         if not below:
             rt.copy_crates(TOP, f"{room}/repo")
+            put_with_wrong_bodies(f"{room}/repo")
         os.chdir(f"{room}/repo")
         try:
             names = {it.name for it in wanted}

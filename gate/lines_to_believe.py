@@ -15,8 +15,8 @@ private field is of counts only where something that is counted takes that field
 as the lines that it has when it is wrapped there. The kit's library and its SHA-256 aren't counted, nor contracts, nor
 the computed run of `PremisesMetLaw`, which shows that the headline's premises can hold: name that law to count it.
 
-Where laws determine a definition completely, its body needs no belief: PINNED names it, and the laws' lines and what
-they reach are counted in its place. --files shows what has to be read of each file, and --list each definition with its
+Where laws determine a definition, or all of it that matters to what is said, its body needs no belief: PINNED and PINNED_IN_RUNS
+name it, and the laws' lines and what they reach are counted in its place; the second ones only where that is less to read. --files shows what has to be read of each file, and --list each definition with its
 source and its lines; both show what was pinned.
 """
 import os
@@ -30,6 +30,7 @@ TOP = os.path.dirname(os.path.dirname(os.path.realpath(__file__)))
 CRATES = f"{TOP}/crates"
 PROTOCOL = "Rattle.protocol.specs"
 LAWS, ORDER = f"{PROTOCOL}.Laws", f"{PROTOCOL}.Order"
+FRAMING, HEARD = "Rattle.messages.specs.Framing", "Rattle.message_laws.specs.Heard"
 HEAD = re.compile(r"(?:(?:pub|abbrev|unfoldable|opaque)\s+)*(?:(data|record)\s+)?([^\s:({]+)\s*(?:[({].*)?:(?=\s)")
 BLOCK = re.compile(r"module _ .* where$")
 WORD = re.compile(r"[^\s(){}\[\],;.\"]+")
@@ -71,6 +72,34 @@ PINNED = {
     ),
     (f"{PROTOCOL}.Effects", "timeouts_after"): Pin(
         ((LAWS, "HistoryLaw"),), "the timeouts that the call's events schedule in a run"
+    ),
+}
+# What speaks of the bytes of messages themselves, or of why they are refused.
+OF_BYTES = ((FRAMING, "SpellsFrame"), (FRAMING, "IsMessage"), (f"{PROTOCOL}.Refusals", "answer"))
+SAME = Pin(((HEARD, "SameLaw"),), "it tells whether two are the same")
+APART = Pin(((HEARD, "ApartLaw"),), "it tells apart what is read; which bytes it gives is open, and what is said holds of any", unless=OF_BYTES)
+# By laws on runs: of a law that speaks of runs itself less is left to read.
+PINNED_IN_RUNS = {
+    (FRAMING, "message_of"): Pin(
+        ((HEARD, "ReadLaw"), (HEARD, "HeardLaw")),
+        "bytes are read only as the message whose frame they are, and what a correct validator releases is read, as is a transaction in range; "
+        "which other bytes are read, and which fault is given of those that aren't, is open",
+        unless=OF_BYTES,
+    ),
+    (FRAMING, "frame_spelling"): Pin(
+        ((HEARD, "ReadLaw"), (HEARD, "HeardLaw")), "it is read as that message, and as no other; which bytes it gives is open, and what is said holds of any", unless=OF_BYTES
+    ),
+    ("Rattle.messages.specs.Grammar", "body_spelling"): APART,
+    ("Rattle.transactions.specs.Grammar", "tx_body_spelling"): APART,
+    ("Rattle.transactions.specs.Grammar", "value_spelling"): APART,
+    ("Rattle.messages.specs.Equality", "content_eq"): SAME,
+    ("Rattle.messages.specs.Equality", "round_eq"): SAME,
+    ("Rattle.messages.specs.Equality", "vote_eq"): SAME,
+    ("Rattle.messages.specs.Equality", "proposal_eq"): SAME,
+    ("Rattle.transactions.specs.Equality", "value_eq"): SAME,
+    (f"{PROTOCOL}.Messages", "step_eq"): SAME,
+    (f"{PROTOCOL}.Refusals", "accepts"): Pin(
+        (("Rattle.message_laws.specs.Taken", "TakenLaw"),), "it is so exactly for what is taken in; for which cause the others are refused is open"
     ),
 }
 # laws that reach what a pin leaves open, but say the same whatever it is
@@ -321,22 +350,28 @@ def follow_once(known, start, pins, fields):
         if place is None or place in seen:
             continue
         seen.add(place)
-        left += PINNED[place].laws if place in pins else known.uses(place, fields)
+        left += pins[place].laws if place in pins else known.uses(place, fields)
     return seen
 
 
-def reached(known, laws):
-    """Returns the definitions that these laws reach, themselves among them, and the pinned ones whose bodies no law needs."""
-    needed, pinned = set(), set()
+def reached_by(known, laws, pinned):
+    """Returns the definitions that these laws reach, themselves among them, and of these pinned ones those whose bodies no law needs."""
+    needed, spared = set(), {}
     for law in laws:
-        pins = {*PINNED}
+        pins = pinned
         seen = follow(known, law, pins)
         if law[1] not in INDIFFERENT:
-            pins -= {it for it in pins if seen & {*PINNED[it].unless}}
+            pins = {place: pin for place, pin in pinned.items() if not seen & {*pin.unless}}
             seen = follow(known, law, pins)
-        needed |= seen - pins
-        pinned |= seen & pins
-    return [known.definition(it) for it in sorted(needed)], sorted(pinned - needed)
+        needed |= seen - {*pins}
+        spared |= {place: pins[place] for place in seen & {*pins}}
+    return [known.definition(it) for it in sorted(needed)], {place: pin for place, pin in sorted(spared.items()) if place not in needed}
+
+
+def reached(known, laws):
+    """Returns the same, with those pins by which less is to be read."""
+    both = [reached_by(known, laws, it) for it in (PINNED, {**PINNED, **PINNED_IN_RUNS})]
+    return min(both, key=lambda it: sum(found.count() for found in it[0]))
 
 
 def show_files(known, found):
@@ -370,8 +405,8 @@ def main(words):
                 print(f"{it.count():4} {known.path(it)}:{it.first} {it.name}")
         elif shown:
             show_files(known, found)
-        for place in pinned if shown else []:
-            print(f"pinned: {place[1]} by {' and '.join(name for _, name in PINNED[place].laws)}: {PINNED[place].why}")
+        for place, pin in pinned.items() if shown else []:
+            print(f"pinned: {place[1]} by {' and '.join(name for _, name in pin.laws)}: {pin.why}")
         in_code = [it for it in found if it.module not in known.modules]
         lines, lines_in_code = (sum(it.count() for it in each) for each in (found, in_code))
         print(f"{label}: {lines} lines of {len(found)} definitions, {lines_in_code} of them in {len(in_code)} types of code")

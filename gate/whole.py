@@ -9,7 +9,8 @@ both compilers made it; the pictures of all; one of them with each write of the 
 growths of them, each refused; whole clusters in a simulator, from a hundred seeds; and what `tmnode` says of failures and what a cluster
 of it outlives, as processes. What must not compile and the wrong bodies are tried beside all that comes behind them, so that no processor
 waits; their lines come among the others'. Then come the processor seconds of each crate, and a last line that counts everything. Where
-the layout or `rt ci` fails, nothing behind it is tried.
+the layout or `rt ci` fails, nothing behind it is tried. The edits of must-fail/, each of which `rt ci` tries by a check of its own, stand
+among the wrong bodies here, where it takes some seconds.
 
 What this machine proved before of the same files, and what it told of the same edits, isn't done again; with --anew all is. Every
 test, program and schedule runs each time. The proved programs are left in bin/.
@@ -27,6 +28,7 @@ import time
 
 sys.dont_write_bytecode = True
 from build import PROGRAMS, keep_programs
+from libraries import put_with_wrong_bodies
 
 TOP = os.path.dirname(os.path.dirname(os.path.realpath(__file__)))
 STAGES = {
@@ -201,6 +203,7 @@ def main():
     with tempfile.TemporaryDirectory(prefix="gate-") as copy:
         left_out = shutil.ignore_patterns("out", ".git", "bin", "__pycache__")
         shutil.copytree(TOP, copy, ignore=left_out, symlinks=True, dirs_exist_ok=True)
+        put_with_wrong_bodies(copy)
         os.chdir(copy)
         ran = run_stages(copy, anew)
         os.chdir(TOP)

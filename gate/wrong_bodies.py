@@ -1,5 +1,5 @@
 #!/usr/bin/env python3
-"""Tries the wrong bodies and definitions: the prover has to refuse each edit of crates/NAME/wrong/.
+"""Tries the wrong bodies and definitions: the prover has to refuse each edit of crates/NAME/wrong/ and crates/NAME/must-fail/.
 
 usage: gate/wrong_bodies.py [--built] [--anew] [CRATE [EDIT..]]
 
@@ -474,10 +474,10 @@ def tried(crate, edits, note):
 def edits_of(crate, names):
     """Returns the crate's edits, or those that are named, with the equal bodies, and what is wrong with the others."""
     found, bad = [], []
-    for folder in ("wrong", "equal"):
+    for folder in ("wrong", "must-fail", "equal"):
         path = f"{crate.folder}/{folder}"
         for name in sorted(os.listdir(path)) if os.path.isdir(path) else []:
-            if folder == "wrong" and names and name.removesuffix(".edit") not in names:
+            if folder != "equal" and names and name.removesuffix(".edit") not in names:
                 continue
             try:
                 found.append(Edit(crate, folder, name))

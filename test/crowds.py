@@ -1,12 +1,12 @@
 #!/usr/bin/env python3
 """Runs many validators as processes on this machine: at work, at rest, all stopped for a while, most of them killed.
 
-usage: test/crowds.py (--validators N | --powers P,P,..) [--with PROGRAM] [--seconds S] [--stopped S] [--transactions T]
+usage: test/crowds.py (--validators N | --powers P,P,..) [--with PROGRAM] [--seconds S] [--stopped S] [--transactions T] [--start MS]
 
-Each of N validators has the power 1. With guarded links and nothing to do, N validators decide heights for S seconds, 20 if no number is given; then they are started again to
+With --validators each has the power 1. With guarded links and nothing to do, N validators decide heights for S seconds, 20 if no number is given; then they are started again to
 rest, S seconds long; T transactions, 1,000 if no number is given, are sent to a third of them and one; all are stopped (SIGSTOP) for as long as --stopped says, 30
 seconds if it doesn't, and let go; and two thirds of them and one are killed and started again. Each time heights have to go on, all that was sent has to be
-delivered by all, and no link may be lost for good. It prints a line for each part with what it took, and one with the frames on the links that
+delivered by all, and no link may be lost for good. --start is how long timeouts last at first, 1,000 ms if it isn't given. It prints a line for each part with what it took, and one with the frames on the links that
 validator 0 dialed, by kind and by who said what is in them. It is no part of the gate, as it
 takes minutes and every processor. The status is 0 where all held.
 """
@@ -197,7 +197,7 @@ def most_are_killed(crowd, sent):
 
 
 def main():
-    parser = argparse.ArgumentParser(usage="test/crowds.py (--validators N | --powers P,P,..) [--with PROGRAM] [--seconds S] [--stopped S] [--transactions T]")
+    parser = argparse.ArgumentParser(usage="test/crowds.py (--validators N | --powers P,P,..) [--with PROGRAM] [--seconds S] [--stopped S] [--transactions T] [--start MS]")
     who = parser.add_mutually_exclusive_group(required=True)
     who.add_argument("--validators", type=int)
     who.add_argument("--powers")
