@@ -55,13 +55,13 @@ ENDS = {
 BESIDE = ("what must not compile", "wrong bodies")
 # The stages that keep what they did.
 KEEP = ("proofs, tests and programs", "wrong bodies")
-# About what a whole run takes where nothing is kept, in processor seconds; its table says what it took.
-USUAL = 18_800
+# About what a whole run takes where nothing is kept, in processor seconds, as reckoned; its table says what it took.
+USUAL = 15_700
 # The part of a crate's time that a check belongs to.
 PARTS = ("proof", "tests", "edits")
 TICKS = os.sysconf("SC_CLK_TCK")
-# What runs of the stages.
-RUNNING = []
+# What runs of the stages, and what they spent.
+RUNNING, METERS = [], []
 
 
 class Meter(threading.Thread):
@@ -176,9 +176,11 @@ def run_stages(copy, anew):
 
 
 def end(*_):
-    """Ends the run and what runs of it."""
+    """Ends the run and what runs of it, and shows what was spent so far."""
     for it in RUNNING:
         it.terminate()
+    for it in METERS:
+        show(it.table(), sum(it.spent.values()))
     sys.exit(1)
 
 
@@ -200,6 +202,7 @@ def main():
     print(f"This takes about {minutes:.0f} minutes on these processors where nothing is kept of earlier runs.", flush=True)
     began, meter = time.time(), Meter()
     meter.start()
+    METERS.append(meter)
     with tempfile.TemporaryDirectory(prefix="gate-") as copy:
         left_out = shutil.ignore_patterns("out", ".git", "bin", "__pycache__")
         shutil.copytree(TOP, copy, ignore=left_out, symlinks=True, dirs_exist_ok=True)

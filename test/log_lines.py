@@ -6,10 +6,15 @@ TOP = os.path.dirname(os.path.dirname(os.path.realpath(__file__)))
 # What a placeholder of the table stands for.
 PLACEHOLDERS = {"ADDRESS": r"\S+", "..": ".*", "I": r"\d+", "H": r"\d+", "N": r"\d+", "M": r"\d+", "P": r"\d+"}
 # Those that come after half a minute or more alone, which no trial waits for.
-LATE = ("height H, N items, M a second", "link N: closed: it took nothing for 30 seconds", ".. frames are dropped, since a link has no room")
+LATE = ("height H, N items, M a second", "link N: closed: it took nothing for 30 seconds")
 # Those that no trial brings about: every kind of links has its own places, which together are fewer than all; and what memory is
 # refused to can't be chosen from outside.
-NEVER = ("ADDRESS: closed: there are too many links", ".. since memory is short")
+NEVER = (
+    "ADDRESS: closed: there are too many links",
+    ".. since memory is short",
+    "link N: closed: memory is short",
+    "ADDRESS: closed: out of memory",
+)
 
 
 def rows():

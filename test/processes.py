@@ -265,6 +265,75 @@ def a_validator_that_is_gone_is_told(cluster, _):
     cluster.want_same(3, *range(3))
 
 
+def one_that_hangs_is_given_up(cluster, is_long):
+    """An address that takes no connection, and one that answers nothing, are given up, and the others are asked meanwhile."""
+    for me in range(4):
+        cluster.start(me)
+    cluster.send_until_taken(9, 0, 1, "--data", "")
+    with socket.create_server(("127.0.0.1", 0), backlog=0) as full, socket.create_server(("127.0.0.1", 0)) as silent:
+        full_address, silent_address = (f"127.0.0.1:{it.getsockname()[1]}" for it in (full, silent))
+        held = [socket.create_connection(full.getsockname())]
+        words = cluster.words_of_send(7, 0, 1, "--data", "61")
+        words[words.index("--to") + 1] = f"{full_address},{silent_address},{cluster.addresses[0]}"
+        began = time.monotonic()
+        with subprocess.Popen(words, stdout=subprocess.PIPE, stderr=subprocess.PIPE, text=True) as sender:
+            told = sender.stdout.readline()
+            took = time.monotonic() - began
+            want(told == f"{cluster.addresses[0]} 1 accepted\n" and took < 12, f"after {took:.1f} s it is told {told!r}")
+            if is_long:
+                status = sender.wait(timeout=PATIENCE)
+                want(status == 5 and time.monotonic() - began < 40, f"those that hang are told {status} after {time.monotonic() - began:.0f} s")
+                told = sorted(sender.stdout.read().splitlines())
+                want(told == sorted(f"{it} 1 unanswered" for it in (full_address, silent_address)), f"of those that hang it is told {told}")
+            else:
+                sender.kill()
+        for it in held:
+            it.close()
+    cluster.want_same(2, *range(4))
+
+
+def who_reads_nothing_is_told(cluster, _):
+    """What a link has no room for is dropped, and the log says so: of one that reads no frames, and of a client that reads no replies."""
+    for me in range(4):
+        cluster.start(me, {"idle": 0})
+    cluster.send_until_taken(9, 0, 1, "--data", "")
+    slow = [socket.socket() for _ in range(2)]
+    for it in slow:
+        it.setsockopt(socket.SOL_SOCKET, socket.SO_RCVBUF, 2_048)
+        it.connect(("127.0.0.1", int(cluster.addresses[0].split(":")[1])))
+    frames = transaction_frame(9, 1, b"", cluster.tag_keys_of(9)) * 200
+    wanted = ["frames are dropped, since a link has no room", "replies are dropped, since their link has no room"]
+    ends = time.monotonic() + PATIENCE
+    while missing := [it for it in wanted if it not in read(cluster.path("v0.log"))]:
+        want(time.monotonic() < ends, f"the log says nothing of {missing}")
+        slow[0].settimeout(0.05)
+        try:
+            slow[0].sendall(frames)
+        except OSError:
+            time.sleep(0.05)
+    for it in slow:
+        it.close()
+
+
+def a_list_that_cannot_be_written(cluster, _):
+    """A validator whose list goes to a full disk says so, goes on, and its journal has all."""
+    for me in range(3):
+        cluster.start(me)
+    with open("/dev/full", "w", encoding="utf-8") as full, open(cluster.path("v3.log"), "w", encoding="utf-8") as log:
+        cluster.running[3] = subprocess.Popen(cluster.words(3), stdout=full, stderr=log)
+    lines = ["61" * 1000] * 60
+    status, told = cluster.send_file(7, 1, cluster.file_of(lines))
+    want(status in (0, 1), f"the file is told {status}, {told[:200]}")
+    cluster.want_same(60, *range(3))
+    ends = time.monotonic() + PATIENCE
+    while "the list cannot be written, so it lacks lines from position " not in read(cluster.path("v3.log")):
+        want(time.monotonic() < ends, f"it says nothing of its list: {read(cluster.path('v3.log'))[-400:]!r}")
+        time.sleep(0.1)
+    want(cluster.running[3].poll() is None, "it has ended")
+    ran = subprocess.run([cluster.program, "journal", cluster.path("v3.journal"), "--list"], capture_output=True, text=True, timeout=PATIENCE, check=False)
+    want(ran.stdout.splitlines() == read(cluster.list_of(0)).splitlines(), "its journal lacks lines")
+
+
 def nothing_to_do(cluster, _):
     """Validators with nothing to propose rest, and a transaction wakes them."""
     for me in range(4):
@@ -738,6 +807,9 @@ TESTS = (
     send_of_many,
     a_file_that_is_none,
     a_validator_that_is_gone_is_told,
+    one_that_hangs_is_given_up,
+    a_list_that_cannot_be_written,
+    who_reads_nothing_is_told,
     what_is_logged,
     how_far_it_is,
     the_example,

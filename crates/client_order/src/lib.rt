@@ -6,7 +6,7 @@
 //! a session's items are numbered 1, 2, ..; a close is its session's last item; and each session but the last ends
 //! with one.
 //!
-//! Each theorem is the contract of a function that does nothing, and no other crate uses this one. The words are
+//! Each theorem is the contract of a function that does nothing, and no program rests on it. The words are
 //! defined in `specs/Sessions.antt`.
 #![tactic(auto)]
 

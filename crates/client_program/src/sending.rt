@@ -9,23 +9,46 @@ use crate::many::Delivery;
 use authenticators::Party;
 use key_files::{memory_or, read_ring};
 use node_settings::{Answer, Failure, SendSettings, Sending};
-use std::fs;
-use std::io::Write;
-use std::net::{Net, TcpStream};
+use std::io::{ErrorKind, Write};
+use std::net::{Net, TcpStream, ToSocketAddrs};
 use std::rt::Files;
 use std::sync::Wait;
 use std::thread::Threads;
-use std::time::Clock;
+use std::time::{Clock, Duration};
+use std::{fs, io};
+
+/// How long a client waits for a connection to each socket address, in seconds.
+const CONNECTING_SECONDS: u64 = 5;
+
+/// How long it waits for a validator that neither answers nor takes anything, in seconds.
+const PATIENCE_SECONDS: u64 = 30;
 
 /// Connects to the validator at this address.
 pub(crate) fn connect<R: Net<Stream = TcpStream> + AllocGlobal>(
     rt: &R,
     address: &str,
 ) -> Result<Connection<TcpStream>, Failure> {
-    match TcpStream::connect(rt, address) {
+    match reach(rt, address) {
         Ok(stream) => Ok(Connection::new(rt.alloc(), stream)),
         Err(error) => Err(memory_or(&error, Failure::CannotConnect)),
     }
+}
+
+/// Connects to the first of an address's socket addresses that can be reached.
+fn reach<R: Net<Stream = TcpStream>>(rt: &R, address: &str) -> io::Result<TcpStream> {
+    let connecting = Duration::from_secs(CONNECTING_SECONDS);
+    let mut reached = Err(ErrorKind::AddrNotAvailable.into());
+    for socket in address.to_socket_addrs(rt)? {
+        reached = TcpStream::connect_timeout(rt, &socket, connecting);
+        if reached.is_ok() {
+            break;
+        }
+    }
+    let stream = reached?;
+    let patience = Duration::from_secs(PATIENCE_SECONDS);
+    stream.set_read_timeout(Some(patience))?;
+    stream.set_write_timeout(Some(patience))?;
+    Ok(stream)
 }
 
 /// Sends the frame to the validator at this address, and answers what it says of it.

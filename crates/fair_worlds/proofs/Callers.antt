@@ -160,5 +160,5 @@ module _ (cast : Cast) where
 pub correct_calls_law : CorrectCallsLaw
 correct_calls_law cast = record {
   opening = λ made t. of_turns cast (setting_of cast) _ 0 _ made (ask_all cast (Hands Settle) (correct cast) (in_correct cast)) t;
-  run = λ ms brought events old new report k by. both_by cast ms k.more by (of_events cast _ 0 events k.more _ k.happened);
+  run = λ ms brought events before report k by. both_by cast ms k.more by (of_events cast _ 0 events k.more _ k.happened);
 }

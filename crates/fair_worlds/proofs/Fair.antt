@@ -78,9 +78,9 @@ pub report_law : ReportLaw
 report_law powers count liars events report k clients asked one other i j =
     let cast = k.opened.cast in
     let first : List Made = k.opened.begun.made in
-    let by : AreByCorrect cast (first ++ k.reported.more) = (correct_calls_law cast).run first _ _ _ _ report k.reported ((correct_calls_law cast).opening first k.opened.begun.settled) in
-    outcome_law cast first _ _ _ _ report k.reported (honesty cast clients) (fair_law cast clients (first ++ k.reported.more) by asked) one other i j (at_end one i) (at_end other j)
+    let by : AreByCorrect cast (first ++ k.reported.tells.more) = (correct_calls_law cast).run first _ _ _ report k.reported.tells ((correct_calls_law cast).opening first k.opened.begun.settled) in
+    outcome_law cast first _ _ _ report k.reported.tells (honesty cast clients) (fair_law cast clients (first ++ k.reported.tells.more) by asked) one other i j (at_end one i) (at_end other j)
   where
     at_end : (end : End) → end ∈ report.ends → IsCorrect (setting_of k.opened.cast) (honesty k.opened.cast clients) end.validator
-    at_end end i = let m = in_map (end_of (setting_of k.opened.cast) (calls_of (k.opened.begun.made ++ k.reported.more))) end (correct k.opened.cast) (subst (λ (es : List End). end ∈ es) k.reported.ends_are i) in
+    at_end end i = let m = in_map (end_of (setting_of k.opened.cast) (calls_of (k.opened.begun.made ++ k.reported.tells.more))) end (correct k.opened.cast) (subst (λ (es : List End). end ∈ es) k.reported.tells.ends_are i) in
         subst (λ (e : End). IsCorrect (setting_of k.opened.cast) (honesty k.opened.cast clients) e.validator) m.2 (is_at_correct k.opened.cast clients m.0 (in_correct k.opened.cast m.0 m.1))

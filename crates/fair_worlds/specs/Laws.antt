@@ -13,8 +13,9 @@ use Rattle.world_schedule.specs.Reports.{Made, calls_of, validator_of}
 use Rattle.world_schedule.specs.Making.{Hands, AreTurns, beginning as at_first}
 use Rattle.world_schedule.specs.Events.{asked_of}
 use Rattle.world_schedule.specs.Ends.{EndAsOne}
-use Rattle.world_schedule.specs.Worlds.{HasOpened, IsReport}
+use Rattle.world_schedule.specs.Worlds.{HasOpened, Tells, IsReport}
 use Rattle.world_schedule.specs.declared.event.Event.{Event as WorldEvent}
+use Rattle.world_schedule.specs.declared.report.Told.{Told}
 use Rattle.world_schedule.specs.declared.report.End.{End}
 use Rattle.world_schedule.specs.declared.report.Report.{Report}
 use Rattle.world_schedule.specs.declared.world.World.{World as CodeWorld}
@@ -30,7 +31,7 @@ AreOpening cast made = AreTurns (setting_of cast) at_first 0 (map (asked_of (Han
 
 pub record CallsTheCorrect (cast : Cast) : Type 0 where
   pub opening : (made : List Made) → AreOpening cast made → AreByCorrect cast made
-  pub run : (ms : List Made) (brought : ℕ → ℕ → Bool) (events : List WorldEvent) (old new : CodeWorld) (report : Report) (k : IsReport cast ms brought events old new report) → AreByCorrect cast ms → AreByCorrect cast (ms ++ k.more)
+  pub run : (ms : List Made) (brought : ℕ → ℕ → Bool) (events : List WorldEvent) (before : List Told) (report : Report) (k : Tells cast ms brought events before report) → AreByCorrect cast ms → AreByCorrect cast (ms ++ k.more)
 
 abbrev pub CorrectCallsLaw : Type 0
 CorrectCallsLaw = (cast : Cast) → CallsTheCorrect cast
@@ -66,7 +67,7 @@ pub record IsFirstReport (powers : List ℕ) (clients : ℕ) (liars : List ℕ) 
 
 -- the calls that it tells of
 abbrev pub calls_in : (powers : List ℕ) (clients : ℕ) (liars : List ℕ) (events : List WorldEvent) (report : Report) → IsFirstReport powers clients liars events report → List Call
-calls_in powers clients liars events report k = calls_of (k.opened.begun.made ++ k.reported.more)
+calls_in powers clients liars events report k = calls_of (k.opened.begun.made ++ k.reported.tells.more)
 
 abbrev pub ReportLaw : Type 0
 ReportLaw = (powers : List ℕ) (clients : ℕ) (liars : List ℕ) (events : List WorldEvent) (report : Report) (k : IsFirstReport powers clients liars events report)

@@ -5,7 +5,7 @@
 //! fact: it makes calls of correct validators alone. So of the report of a world's first run, as `tmsim` prints it where
 //! no `state` line parts the run, nothing is asked but these three.
 //!
-//! Each theorem is the contract of a function that does nothing, and no other crate uses this one.
+//! Each theorem is the contract of a function that does nothing, and no program rests on it.
 #![tactic(auto)]
 
 ghost use Rattle.fair_worlds.specs.Laws.{CorrectCallsLaw, FairLaw, ReportLaw};

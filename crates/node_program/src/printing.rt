@@ -4,7 +4,7 @@ ghost use Rattle.std.specs.Prelude.{◌≡◌, ◌≤◌, ◌+◌};
 
 use crate::progress::Progress;
 use locked_node::{LockedNode, Subscription};
-use log::Log;
+use log::{Log, warn};
 use peer_links::Clock;
 use peer_threads::Bell;
 use printed_lines::ItemLine;
@@ -42,6 +42,10 @@ pub(crate) struct Span {
 pub(crate) struct Printout<W: Write + Drop> {
     out: BufWriter<W>,
     span: Span,
+    /// The position of the first line that was left out since it was last asked whether any was.
+    left_out: Option<u64>,
+    /// Whether it was logged that lines are left out since a block was last written.
+    is_told: bool,
 }
 
 impl<W: Write + Drop> Printout<W> {
@@ -50,6 +54,8 @@ impl<W: Write + Drop> Printout<W> {
         Ok(Printout {
             out: BufWriter::with_capacity(alloc, BLOCK_BYTES, out)?,
             span,
+            left_out: None,
+            is_told: false,
         })
     }
 
@@ -79,12 +85,27 @@ impl<W: Write + Drop> Printout<W> {
         if self.has_room() {
             let line = ItemLine::of_item(delivered.position, &delivered.item);
             let _ = writeln!(self.out, "{line}");
+        } else {
+            self.left_out = self.left_out.or(Some(delivered.position));
         }
     }
 
     /// Writes the block. A failed write is passed over: what is left of the block stays for the next one.
     fn write_block(&mut self) {
-        let _ = self.out.flush();
+        if self.out.flush().is_ok() {
+            self.is_told = false;
+        }
+    }
+
+    /// Logs that lines are left out, once until a block can be written again.
+    fn tell<R: Log>(&mut self, rt: &R) {
+        let Some(position) = self.left_out.take() else {
+            return;
+        };
+        if !self.is_told {
+            warn!(rt; "the list cannot be written, so it lacks lines from position {position} on");
+            self.is_told = true;
+        }
     }
 
     /// Prints what waits in the ring. With the last of it the block leaves, so that a line which comes alone leaves at once.
@@ -150,10 +171,11 @@ pub(crate) fn print_until_end<
     mut printout: Printout<W>,
 ) -> Result<(), AllocError> {
     let mut seat = node.seat(rt);
-    let mut progress = Progress::new(clock.now_ms(rt));
+    let mut progress = Progress::new(clock.now_ms(rt), node.status(&mut seat).delivered);
     for _ in rt.forever() {
         let is_last = bell.is_over(rt);
         let told = print_delivered(rt, node, &mut seat, &mut subscription, &mut printout);
+        printout.tell(rt);
         if is_last || printout.is_done() {
             return told;
         }

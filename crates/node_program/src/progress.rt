@@ -15,11 +15,11 @@ pub(crate) struct Progress {
 }
 
 impl Progress {
-    /// No line was told yet.
-    pub(crate) fn new(now: u64) -> Progress {
+    /// No line was told yet, and so many items were delivered before, as the journal has them.
+    pub(crate) fn new(now: u64, delivered: u64) -> Progress {
         Progress {
             since: now,
-            delivered: 0,
+            delivered,
         }
     }
 

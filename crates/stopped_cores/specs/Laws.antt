@@ -11,7 +11,7 @@ use Rattle.vote_journal.specs.History.{Opened, NotOpened, Left, Does}
 use Rattle.node_core.specs.Core.{Core, Stands}
 use Rattle.world_schedule.specs.Calls.{Call, node_after}
 use Rattle.world_schedule.specs.Runs.{IsFair}
-use Rattle.world_schedule.specs.Cores.{IsOwn, IsBeside}
+use Rattle.world_schedule.specs.Cores.{IsOwn, KeepsItsNode}
 use Rattle.world_schedule.specs.Headline.{IsElsewhere, TellOneList}
 use Rattle.world_schedule.specs.Health.{Health, Serving, doubt}
 use Rattle.world_schedule.specs.Making.{Request, IsMetBy}
@@ -22,7 +22,7 @@ pub record GoesOn (c : Setting) (p : ℕ) : Type 0 where
   pub first : (core : Core) → IsOwn c p core → Stands (opened_node p []) core → core.journal.failed ≡ false → IsOver c p [] Serving core
   pub called : (calls : List Call) (health : Health) (request : Request) (numbers : ℕ × ℕ) (before : List (List ℕ)) (core : Core) → (m : IsMetBy c p (node_after c p calls) health request numbers before core) → IsOver c p (calls ++ m.call ∷ []) m.new core
   pub elsewhere : (calls : List Call) (health : Health) (call : Call) (core : Core) → IsElsewhere p call → IsOver c p calls health core → IsOver c p (calls ++ call ∷ []) health core
-  pub beside : (calls : List Call) (health : Health) (old new : Core) → IsBeside old new → IsOver c p calls health old → IsOver c p calls health new
+  pub beside : (calls : List Call) (health : Health) (old new : Core) → KeepsItsNode old new → IsOver c p calls health old → IsOver c p calls health new
 
 -- And so does its store where the core ends, at a close or a stop, until a core is opened over it: no opening finds other records than the validator saved, and at most the one that it was saving, and none
 -- calls what is left no journal.

@@ -62,9 +62,9 @@ unforged_law powers count liars events report k correct_clients s =
     let first : List Made = k.opened.begun.made in
     let few : (p : ℕ) → is_correct cast p ≡ true → AreFew cast = known_few cast _ _ k.opened.begun.is_world.0.0.up k.opened.begun.is_world.0.0.places_are in
     let opening : LeadOn c h at_first (beginning c) first = of_turns c h at_first (beginning c) (first_fits c h) 0 (map (asked_of (Hands Settle)) (correct cast)) (settle_asked c h (correct cast)) first k.opened.begun.settled in
-    leads_unforged c h IsAnyCall at_first (beginning c) (first ++ k.reported.more)
-    (leads_both c h IsAnyCall at_first (beginning c) first k.reported.more (leads_any c h SendsNothing at_first (beginning c) first opening)
-    (λ v l f. of_events cast correct_clients few _ v f nothing_sent (leads_sent c h at_first (beginning c) first opening) 0 events s k.reported.more _ k.reported.happened))
+    leads_unforged c h IsAnyCall at_first (beginning c) (first ++ k.reported.tells.more)
+    (leads_both c h IsAnyCall at_first (beginning c) first k.reported.tells.more (leads_any c h SendsNothing at_first (beginning c) first opening)
+    (λ v l f. of_events cast correct_clients few _ v f nothing_sent (leads_sent c h at_first (beginning c) first opening) 0 events s k.reported.tells.more _ k.reported.tells.happened))
 
 pub schedule_law : ScheduleLaw
 schedule_law powers count liars events report k correct_clients s few_lie distinct one other i j =

@@ -30,7 +30,7 @@ use Rattle.node_core.specs.Core.{Core, Stands, setting, setting_of, frame_by, or
 use Rattle.node_core.specs.Calls.{IsCalled}
 use Rattle.world_schedule.specs.Seeing.{AreAlike, ActsAlike}
 use Rattle.world_schedule.specs.Calls.{Call, Sent, Began, Handed, Asked, Resent, Reopened, moved, lived}
-use Rattle.world_schedule.specs.Cores.{AreOwn, StandsIn, frame_in, OwnLaw, IsCalledIn, CoreLaw, IsBeside, KeptLaw, CalledLaw}
+use Rattle.world_schedule.specs.Cores.{AreOwn, StandsIn, frame_in, OwnLaw, IsCalledIn, CoreLaw, KeepsItsNode, KeptLaw, CalledLaw}
 use Rattle.world_schedule.proofs.Seeing.{seeing_law}
 use Rattle.world_schedule.proofs.Rings.{sends_with}
 use Rattle.world_schedule.proofs.Runs.{holds_turned}
@@ -247,7 +247,7 @@ core_law c p n old s input times new k =
 -- ---- what stays
 
 -- what waits to be taken, and the count of firings, tell of no node
-beside_stands : (c : Setting) (p : ℕ) (n : Node) (old new : Core) → StandsIn c p n old → IsBeside old new → StandsIn c p n new
+beside_stands : (c : Setting) (p : ℕ) (n : Node) (old new : Core) → StandsIn c p n old → KeepsItsNode old new → StandsIn c p n new
 beside_stands c p n old new s b =
     let other : Core = record old { outgoing = new.outgoing; scheduled = new.scheduled; fired = new.fired } in
     let same : other ≡ new = λ i. record {

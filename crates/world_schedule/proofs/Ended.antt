@@ -40,19 +40,21 @@ reported cast ms brought events old begun mid new report k same unspent rest unt
     let all : List Made = ms ++ k.made in
     let last_is : k.last ≡ course_of cast all k.last.brought = lasts cast all k.last (k.leads ∙ sym (scene_append c beginning ms k.made)) in
     let at : Rests cast (course_of cast all k.last.brought) mid.stage = subst (λ x. Rests cast x mid.stage) last_is k.at in record {
-      more = k.made;
-      last = k.last.brought;
-      happened = subst (λ x. HaveHappened cast (course_of cast ms brought) 0 events k.made x) last_is k.happened;
+      tells = record {
+        more = k.made;
+        last = k.last.brought;
+        happened = subst (λ x. HaveHappened cast (course_of cast ms brought) 0 events k.made x) last_is k.happened;
+        told_is = tells ∙ k.told_is ∙ ap (λ v. v.items ++ told c (scene_of cast ms).standing k.made) same;
+        ends_are = ends ∙ ends_are cast all mid.stage.validators.each.items at.0.up at.0.places_are;
+      };
       is_world = (subst (Rests cast (course_of cast all k.last.brought)) (sym (ap (λ (x : World). x.stage) rest)) at, ap (λ (x : World). x.spent) rest ∙ unspent);
-      told_is = tells ∙ k.told_is ∙ ap (λ v. v.items ++ told c (scene_of cast ms).standing k.made) same;
       untold = untold;
-      ends_are = ends ∙ ends_are cast all mid.stage.validators.each.items at.0.up at.0.places_are;
     }
 
 -- all events happened, and memory was refused to the report
 pub unreported : (cast : Cast) (ms : List Made) (brought : ℕ → ℕ → Bool) (events : List Event) (old begun mid new : World) (fault : RunFault) → HaveAll cast (course_of cast ms brought) 0 events begun mid → begun.told ≡ old.told → mid.event ≡ length events → mid.spent ≡ false
-    → fault ≡ record { event = mid.event + 1; number = OutOfMemory; told = mid.told.items } → new ≡ record mid { told = new.told; event = new.event } → IsStop cast ms brought events old new fault
-unreported cast ms brought events old begun mid new fault k same count unspent is rest =
+    → fault ≡ record { event = mid.event + 1; number = OutOfMemory; told = mid.told.items } → new ≡ record mid { told = new.told; event = new.event } → new.told.items ≡ [] → IsStop cast ms brought events old new fault
+unreported cast ms brought events old begun mid new fault k same count unspent is rest untold =
     let c = setting_of cast in
     let all : List Made = ms ++ k.made in
     let last_is : k.last ≡ course_of cast all k.last.brought = lasts cast all k.last (k.leads ∙ sym (scene_append c beginning ms k.made)) in
@@ -66,14 +68,15 @@ unreported cast ms brought events old begun mid new fault k same count unspent i
       happened = subst (λ es. HaveHappened cast (course_of cast ms brought) 0 es k.made (course_of cast all k.last.brought)) (sym (take_all (length events) events (omega arith)))
           (subst (λ x. HaveHappened cast (course_of cast ms brought) 0 events k.made x) last_is k.happened);
       told_is = ap (λ (x : RunFault). x.told) is ∙ k.told_is ∙ ap (λ v. v.items ++ told c (scene_of cast ms).standing k.made) same;
+      untold = untold;
       is_world = inl (subst (Rests cast (course_of cast all k.last.brought)) (sym (ap (λ (x : World). x.stage) rest)) at, ap (λ (x : World). x.spent) rest ∙ unspent);
       cause = λ other. absurd (other (ap (λ (x : RunFault). x.number) is));
     }
 
 -- an event couldn't happen
 pub halted : (cast : Cast) (ms : List Made) (brought : ℕ → ℕ → Bool) (events : List Event) (number : FaultNumber) (old begun mid new : World) (fault : RunFault) → HaveSome cast (course_of cast ms brought) events number begun mid → begun.told ≡ old.told
-    → fault ≡ record { event = mid.event; number = number; told = mid.told.items } → new ≡ record mid { told = new.told } → IsStop cast ms brought events old new fault
-halted cast ms brought events number old begun mid new fault k same is rest =
+    → fault ≡ record { event = mid.event; number = number; told = mid.told.items } → new ≡ record mid { told = new.told } → new.told.items ≡ [] → IsStop cast ms brought events old new fault
+halted cast ms brought events number old begun mid new fault k same is rest untold =
     let c = setting_of cast in
     let all : List Made = ms ++ k.made in
     let last_is : k.last ≡ course_of cast all k.last.brought = lasts cast all k.last (k.leads ∙ sym (scene_append c beginning ms k.made)) in
@@ -85,6 +88,7 @@ halted cast ms brought events number old begun mid new fault k same is rest =
       last = k.last.brought;
       happened = subst (λ x. HaveHappened cast (course_of cast ms brought) 0 (take k.before events) k.made x) last_is k.happened;
       told_is = ap (λ (x : RunFault). x.told) is ∙ k.told_is ∙ ap (λ v. v.items ++ told c (scene_of cast ms).standing k.made) same;
+      untold = untold;
       is_world = elim k.rests [
         | inl r ↦ inl (subst (Rests cast (course_of cast all k.last.brought)) (sym (ap (λ (x : World). x.stage) rest)) (subst (λ x. Rests cast x mid.stage) last_is r.0), ap (λ (x : World). x.spent) rest ∙ r.1)
         | inr s ↦ inr (record { starved = ap (λ (x : RunFault). x.number) is ∙ s.starved; spent = ap (λ (x : World). x.spent) rest ∙ s.spent })

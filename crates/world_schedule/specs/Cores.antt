@@ -58,7 +58,7 @@ abbrev pub CoreLaw : Type 0
 CoreLaw = (c : Setting) (p : ℕ) (n : Node) (old : Core) → StandsIn c p n old → (input : Input) (times : ℕ) (new : Core) → IsCalled n input times old new → IsCalledIn c p n input times old new
 
 -- nothing that a node is changed: only what waits to be taken, and the count of firings
-pub record IsBeside (old new : Core) : Type 0 where
+pub record KeepsItsNode (old new : Core) : Type 0 where
   pub machine : new.machine ≡ old.machine
   pub ring : new.ring ≡ old.ring
   pub queues : new.queues ≡ old.queues
@@ -69,7 +69,7 @@ pub record IsBeside (old new : Core) : Type 0 where
 -- A core stands for its node from its opening on, and while nothing of it changes; its ask and its own messages, sent again, have the world's tags; and where it is quiet, its node is.
 pub record KeepsStanding (c : Setting) (p : ℕ) : Type 0 where
   pub first : (core : Core) → IsOwn c p core → Stands (opened p []) core → StandsIn c p (opened p []) core
-  pub beside : (n : Node) (old new : Core) → StandsIn c p n old → IsBeside old new → StandsIn c p n new
+  pub beside : (n : Node) (old new : Core) → StandsIn c p n old → KeepsItsNode old new → StandsIn c p n new
   pub unchanged : (n : Node) (old new : Core) → StandsIn c p n old → IsUnchanged old new → StandsIn c p n new
   pub broken : (n : Node) (old new : Core) → StandsIn c p n old → new ≡ record old { journal = new.journal; fired = 0 } → new.journal.failed ≡ true → StandsIn c p n new
   pub asked : (n : Node) (core : Core) → StandsIn c p n core → frame_by core (OfAsk (record { height = core.machine.state.height; sender = core.machine.me })) ≡ frame_in c (OfAsk (record { height = n.state.height; sender = p }))

@@ -14,7 +14,7 @@ use Rattle.node_core.specs.Core.{Core, Stands, delivered_in}
 use Rattle.node_core.specs.Calls.{EachIsNamed, IsCalled}
 use Rattle.world_schedule.specs.Calls.{Call, Sent, Began, Handed, Asked, Resent, Reopened, node_after, sent}
 use Rattle.world_schedule.specs.Runs.{IsFair}
-use Rattle.world_schedule.specs.Cores.{IsOwn, StandsIn, IsBeside}
+use Rattle.world_schedule.specs.Cores.{IsOwn, StandsIn, KeepsItsNode}
 
 -- The core is validator p's after these calls.
 abbrev pub IsAfter : Setting → ℕ → List Call → Core → Type 0
@@ -39,7 +39,7 @@ pub record GoesOn (c : Setting) (p : ℕ) : Type 0 where
   pub reopened : (calls : List Call) (cut : Option Cut) (core : Core) → IsOwn c p core → Stands (opened p (found_after c p calls cut)) core → IsAfter c p (calls ++ Reopened p cut ∷ []) core
   pub called : (calls : List Call) (input : Input) (times : ℕ) (old new : Core) → IsAfter c p calls old → IsCalled (node_after c p calls) input times old new → IsAfter c p (calls ++ Handed p input times ∷ []) new
   pub elsewhere : (calls : List Call) (call : Call) (core : Core) → IsElsewhere p call → IsAfter c p calls core → IsAfter c p (calls ++ call ∷ []) core
-  pub beside : (calls : List Call) (old new : Core) → IsBeside old new → IsAfter c p calls old → IsAfter c p calls new
+  pub beside : (calls : List Call) (old new : Core) → KeepsItsNode old new → IsAfter c p calls old → IsAfter c p calls new
 
 abbrev pub StepLaw : Type 0
 StepLaw = (c : Setting) (p : ℕ) → GoesOn c p

@@ -8,15 +8,15 @@ use Rattle.world_schedule.specs.Calls.{Call}
 use Rattle.world_schedule.specs.Runs.{IsFair}
 use Rattle.world_schedule.specs.Reports.{Made, calls_of}
 use Rattle.world_schedule.specs.Ends.{EndAsOne}
-use Rattle.world_schedule.specs.Worlds.{IsReport}
+use Rattle.world_schedule.specs.Worlds.{Tells}
 use Rattle.world_schedule.specs.declared.event.Event.{Event}
 use Rattle.world_schedule.specs.declared.report.End.{End}
 use Rattle.world_schedule.specs.declared.report.Report.{Report}
-use Rattle.world_schedule.specs.declared.world.World.{World}
+use Rattle.world_schedule.specs.declared.report.Told.{Told}
 
 -- Of what any two ends of one report tell that was delivered one begins the other, where the run of its calls is fair.
 abbrev pub OutcomeLaw : Type 0
-OutcomeLaw = (cast : Cast) (ms : List Made) (brought : ℕ → ℕ → Bool) (events : List Event) (old new : World) (report : Report) (k : IsReport cast ms brought events old new report) (h : Honesty) → IsFair (setting_of cast) h (calls_of (ms ++ k.more))
+OutcomeLaw = (cast : Cast) (ms : List Made) (brought : ℕ → ℕ → Bool) (events : List Event) (before : List Told) (report : Report) (k : Tells cast ms brought events before report) (h : Honesty) → IsFair (setting_of cast) h (calls_of (ms ++ k.more))
     → (one other : End) → one ∈ report.ends → other ∈ report.ends → IsCorrect (setting_of cast) h one.validator → IsCorrect (setting_of cast) h other.validator → EndAsOne h (calls_of (ms ++ k.more)) one other
 
 -- ---- two reports of one world
@@ -28,6 +28,6 @@ pub record AreLater (c : Setting) (calls : List Call) (early late : End) : Type 
 
 -- So it is with any end of a report and any of a later one of the same world, whatever calls were made between.
 abbrev pub ReportsLaw : Type 0
-ReportsLaw = (cast : Cast) (ms between : List Made) (brought brought_then : ℕ → ℕ → Bool) (events events_then : List Event) (old new old_then new_then : World) (report later : Report)
-    (k : IsReport cast ms brought events old new report) (l : IsReport cast ((ms ++ k.more) ++ between) brought_then events_then old_then new_then later)
+ReportsLaw = (cast : Cast) (ms between : List Made) (brought brought_then : ℕ → ℕ → Bool) (events events_then : List Event) (before before_then : List Told) (report later : Report)
+    (k : Tells cast ms brought events before report) (l : Tells cast ((ms ++ k.more) ++ between) brought_then events_then before_then later)
     → (one other : End) → one ∈ report.ends → other ∈ later.ends → AreLater (setting_of cast) (calls_of (((ms ++ k.more) ++ between) ++ l.more)) one other

@@ -26,6 +26,7 @@ use Rattle.world_schedule.specs.declared.event.Event.{Event}
 use Rattle.world_schedule.specs.declared.fault.RunFault.{RunFault}
 use Rattle.world_schedule.specs.declared.report.Report.{Report}
 use Rattle.world_schedule.specs.declared.report.End.{End}
+use Rattle.world_schedule.specs.declared.report.Told.{Told}
 use Rattle.world_schedule.specs.declared.stage.Stage.{Stage}
 use Rattle.world_schedule.specs.declared.world.World.{World}
 
@@ -186,15 +187,19 @@ pub record HaveSome (cast : Cast) (w : Course) (events : List Event) (fault : Fa
   pub event_at : slice_get events before ≡ Some event
   pub cause : CannotHappen fault cast last.scene.standing event
 
--- The report is that of the calls that the events are: those that were made before stand.
-pub record IsReport (cast : Cast) (ms : List Made) (brought : ℕ → ℕ → Bool) (events : List Event) (old new : World) (report : Report) : Type 0 where
+-- After this was told, the report tells of the calls that the events are, and how the validators then end.
+pub record Tells (cast : Cast) (ms : List Made) (brought : ℕ → ℕ → Bool) (events : List Event) (before : List Told) (report : Report) : Type 0 where
   pub more : List Made
   pub last : ℕ → ℕ → Bool
   pub happened : HaveHappened cast (record { scene = scene_of cast ms; brought = brought }) 0 events more (record { scene = scene_of cast (ms ++ more); brought = last })
-  pub is_world : IsWorld cast (ms ++ more) last new
-  pub told_is : report.told ≡ old.told.items ++ told (setting_of cast) (scene_of cast ms).standing more
-  pub untold : new.told.items ≡ []
+  pub told_is : report.told ≡ before ++ told (setting_of cast) (scene_of cast ms).standing more
   pub ends_are : report.ends ≡ map (end_of (setting_of cast) (calls_of (ms ++ more))) (correct cast)
+
+-- It tells so behind what was told before, and the world stands as those calls left it, with nothing left to tell.
+pub record IsReport (cast : Cast) (ms : List Made) (brought : ℕ → ℕ → Bool) (events : List Event) (old new : World) (report : Report) : Type 0 where
+  pub tells : Tells cast ms brought events old.told.items report
+  pub is_world : IsWorld cast (ms ++ tells.more) tells.last new
+  pub untold : new.told.items ≡ []
 
 -- The event after some of these can't happen, for its first cause: those before it stand, and are told. The world stands as they left it, or is spent.
 pub record IsStop (cast : Cast) (ms : List Made) (brought : ℕ → ℕ → Bool) (events : List Event) (old new : World) (fault : RunFault) : Type 0 where
@@ -205,5 +210,6 @@ pub record IsStop (cast : Cast) (ms : List Made) (brought : ℕ → ℕ → Bool
   pub last : ℕ → ℕ → Bool
   pub happened : HaveHappened cast (record { scene = scene_of cast ms; brought = brought }) 0 (take before events) more (record { scene = scene_of cast (ms ++ more); brought = last })
   pub told_is : fault.told ≡ old.told.items ++ told (setting_of cast) (scene_of cast ms).standing more
+  pub untold : new.told.items ≡ []
   pub is_world : IsWorld cast (ms ++ more) last new ⊎ IsSpent fault.number new
   pub cause : fault.number ≢ OutOfMemory → (event : Event) × (slice_get events before ≡ Some event) × CannotHappen fault.number cast (scene_of cast (ms ++ more)).standing event

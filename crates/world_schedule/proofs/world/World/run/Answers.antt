@@ -12,9 +12,9 @@ pub returns-in-Ok-clause-err : goal.returns-in-Ok-clause-err
 returns-in-Ok-clause-err c = λ cast ms brought at.
     let old = c.args.self.now in
     if_err _ _ c.report.result c.report.ensures.err (λ fault is. unreported cast ms brought c.args.events.now old _ c.happen_all.new.self c.report.new.self fault
-    (c.in-Ok.ensures.ok cast (course_of cast ms brought) at.0) refl c.in-Ok.ensures.count (c.in-Ok.ensures.serves ∙ at.1) is c.report.ensures.rest)
+    (c.in-Ok.ensures.ok cast (course_of cast ms brought) at.0) refl c.in-Ok.ensures.count (c.in-Ok.ensures.serves ∙ at.1) is c.report.ensures.rest c.report.ensures.untold)
 
 pub returns-in-Err-clause-err : goal.returns-in-Err-clause-err
 returns-in-Err-clause-err c = λ cast ms brought at.
     halted cast ms brought c.args.events.now c.in-Err.number c.args.self.now _ c.happen_all.new.self c.stopped.new.self c.stopped.result
-    (c.in-Err.ensures.err cast (course_of cast ms brought) at.0) refl c.stopped.ensures.fault c.stopped.ensures.rest
+    (c.in-Err.ensures.err cast (course_of cast ms brought) at.0) refl c.stopped.ensures.fault c.stopped.ensures.rest c.stopped.ensures.untold
