@@ -279,10 +279,10 @@ def one_that_hangs_is_given_up(cluster, is_long):
         with subprocess.Popen(words, stdout=subprocess.PIPE, stderr=subprocess.PIPE, text=True) as sender:
             told = [sender.stdout.readline() for _ in range(2)]
             took = time.monotonic() - began
-            want(told == [f"{full_address} 1 unanswered\n", f"{cluster.addresses[0]} 1 accepted\n"] and took < 12, f"after {took:.1f} s it is told {told}")
+            want(told == [f"{full_address} 1 unanswered\n", f"{cluster.addresses[0]} 1 accepted\n"] and took < 60, f"after {took:.1f} s it is told {told}")
             if is_long:
                 status = sender.wait(timeout=PATIENCE)
-                want(status == 5 and time.monotonic() - began < 40, f"those that hang are told {status} after {time.monotonic() - began:.0f} s")
+                want(status == 5 and time.monotonic() - began < 100, f"those that hang are told {status} after {time.monotonic() - began:.0f} s")
                 told = sender.stdout.read()
                 want(told == f"{silent_address} 1 unanswered\n", f"of the one that answers nothing it is told {told!r}")
             else:
