@@ -321,10 +321,11 @@ def a_list_that_cannot_be_written(cluster, _):
         cluster.start(me)
     with open("/dev/full", "w", encoding="utf-8") as full, open(cluster.path("v3.log"), "w", encoding="utf-8") as log:
         cluster.running[3] = subprocess.Popen(cluster.words(3), stdout=full, stderr=log)
-    lines = ["61" * 1000] * 60
-    status, told = cluster.send_file(7, 1, cluster.file_of(lines))
+    cluster.send_until_taken(9, 0, 1, "--data", "")
+    cluster.send_until_taken(9, 3, 2, "--data", "")
+    status, told = cluster.send_file(7, 1, cluster.file_of(["61" * 1000] * 60))
     want(status in (0, 1), f"the file is told {status}, {told[:200]}")
-    cluster.want_same(60, *range(3))
+    cluster.want_same(62, *range(3))
     ends = time.monotonic() + PATIENCE
     while "the list cannot be written, so it lacks lines from position " not in read(cluster.path("v3.log")):
         want(time.monotonic() < ends, f"it says nothing of its list: {read(cluster.path('v3.log'))[-400:]!r}")
