@@ -2,6 +2,7 @@
 import hashlib
 import hmac
 import os
+import random
 import resource
 import socket
 import subprocess
@@ -14,6 +15,10 @@ PATIENCE = 120
 # The first byte of a body, and that of a record of a journal (docs/FORMATS.md).
 PROPOSAL, PREVOTE, PRECOMMIT, ASK, BUNDLE = 0x10, 0x11, 0x12, 0x13, 0x14
 OWN, LOCK, DECISION, MARK = 0x01, 0x02, 0x03, 0x04
+
+
+# The ports that were given to a test.
+GIVEN_PORTS = set()
 
 
 class Failed(Exception):
@@ -40,12 +45,18 @@ def among(powers):
 
 
 def free_addresses(count):
-    held = [socket.socket() for _ in range(count)]
-    for it in held:
-        it.bind(("127.0.0.1", 0))
-    found = [f"127.0.0.1:{it.getsockname()[1]}" for it in held]
-    for it in held:
-        it.close()
+    """Returns addresses that nobody has, of ports that the system gives to nobody who dials, and none of them twice."""
+    found = []
+    while len(found) < count:
+        port = random.randrange(10_000, 32_000)
+        with socket.socket() as it:
+            try:
+                it.bind(("127.0.0.1", port))
+            except OSError:
+                continue
+        if port not in GIVEN_PORTS:
+            GIVEN_PORTS.add(port)
+            found.append(f"127.0.0.1:{port}")
     return found
 
 
