@@ -11,11 +11,12 @@ from kit import TOP, crates, rt
 def put_with_wrong_bodies(top):
     """Moves the edits that `rt ci` tries, in a copy of a checkout, to the other wrong bodies of their crates, so that it tries none."""
     for folder in glob(f"{top}/crates/*/must-fail"):
+        beside = f"{os.path.dirname(folder)}/wrong"
+        os.makedirs(beside, exist_ok=True)
         for name in os.listdir(folder):
-            to = f"{os.path.dirname(folder)}/wrong/{name}"
-            if os.path.exists(to):
-                raise FileExistsError(f"{to} stands in must-fail/ too")
-            shutil.move(f"{folder}/{name}", to)
+            if os.path.exists(f"{beside}/{name}"):
+                raise FileExistsError(f"{beside}/{name} stands in must-fail/ too")
+            shutil.move(f"{folder}/{name}", f"{beside}/{name}")
         os.rmdir(folder)
 
 

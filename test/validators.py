@@ -15,8 +15,6 @@ PATIENCE = 120
 # The first byte of a body, and that of a record of a journal (docs/FORMATS.md).
 PROPOSAL, PREVOTE, PRECOMMIT, ASK, BUNDLE = 0x10, 0x11, 0x12, 0x13, 0x14
 OWN, LOCK, DECISION, MARK = 0x01, 0x02, 0x03, 0x04
-
-
 # The ports that were given to a test.
 GIVEN_PORTS = set()
 

@@ -17,7 +17,7 @@ use Rattle.protocol.specs.Refusals.{context, causes, accepts, first_cause}
 use Rattle.protocol.specs.Arrivals.{Outcome, nothing, arrival_of, received, taken_in, firing}
 use Rattle.protocol.specs.World.{World, Event, Sends, Comes, Fires, Asks, Resends, Restarts, Cut, InArrival, InFiring, happens, run, beginning, is_bundles, tried, cut_record, moved}
 use Rattle.protocol.specs.Laws.{Grows}
-use Rattle.protocol.specs.Premises.{Honesty, Unforged, AtCorrect, at_validator}
+use Rattle.protocol.specs.Premises.{Honesty, AtCorrect, at_validator}
 use Rattle.protocol.proofs.Arrivals.{none_stand, try_cases}
 use Rattle.protocol.proofs.Frames.{frame_law}
 use Rattle.protocol.proofs.Membership.{in_append}
@@ -137,9 +137,9 @@ module _ (c : Setting) (one : 1 ≤ length c.powers) (few : length c.powers ≤ 
     happens_fits w (Resends p) f at fits = moves w p _ f (releases (w.nodes p) (own_since p (w.nodes p).journal) (f.nodes p at.0) (since_fits p (small p at.0 (w.nodes p) (f.nodes p at.0)) (w.nodes p).journal (f.nodes p at.0).journal))
     happens_fits w (Restarts p cut) f at fits = moves w p _ f (releases (opened p (cut_record c p (w.nodes p) cut ++ (w.nodes p).journal)) [] (restarted_fits p at.0 (w.nodes p) (f.nodes p at.0) cut fits) (λ b i. absurd i))
 
-    run_fits : (w : World) (es : List Event) → WorldFits w → Unforged c h w es → AllByRecursion HasBytes es → WorldFits (run c w es)
-    run_fits w [] f u fits = f
-    run_fits w (e ∷ es) f u fits = run_fits (happens c w e) es (happens_fits w e f u.0 fits.0) u.2 fits.1
+    run_fits : (w : World) (es : List Event) → WorldFits w → AllByRecursion (λ e. AtCorrect c h (at_validator e) × HasBytes e) es → WorldFits (run c w es)
+    run_fits w [] f fits = f
+    run_fits w (e ∷ es) f fits = run_fits (happens c w e) es (happens_fits w e f fits.0.0 fits.0.1) fits.1
 
   begins_fit : WorldFits (beginning c)
   begins_fit = record {
@@ -152,6 +152,6 @@ module _ (c : Setting) (one : 1 ≤ length c.powers) (few : length c.powers ≤ 
 
 pub heard_law : HeardLaw
 heard_law c one few = (
-  λ h events u fits b i. heard c one few b ((run_fits c one few h (beginning c) events (begins_fit c one few) u fits).released b i),
+  λ h events fits b i. heard c one few b ((run_fits c one few h (beginning c) events (begins_fit c one few) fits).released b i),
   λ t h none. heard c one few (OfTx t) (h, none),
 )

@@ -10,7 +10,7 @@ use Rattle.protocol.specs.Tags.{Setting, right}
 use Rattle.protocol.specs.Messages.{◌∈◌, step_eq, Body, OfTx, Message, Proposal, Vote, content_eq, round_eq, vote_eq, proposal_eq, sender_of, tagged}
 use Rattle.protocol.specs.declared.types.Step.{Step}
 use Rattle.protocol.specs.World.{Event, Comes, Restarts, InArrival, beginning, run}
-use Rattle.protocol.specs.Premises.{Honesty, Unforged, BodyHas}
+use Rattle.protocol.specs.Premises.{Honesty, AtCorrect, at_validator, BodyHas}
 
 abbrev pub AreBytes : List ℕ → Type 0
 AreBytes bytes = AllByRecursion (λ b. b < 256) bytes
@@ -29,10 +29,10 @@ HasBytes (Comes p bytes) = AreBytes bytes
 HasBytes (Restarts p (Some (InArrival bytes))) = AreBytes bytes
 HasBytes _ = Unit {0}
 
--- Whatever comes, what a correct validator releases is heard; so is a transaction in range.
+-- Whatever bytes come to correct validators, what these release is heard; so is a transaction in range.
 abbrev pub HeardLaw : Type 0
 HeardLaw = (c : Setting) → 1 ≤ length c.powers → length c.powers ≤ 128 →
-    ((h : Honesty) (events : List Event) → Unforged c h (beginning c) events → AllByRecursion HasBytes events → (b : Body) → b ∈ (run c (beginning c) events).released → IsHeard c b)
+    ((h : Honesty) (events : List Event) → AllByRecursion (λ e. AtCorrect c h (at_validator e) × HasBytes e) events → (b : Body) → b ∈ (run c (beginning c) events).released → IsHeard c b)
     × ((t : Tx) → IsTxBody t → t.tags ≡ [] → IsHeard c (OfTx t))
 
 -- Of what is read no two bodies have the same bytes, and no two values in them; nor have two transactions in range, but for their tags.
