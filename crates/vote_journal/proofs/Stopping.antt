@@ -169,7 +169,7 @@ module _ {S : Type 0} (seen : S → List ℕ) (may_leave : S → List ℕ → Ty
     ))
   ]
 
-  opens : (p : ℕ) (n : Node) (calls : List Call) (store new : S) (broken : Option Cut) (rs : List Record) → Agrees p n calls store broken → Does seen may_leave c.powers p (Opened rs) store new → Agrees p (opened p (reverse rs)) (Opened rs ∷ calls) new broken
+  opens : (p : ℕ) (n : Node) (calls : List Call) (store new : S) (broken : Option Cut) (rs : List Record) → Agrees p n calls store broken → Does seen may_leave c.powers p (Opened rs) store new → Agrees p (opened p (reverse rs)) (Opened rs ∷ calls) new None
   opens p n calls store new broken rs a does =
       let found = found_cut rs n.journal broken in
       let is : cut_record c p n found ++ n.journal ≡ reverse rs = sym (restarted c p n broken rs (finding p n calls store new broken rs a does)) in
@@ -220,14 +220,15 @@ module _ {S : Type 0} (seen : S → List ℕ) (may_leave : S → List ℕ → Ty
       (λ t. subst (λ i. Agrees i (d.world.nodes i) (Broken r ∷ d.calls p) new (Some cut)) (sym (eqb-true q p t)) (breaks p (d.world.nodes p) (d.calls p) (d.store p) new (d.broken p) cut r (a p) up e is.0 is.1))
       (λ _. a q)
 
-  -- one call beside the world's events
-  calls : (d : Stored S) (p : ℕ) (m : Node) (call : Call) (new : S) → AllAgree d → Agrees p m (call ∷ d.calls p) new (d.broken p) → (q : ℕ)
-      → Agrees q (cond (q == p) m (d.world.nodes q)) (cond (q == p) (call ∷ d.calls p) (d.calls q)) (cond (q == p) new (d.store q)) (d.broken q)
-  calls d p m call new a here q =
-      split (q == p) (λ b. Agrees q (cond b m (d.world.nodes q)) (cond b (call ∷ d.calls p) (d.calls q)) (cond b new (d.store q)) (d.broken q))
-      (λ t. subst (λ i. Agrees i m (call ∷ d.calls p) new (d.broken i)) (sym (eqb-true q p t)) here)
+  -- an opening, behind which nothing is in doubt
+  reopened : (d : Stored S) (p : ℕ) (m : Node) (call : Call) (new : S) → AllAgree d → Agrees p m (call ∷ d.calls p) new None → (q : ℕ)
+      → Agrees q (cond (q == p) m (d.world.nodes q)) (cond (q == p) (call ∷ d.calls p) (d.calls q)) (cond (q == p) new (d.store q)) (cond (q == p) None (d.broken q))
+  reopened d p m call new a here q =
+      split (q == p) (λ b. Agrees q (cond b m (d.world.nodes q)) (cond b (call ∷ d.calls p) (d.calls q)) (cond b new (d.store q)) (cond b None (d.broken q)))
+      (λ t. subst (λ i. Agrees i m (call ∷ d.calls p) new None) (sym (eqb-true q p t)) here)
       (λ _. a q)
 
+  -- one call beside the world's events
   calls_alone : (d : Stored S) (p : ℕ) (call : Call) (new : S) → AllAgree d → Agrees p (d.world.nodes p) (call ∷ d.calls p) new (d.broken p) → (q : ℕ)
       → Agrees q (d.world.nodes q) (cond (q == p) (call ∷ d.calls p) (d.calls q)) (cond (q == p) new (d.store q)) (d.broken q)
   calls_alone d p call new a here q =
@@ -257,7 +258,7 @@ module _ {S : Type 0} (seen : S → List ℕ) (may_leave : S → List ℕ → Ty
   agree_after d (Breaks p cut) new a up is q = broke d p cut (wrote c p (d.world.nodes p) cut) new a up refl is q
   agree_after d (Stops p) new a up is q = calls_alone d p Left new a (stops p (d.world.nodes p) (d.calls p) (d.store p) new (d.broken p) (a p) is.1) q
   agree_after d (Fails p fault) new a up is q = calls_alone d p (NotOpened fault) new a (fails p (d.world.nodes p) (d.calls p) (d.store p) new (d.broken p) fault (a p) is.1) q
-  agree_after d (Opens p rs) new a up is q = calls d p (opened p (reverse rs)) (Opened rs) new a (opens p (d.world.nodes p) (d.calls p) (d.store p) new (d.broken p) rs (a p) is.1) q
+  agree_after d (Opens p rs) new a up is q = reopened d p (opened p (reverse rs)) (Opened rs) new a (opens p (d.world.nodes p) (d.calls p) (d.store p) new (d.broken p) rs (a p) is.1) q
 
   pub all_agree : (d : Stored S) (deeds : List (Deed × S)) → AllAgree d → Happen seen may_leave c d deeds → AllAgree (ends c d deeds)
   all_agree d [] a h = a

@@ -25,7 +25,8 @@ pub data Deed : Type 0 where
   Fails : ℕ → JournalFault → Deed  -- its store isn't opened, or it stops within that
   Opens : ℕ → List Record → Deed  -- its store is opened, these records are found, and its node begins anew
 
--- A world; and for each validator its store, the calls of it since its first opening, the newest first, and what was last being saved as it broke.
+-- A world; and for each validator its store, the calls of it since its first opening, the newest first, and what was being saved as it broke since the last one that
+-- found it.
 pub record Stored (S : Type 0) : Type 0 where
   pub world : World
   pub store : ℕ → S
@@ -66,6 +67,7 @@ at_call before (Some call) now q = cond (q == call.0) (now call.0 call.1) (befor
 
 abbrev pub broken_after : (ℕ → Option Cut) → Deed → ℕ → Option Cut
 broken_after before (Breaks p cut) q = cond (q == p) (Some cut) (before q)
+broken_after before (Opens p rs) q = cond (q == p) None (before q)
 broken_after before deed q = before q
 
 abbrev pub after : {S : Type 0} → Setting → Stored S → Deed → S → Stored S
