@@ -6,11 +6,11 @@ usage: gate/whole.py [--anew]
 Its stages run in turn, each of which says 'N passed, M failed' on its last line: what the scripts take of the kit; the files' layout; `rt
 ci`, which proves and tests each crate and runs each program; what must not compile; the wrong bodies; the schedules, by the program as
 both compilers made it; the pictures of all; one of them with each write of the validator's journal failing; random ones; a thousand
-growths of them, each refused; whole clusters in a simulator, from a hundred seeds; and what `tmnode` says of failures and what a cluster
-of it outlives, as processes. What must not compile and the wrong bodies are tried beside all that comes behind them, so that no processor
-waits; their lines come among the others'. Then come the processor seconds of each crate, and a last line that counts everything. Where
-the layout or `rt ci` fails, nothing behind it is tried. The edits of must-fail/, each of which `rt ci` tries by a check of its own, stand
-among the wrong bodies here, where it takes some seconds.
+growths of them, each refused; whole clusters in a simulator, from a hundred seeds, and an hour each from those that failed once; and what
+`tmnode` says of failures and what a cluster of it outlives, as processes. What must not compile and the wrong bodies are tried beside all
+that comes behind them, so that no processor waits; their lines come among the others'. Then come the processor seconds of each crate, and
+a last line that counts everything. Where the layout or `rt ci` fails, nothing behind it is tried. The edits of must-fail/, each of which
+`rt ci` tries by a check of its own, stand among the wrong bodies here, where it takes some seconds.
 
 What this machine proved before of the same files, and what it told of the same edits, isn't done again; with --anew all is. Every
 test, program and schedule runs each time. The proved programs are left in bin/.
@@ -44,6 +44,7 @@ STAGES = {
     "random schedules": ["schedules/random_runs.py", "--count", "200", "--with", "crates/tmsim/out/tmsim"],
     "growths refused": ["schedules/each_refusal.py", "--runs", "1000", "--with", "crates/tmsim/out/tmsim"],
     "clusters in a simulator": ["test/clusters.py", "--seeds", "1..100", "--minutes", "10", "--with", "crates/tmcluster/out/tmcluster"],
+    "clusters that failed once": ["test/clusters.py", "--seeds", "422,524,3282", "--validators", "4", "--hours", "1", "--with", "crates/tmcluster/out/tmcluster"],
     "the program as processes": ["test/processes.py", "--with", "crates/tmnode/out/tmnode"],
 }
 # What is said where a stage fails behind which nothing is tried.
@@ -149,8 +150,8 @@ class Stage(threading.Thread):
                 counts = re.fullmatch(r"(\d+) passed, (\d+) failed\n", line) or counts
                 print(f"{self.title}: {line}" if counts and self.title in BESIDE else line, end="", flush=True)
         self.passed, self.failed = (int(counts[1]), int(counts[2])) if counts else (0, 0)
-        # (a stage that ends badly has failed, whatever it counted)
-        if ran.returncode:
+        # (a stage that ends badly has failed, whatever it counted, and so has one that didn't count)
+        if ran.returncode or not counts:
             self.failed = max(self.failed, 1)
 
 
@@ -220,5 +221,6 @@ def main():
 
 
 if __name__ == "__main__":
-    signal.signal(signal.SIGTERM, end)
+    for number in (signal.SIGTERM, signal.SIGINT):
+        signal.signal(number, end)
     sys.exit(main())

@@ -1,9 +1,9 @@
 #!/usr/bin/env python3
 """Runs the program tmcluster on many seeds, one process each, on all processors.
 
-usage: test/clusters.py --seeds A..B [--with PROGRAM] [--processors N] [WORDS..]
+usage: test/clusters.py --seeds A..B[,N..] [--with PROGRAM] [--processors N] [WORDS..]
 
-Seeds A to B are run, B too. PROGRAM is a built tmcluster, bin/tmcluster if none is named. WORDS go to each of them, as
+Seeds A to B are run, B too, and single ones that are named, as in 1..100,422. PROGRAM is a built tmcluster, bin/tmcluster if none is named. WORDS go to each of them, as
 `--minutes 30 --faults all`. What a seed that fails prints is printed, and how to repeat it. The last line is 'N passed, M failed',
 and the status 1 where one failed.
 """
@@ -21,12 +21,18 @@ TOP = os.path.dirname(os.path.dirname(os.path.realpath(__file__)))
 PATIENCE = 1800
 
 
-def seeds_of(word):
-    """Returns the seeds that the word A..B names."""
-    found = re.fullmatch(r"(\d+)\.\.(\d+)", word)
-    if not found:
-        raise argparse.ArgumentTypeError(f"{word} is not A..B")
-    return range(int(found[1]), int(found[2]) + 1)
+def seeds_of(words):
+    """Returns the seeds that these words name, each A..B or one number, with commas between."""
+    seeds = []
+    for word in words.split(","):
+        found = re.fullmatch(r"(\d+)(?:\.\.(\d+))?", word)
+        if not found:
+            raise argparse.ArgumentTypeError(f"{word} is neither A..B nor a number")
+        first, last = int(found[1]), int(found[2] or found[1])
+        if last < first:
+            raise argparse.ArgumentTypeError(f"{word} names no seed")
+        seeds.extend(range(first, last + 1))
+    return seeds
 
 
 def run(program, seed, words):
@@ -52,7 +58,7 @@ def told(passed, failed, seconds, begun):
 
 
 def arguments():
-    parser = argparse.ArgumentParser(usage="test/clusters.py --seeds A..B [--with PROGRAM] [--processors N] [WORDS..]")
+    parser = argparse.ArgumentParser(usage="test/clusters.py --seeds A..B[,N..] [--with PROGRAM] [--processors N] [WORDS..]")
     parser.add_argument("--seeds", type=seeds_of, required=True)
     parser.add_argument("--with", dest="program", default=f"{TOP}/bin/tmcluster")
     parser.add_argument("--processors", type=int, default=os.cpu_count())
@@ -61,6 +67,9 @@ def arguments():
 
 def main():
     asked, words = arguments()
+    if not os.access(asked.program, os.X_OK):
+        print(f"clusters.py: {asked.program} is no program; ./build.sh tmcluster makes it", file=sys.stderr)
+        return 2
     begun, passed, failed, seconds = time.monotonic(), 0, [], 0
     with concurrent.futures.ThreadPoolExecutor(asked.processors) as pool:
         running = {pool.submit(run, asked.program, seed, words): seed for seed in asked.seeds}

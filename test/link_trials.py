@@ -48,14 +48,20 @@ def links_that_are_reset(cluster, is_long):
                 switch.wait_for_links(3)
 
 
+def logged_silence(cluster):
+    return {me for me in range(4) if "closed: silent for too long" in read(cluster.path(f"v{me}.log"))}
+
+
 def links_that_are_half_open(cluster, _):
-    """All that comes on a validator's links vanishes, and nothing ends: it is noticed by the silence, by this validator or by all others."""
+    """All that comes on a validator's links vanishes, and nothing ends: all go on over new ones, and both ends notice the silence of the old."""
     with Switch(cluster.addresses) as switch:
         start_behind(cluster, switch)
         switch.hold_half_open(3)
         want_all_to_go_on(cluster, range(4), 30, "with half-open links")
-    silent = {me for me in range(4) if "closed: silent for too long" in read(cluster.path(f"v{me}.log"))}
-    want(3 in silent or silent == {0, 1, 2}, f"a link that is silent is logged by {sorted(silent)} alone")
+        ends = time.monotonic() + PATIENCE
+        while (silent := logged_silence(cluster)) != set(range(4)):
+            want(time.monotonic() < ends, f"a link that is silent is logged by {sorted(silent)} alone")
+            time.sleep(0.1)
 
 
 def a_switch_that_is_off_for_a_while(cluster, is_long):

@@ -155,7 +155,7 @@ def metrics_of_a_loaded_cluster(cluster, _):
         it.start()
     first = scrapers[0]
     first.wait_for(lambda it: it.value("delivered_items_total") >= 5, "five items")
-    first.wait_for(lambda it: it.value("links", '{kind="validator"}') >= 3, "three validators")
+    first.wait_for(lambda it: it.value("links", '{kind="validator"}') >= 6, "a link each way to three validators")
     for name in ("received_frames_total", "received_bytes_total", "sent_frames_total", "sent_bytes_total", "journal_syncs_total"):
         first.wait_for(lambda it, name=name: it.value(name) > 0, name)
     want(cluster.send(7, 0, 1, "--data", "61") == (1, "refused 13 3"), "an old number is taken")

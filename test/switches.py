@@ -176,9 +176,10 @@ class Switch:
             return [it for it in self.links if me in it.ends and not (it.is_ended or it.is_half_open or it.broken)]
 
     def wait_for_links(self, me):
-        """Waits until a validator has a link with each other one."""
+        """Waits until a validator has dialed each other one, and was dialed by it."""
         others, ends = set(range(len(self.addresses))) - {me}, time.monotonic() + PATIENCE
-        while {end for it in self.links_of(me) for end in it.ends} - {me} != others:
+        wanted = {pair for other in others for pair in ((me, other), (other, me))}
+        while {it.ends for it in self.links_of(me)} != wanted:
             want(time.monotonic() < ends, f"validator {me} has links of {sorted(it.ends for it in self.links_of(me))}")
             time.sleep(TURN)
 

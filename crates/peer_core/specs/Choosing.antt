@@ -1,6 +1,8 @@
 -- Which links a frame goes to.
 use Rattle.std.specs.Prelude.{ℕ, Bool, true, false, not, ◌&&◌, ◌==◌, ◌-◌, nat_lt, List, map, filter, Option, Some, None}
 use Rattle.edge_frames.specs.declared.early.LinkId.{LinkId}
+use Rattle.peer_links.specs.declared.link.Way.{Way}
+use Rattle.peer_links.specs.declared.link.Way.TheVariants.{Dialed, Accepted}
 use Rattle.peer_core.specs.declared.duty.Closing.{Closing}
 use Rattle.peer_core.specs.declared.link.PeerLink.{PeerLink}
 use Rattle.peer_core.specs.declared.link.Answered.{Answered}
@@ -64,3 +66,8 @@ behind_after shown.Client Nobody = Client
 behind_after shown.Client Client = Client
 behind_after shown.Client (Validator w) = Validator w
 behind_after shown.Nothing behind = behind
+
+-- whose address was dialed stays behind a link, whatever comes on it
+abbrev pub behind_by : Way → Shown → Behind → Behind
+behind_by (Dialed v) shown behind = behind
+behind_by Accepted shown behind = behind_after shown behind

@@ -1,30 +1,27 @@
 //! Which of a validator's links is sent what all get.
 //!
-//! Both of two validators may have dialed the other, so there may be two links between them, and who replays a validator's frames
-//! may pass for it. Of two validators the lower one takes the link that it dialed itself. The higher one follows: it takes the
-//! link on which something new of the other came last, as nobody brings who only replays. So one link of a pair is in use.
+//! Both of two validators may have dialed the other, so there may be two links between them. Each uses the one that it dialed
+//! itself, once something came back: it leads to the other's address, while on one that it accepted whoever is nearer can hand on
+//! the other's frames, and so pass for it. Where none leads there, it uses the one on which something new of the other came last,
+//! as who only replays seldom has any.
 
 use crate::link::PeerLink;
 
-/// Returns whether a link is a better choice than another one of the same validator.
-fn is_better(link: &PeerLink, other: &PeerLink, is_lower: bool) -> bool {
-    let has_newer = link.news > other.news;
-    let has_same = link.news == other.news;
-    if link.is_dialed() == other.is_dialed() {
-        return has_newer;
-    }
-    if is_lower {
-        link.is_dialed()
+/// Returns whether a link is a better choice than another one of the same validator, where one that is silent for so many seconds
+/// leads nowhere, and what it brought counts no more.
+fn is_better(link: &PeerLink, other: &PeerLink, silent: u32) -> bool {
+    if link.leads(silent) == other.leads(silent) {
+        link.news_within(silent) > other.news_within(silent)
     } else {
-        has_newer || (has_same && link.is_dialed())
+        link.leads(silent)
     }
 }
 
 /// Returns the place of the best link of a validator. Among equal ones it is the first.
-pub(crate) fn best_of(links: &[PeerLink], validator: u16, is_lower: bool) -> Option<usize> {
+pub(crate) fn best_of(links: &[PeerLink], validator: u16, silent: u32) -> Option<usize> {
     let mut best: Option<usize> = None;
     for (place, link) in links.iter().enumerate() {
-        if link.is_of(validator) && is_first_or_better(links, link, best, is_lower) {
+        if link.is_of(validator) && is_first_or_better(links, link, best, silent) {
             best = Some(place);
         }
     }
@@ -36,12 +33,12 @@ fn is_first_or_better(
     links: &[PeerLink],
     link: &PeerLink,
     best: Option<usize>,
-    is_lower: bool,
+    silent: u32,
 ) -> bool {
     match best {
         Some(place) => links
             .get(place)
-            .is_none_or(|other| is_better(link, other, is_lower)),
+            .is_none_or(|other| is_better(link, other, silent)),
         None => true,
     }
 }

@@ -31,7 +31,7 @@ pub enum Closing {
     /// Another one had more right to its place.
     #[error("its place was wanted")]
     Replaced,
-    /// A thousand frames in a row were of no validator and of no client.
+    /// A thousand frames in a row were of no validator and of no client, or its frames showed another one behind it for the fifth time.
     #[error("it sends nothing that can be used")]
     Useless,
 }

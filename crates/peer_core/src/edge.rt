@@ -95,7 +95,7 @@ impl PeerCore {
         PeerCore {
             alloc,
             idle: manner.idle,
-            links: PeerLinks::new(alloc, me, count, manner.keeping),
+            links: PeerLinks::new(alloc, count, manner.keeping),
             redial: Redial::new(me, count, manner, now),
             early: EarlyFrames::new(alloc),
             taken: HeightFrames::new(alloc),
@@ -154,7 +154,10 @@ impl PeerCore {
     pub fn next_dial(&mut self, now: u64) -> Option<u16> {
         for _ in 0..self.redial.count() {
             let validator = self.redial.next(now)?;
-            if self.links.keeping() == Keeping::Open || !self.links.is_linked(validator) {
+            let is_theirs = self.redial.is_dialed_by(validator);
+            if self.links.keeping() == Keeping::Open
+                || !self.links.is_linked(validator, is_theirs)
+            {
                 return Some(validator);
             }
             self.redial.linked(validator, now);

@@ -18,7 +18,7 @@ use crate::idle::idle_height;
 use crate::link::AGAIN_MS;
 use crate::manner::Keeping;
 use crate::quiet::{has_transactions, is_quiet};
-use crate::showing::{is_news, shown_by};
+use crate::showing::{is_news, is_taken_in, shown_by};
 use crate::ticking::FIRST_ASKED;
 use bytes::Bytes;
 use edge_frames::LinkId;
@@ -190,7 +190,8 @@ impl PeerCore {
         own: u64,
     ) {
         let shown = shown_by(frame, heading, answer);
-        self.links.show(link, shown, is_news(heading, answer, own));
+        self.links
+            .show(link, shown, is_taken_in(heading, answer), own);
         let is_ask = heading.is_some_and(|heading| heading.kind == Kind::Ask);
         if is_ask && answer.is_err() {
             if let Some(link) = self.links.link_mut(link) {

@@ -49,4 +49,4 @@ pub use own::{MOST_AGAIN, MOST_GREETING, OwnFrames};
 pub use quiet::{has_transactions, is_quiet};
 pub use redial::Redial;
 pub use rest::Rest;
-pub use showing::{is_news, shown_by};
+pub use showing::{is_news, is_taken_in, shown_by};

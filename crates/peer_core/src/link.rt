@@ -1,7 +1,7 @@
 //! One link, and who is behind it as far as it has shown.
 
 ghost use Rattle.std.specs.Prelude.{◌≡◌, Some, None};
-ghost use Rattle.peer_core.specs.Choosing.{is_open, behind_after, gets_bundle, was_sent, sent_at};
+ghost use Rattle.peer_core.specs.Choosing.{is_open, behind_after, behind_by, gets_bundle, was_sent, sent_at};
 
 use crate::duty::Closing;
 use edge_frames::LinkId;
@@ -9,6 +9,10 @@ use peer_links::Way;
 
 /// How many frames in a row that are of no use close a link.
 const MOST_USELESS: u32 = 1_000;
+
+/// How often another one may be found behind a link: first whom somebody's frame names that was passed on, then whose link it is. What is
+/// found more often is a game, in which each turn would be greeted and logged.
+const MOST_TURNS: u32 = 4;
 
 /// For how many seconds a link of a validator may be silent for each sixteen validators, as this validator sees them pass.
 pub(crate) const MOST_SILENT: u32 = 10;
@@ -48,6 +52,16 @@ pub enum Shown {
     Nothing,
 }
 
+impl Shown {
+    /// The validator that said what the frame says.
+    pub(crate) fn sender(self) -> Option<u16> {
+        match self {
+            Shown::Direct(validator) | Shown::Passed(validator) => Some(validator),
+            Shown::Client | Shown::Nothing => None,
+        }
+    }
+}
+
 /// A bundle that was sent on a link, or asked for.
 #[derive(Clone, Copy, Debug)]
 struct Answered {
@@ -65,8 +79,8 @@ pub struct PeerLink {
     pub opened: u64,
     /// Which of all frames that were new to the node was the last one that came here from the validator behind it; 0 where none was.
     pub news: u64,
-    /// How many frames were new to the node when the validator was found behind it.
-    pub(crate) met: u64,
+    /// The own height when the validator was found behind it, or when it last brought something new of that one.
+    pub(crate) seen: u64,
     /// Whether it is the one of its validator's links that is sent what all get.
     pub is_chosen: bool,
     /// Whether the next ask that the node releases goes here.
@@ -75,6 +89,10 @@ pub struct PeerLink {
     pub wants_own: bool,
     /// Whether the validator behind it wasn't given yet.
     pub wants_name: bool,
+    /// Whether a frame of the validator behind it came on it.
+    pub has_shown: bool,
+    /// How often another one was found behind it.
+    turns: u32,
     /// Why it is to be closed.
     pub closing: Option<Closing>,
     /// Whether its closing was given as a duty.
@@ -108,11 +126,13 @@ impl PeerLink {
             behind,
             opened: now,
             news: 0,
-            met: 0,
+            seen: 0,
             is_chosen: false,
             wants_ask: false,
             wants_own: false,
             wants_name: false,
+            has_shown: false,
+            turns: 0,
             closing: None,
             is_over: false,
             heard: now,
@@ -137,6 +157,17 @@ impl PeerLink {
     /// Returns whether its address was dialed.
     pub fn is_dialed(&self) -> bool {
         matches!(self.way, Way::Dialed(_))
+    }
+
+    /// Returns whether it is the way to its validator: its address was dialed, and what is there has said something of that validator's, and not
+    /// been silent for so many seconds.
+    pub(crate) fn leads(&self, silent: u32) -> bool {
+        self.is_dialed() && self.has_shown && self.silent < silent
+    }
+
+    /// Which of all frames that were new was the last one that came here; 0 where none was, or where it is silent for so many seconds.
+    pub(crate) fn news_within(&self, silent: u32) -> u64 {
+        if self.silent < silent { self.news } else { 0 }
     }
 
     /// Returns the validator behind it, if one is.
@@ -194,7 +225,9 @@ impl PeerLink {
     }
 
     /// Lets it be closed, for the first cause that comes.
-    pub(crate) fn close(&mut self, closing: Closing) {
+    pub(crate) fn close(&mut self, closing: Closing)
+        ensures { self.new.behind ≡ self.old.behind }
+    {
         if self.closing.is_none() {
             self.closing = Some(closing);
         }
@@ -215,21 +248,56 @@ impl PeerLink {
         }
     }
 
+    /// Returns who is behind it once a frame has shown this: where it was dialed, whose address that is.
+    fn behind_by(&self, shown: Shown) -> Behind
+        ensures { result ≡ behind_by self.now.way shown self.now.behind }
+    {
+        match self.way {
+            Way::Dialed(_) => self.behind,
+            Way::Accepted => self.behind_after(shown),
+        }
+    }
+
     /// Notes what a frame showed, and returns whether another one is behind it now. Too many frames in a row that show nothing
-    /// let it be closed.
-    pub(crate) fn show(&mut self, shown: Shown) -> bool {
-        if shown == Shown::Nothing {
-            self.useless = self.useless.saturating_add(1);
-            if self.useless >= MOST_USELESS {
-                self.close(Closing::Useless);
-            }
+    /// let it be closed, and so do too many turns.
+    pub(crate) fn show(&mut self, shown: Shown) -> bool
+        ensures { self.new.behind ≡ behind_by self.old.way shown self.old.behind }
+    {
+        let is_turned = self.turn(self.behind_by(shown));
+        self.count_useless(shown);
+        self.has_shown |= shown.sender().is_some_and(|sender| self.is_of(sender));
+        is_turned
+    }
+
+    /// Counts the frames in a row that show nothing.
+    fn count_useless(&mut self, shown: Shown)
+        ensures { self.new.behind ≡ self.old.behind }
+    {
+        if shown != Shown::Nothing {
+            self.useless = 0;
+            return;
+        }
+        self.useless = self.useless.saturating_add(1);
+        if self.useless >= MOST_USELESS {
+            self.close(Closing::Useless);
+        }
+    }
+
+    /// Notes who is behind it, and returns whether that is another one than before.
+    fn turn(&mut self, behind: Behind) -> bool
+        ensures { self.new.behind ≡ behind }
+    {
+        if behind == self.behind {
             return false;
         }
-        self.useless = 0;
-        let behind = self.behind_after(shown);
-        let is_new = behind != self.behind;
         self.behind = behind;
-        is_new
+        self.news = 0;
+        self.has_shown = false;
+        self.turns = self.turns.saturating_add(1);
+        if self.turns > MOST_TURNS {
+            self.close(Closing::Useless);
+        }
+        true
     }
 
     /// Notes that the peer asks for this height.

@@ -7,7 +7,7 @@ use crate::choosing::{best_of, mark_chosen};
 use crate::duty::{Closing, OpenFault};
 use crate::link::{Behind, MOST_QUIET_MS, MOST_SILENT, PeerLink, Shown};
 use crate::manner::Keeping;
-use crate::ticking::{MOST_SMALL, sixteens};
+use crate::ticking::sixteens;
 use edge_frames::{LinkId, MOST_LINKS};
 use peer_links::Way;
 use std::alloc::{AllocError, AllocFailed, Global};
@@ -27,9 +27,11 @@ const MANY_SILENT: usize = 8;
 /// For how many seconds at least a link of a validator may be silent where many are, and more than half.
 const MOST_SILENT_TOGETHER: u32 = 60;
 
-/// How many new frames each validator may bring, on average, before a link that brought none isn't taken for its validator's in a large
-/// cluster: what two heights bring.
-const MOST_NEWS_OF_OTHERS: u64 = 4;
+/// For how many heights it counts that a link brought something new, or that a validator was found behind it.
+const MOST_HEIGHTS: u64 = 8;
+
+/// For how many seconds a link may be silent, for each sixteen validators, until another one is preferred: two signs of life are missing then.
+const MOST_MISSED: u32 = 9;
 
 /// How many asks for bundles the node is handed each second from one link, divided by the number of validators, since each bundle is
 /// tagged for all.
@@ -47,7 +49,6 @@ impl<T: Drop> From<AllocFailed<T>> for OpenFault {
 /// validator's: each has one for the link that is dialed here, and one or two for those that it dials.
 #[derive(Debug, Drop)]
 pub struct PeerLinks {
-    me: u16,
     count: u16,
     keeping: Keeping,
     /// How many links that one validator dials have a place.
@@ -57,6 +58,8 @@ pub struct PeerLinks {
     pub(crate) links: Vec<PeerLink>,
     /// How many frames were new to the node.
     news: u64,
+    /// The own height when the last frame came.
+    height: u64,
     /// Whether some link may have to be closed, greeted or named.
     is_stirred: bool,
 }
@@ -68,8 +71,8 @@ fn places_of(count: u16, accepted: usize) -> usize {
 }
 
 impl PeerLinks {
-    /// No links, of validator `me` of `count`. It takes no memory.
-    pub fn new(alloc: Global, me: u16, count: u16, keeping: Keeping) -> PeerLinks {
+    /// No links, of one of `count` validators. It takes no memory.
+    pub fn new(alloc: Global, count: u16, keeping: Keeping) -> PeerLinks {
         let room = MOST_LINKS - MOST_STRANGERS - MOST_CLIENT_LINKS;
         let most_accepted = if places_of(count, MOST_DIALED_HERE) <= room {
             MOST_DIALED_HERE
@@ -78,13 +81,13 @@ impl PeerLinks {
         };
         let others = places_of(count, most_accepted).min(room);
         PeerLinks {
-            me,
             count,
             keeping,
             most_accepted,
             most_clients: MOST_LINKS - MOST_STRANGERS - others,
             links: Vec::new(alloc),
             news: 0,
+            height: 0,
             is_stirred: false,
         }
     }
@@ -160,9 +163,9 @@ impl PeerLinks {
     /// Has a validator's link named, and sent the own messages where links are guarded, and chooses among that validator's links.
     fn greet(&mut self, id: LinkId, validator: u16) {
         let is_guarded = self.keeping == Keeping::Guarded;
-        let news = self.news;
+        let height = self.height;
         if let Some(link) = self.link_mut(id) {
-            link.met = news;
+            link.seen = height;
             link.wants_own = is_guarded;
             link.wants_name = true;
         }
@@ -172,8 +175,50 @@ impl PeerLinks {
 
     /// Chooses the one of a validator's links that is sent what all get.
     fn choose(&mut self, validator: u16) {
-        let best = best_of(&self.links, validator, self.me < validator);
+        let silent = self.most_missed();
+        let is_used = self.is_used(validator, silent);
+        let best = best_of(&self.links, validator, silent);
+        if !is_used {
+            self.take_over(best);
+        }
         mark_chosen(&mut self.links, validator, best);
+    }
+
+    /// Has the link at this place, which is used where none was, sent the own messages where links are guarded: what went out last may be lost.
+    fn take_over(&mut self, place: Option<usize>) {
+        let is_guarded = self.keeping == Keeping::Guarded;
+        let Some(link) = place.and_then(|place| self.links.get_mut(place)) else {
+            return;
+        };
+        if is_guarded && !link.is_chosen {
+            link.wants_own = true;
+            self.is_stirred = true;
+        }
+    }
+
+    /// Returns whether a link of this validator is in use that hasn't been silent for so many seconds.
+    fn is_used(&self, validator: u16, silent: u32) -> bool {
+        self.links.iter().any(|link| link.is_of(validator)
+            && link.is_chosen
+            && !link.is_silent_for(silent))
+    }
+
+    /// Chooses anew where a link that was dialed has shown whose it is.
+    fn lead(&mut self, id: LinkId) {
+        let silent = self.most_missed();
+        let Some(link) = self.link_mut(id) else {
+            return;
+        };
+        if !link.is_chosen && link.leads(silent) {
+            if let Some(validator) = link.validator() {
+                self.choose(validator);
+            }
+        }
+    }
+
+    /// Returns for how many seconds a link that was dialed may be silent until it leads nowhere.
+    fn most_missed(&self) -> u32 {
+        MOST_MISSED.saturating_mul(u32::from(sixteens(self.count)))
     }
 
     /// Forgets a link that has ended. The next one of its validator takes its place.
@@ -194,8 +239,9 @@ impl PeerLinks {
         }
     }
 
-    /// Notes what a frame showed of its link, and whether it was new to the node.
-    pub fn show(&mut self, id: LinkId, shown: Shown, is_news: bool) {
+    /// Notes what a frame showed of its link, and whether the node, which is in this height then, took something new from it.
+    pub fn show(&mut self, id: LinkId, shown: Shown, is_news: bool, height: u64) {
+        self.height = height;
         let Some(link) = self.link_mut(id) else {
             return;
         };
@@ -211,6 +257,7 @@ impl PeerLinks {
                 self.choose(validator);
             }
         }
+        self.lead(id);
         if is_news {
             self.note_news(id, shown);
         }
@@ -228,7 +275,8 @@ impl PeerLinks {
         }
     }
 
-    /// Of more links than may that a validator dialed, lets the one be closed that brought nothing new for longest.
+    /// Of more links than may that a validator dialed, lets the one be closed that brought nothing new for longest: of those that brought
+    /// none, or none for eight heights, or are silent, the one that was opened first.
     fn limit_accepted(&mut self, validator: u16) {
         let count = self
             .links
@@ -238,11 +286,16 @@ impl PeerLinks {
         if count <= self.most_accepted {
             return;
         }
+        let (height, silent) = (self.height, self.most_missed());
         let oldest = self
             .links
             .iter_mut()
             .filter(|link| link.is_of(validator) && !link.is_dialed())
-            .min_by_key(|link| link.news);
+            .min_by_key(|link| if is_recent(link, height) {
+                link.news_within(silent)
+            } else {
+                0
+            });
         if let Some(link) = oldest {
             link.close(Closing::Replaced);
         }
@@ -252,6 +305,7 @@ impl PeerLinks {
     /// Notes that a link brought what was new, where it came from the validator behind it.
     fn note_news(&mut self, id: LinkId, shown: Shown) {
         let news = self.news.saturating_add(1);
+        let height = self.height;
         let Some(link) = self.link_mut(id) else {
             return;
         };
@@ -262,6 +316,7 @@ impl PeerLinks {
             return;
         }
         link.news = news;
+        link.seen = height;
         let is_chosen = link.is_chosen;
         self.news = news;
         if !is_chosen {
@@ -491,8 +546,8 @@ impl PeerLinks {
         }
         if self.close_silent_for(self.most_silent()) {
             self.is_stirred = true;
-            self.choose_all();
         }
+        self.choose_all();
     }
 
     /// Returns how many asks for bundles the node may be handed each second from one link.
@@ -588,18 +643,15 @@ impl PeerLinks {
         Some(link.id)
     }
 
-    /// Returns whether a link to this validator is open that was dialed, or one that brought something new of it. Who replays a
-    /// validator's frames brings nothing new; in a large cluster a link may pass for the validator's as long as others too bring little.
-    pub fn is_linked(&self, validator: u16) -> bool {
-        self.links
-            .iter()
-            .any(|link| link.is_of(validator) && self.is_used(link))
+    /// Returns whether a link to this validator is open that is enough: the one that was dialed and, where it is for the other one to dial,
+    /// also one that showed it, or brought something new of it, no more than eight heights ago.
+    pub fn is_linked(&self, validator: u16, is_theirs: bool) -> bool {
+        self.links.iter().any(|link| link.is_of(validator)
+            && (link.is_dialed() || (is_theirs && is_recent(link, self.height))))
     }
+}
 
-    /// Returns whether a validator's link was dialed, or brought something new, or may have had nothing to bring yet.
-    fn is_used(&self, link: &PeerLink) -> bool {
-        let since = self.news.saturating_sub(link.met);
-        let is_early = since < u64::from(self.count).saturating_mul(MOST_NEWS_OF_OTHERS);
-        link.is_dialed() || link.news > 0 || (self.count > MOST_SMALL && is_early)
-    }
+/// Returns whether it counts yet in this height that the link brought something new, or that its validator was found behind it.
+fn is_recent(link: &PeerLink, height: u64) -> bool {
+    height.saturating_sub(link.seen) < MOST_HEIGHTS
 }

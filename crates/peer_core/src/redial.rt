@@ -20,8 +20,8 @@ struct Address {
 
 /// The addresses of the other validators, and when each is dialed next.
 ///
-/// With open links each is dialed once. With guarded ones an address without an open link is dialed again after a pause, which
-/// doubles with each failure in a row. A little is added to it, so that validators that were cut off together don't dial all at
+/// With open links each is dialed once. With guarded ones an address to which there is no link that is enough is dialed again after
+/// a pause, which doubles with each failure in a row. A little is added to it, so that validators that were cut off together don't dial all at
 /// once.
 ///
 /// In a large cluster with guarded links each validator dials the half of the others that follow it, and the other half only where they
@@ -32,6 +32,8 @@ pub struct Redial {
     count: u16,
     is_guarded: bool,
     first: u64,
+    /// From which validator on it is looked for the next one.
+    from: u16,
     addresses: [Address; MOST_VALIDATORS],
 }
 
@@ -43,6 +45,7 @@ impl Redial {
             count,
             is_guarded: manner.keeping == Keeping::Guarded,
             first: manner.redial,
+            from: 0,
             addresses: [Address {
                 due: Some(0),
                 pause: manner.redial,
@@ -58,7 +61,7 @@ impl Redial {
 
     /// Returns whether another validator dials this one first, in a large cluster with guarded links: it is in the half of the others
     /// that this one follows.
-    fn is_dialed_by(&self, validator: u16) -> bool {
+    pub(crate) fn is_dialed_by(&self, validator: u16) -> bool {
         let ahead = if validator >= self.me {
             validator - self.me
         } else {
@@ -87,14 +90,16 @@ impl Redial {
         self.count
     }
 
-    /// Returns the first validator whose address is due, and has it due no more until it was dialed.
+    /// Returns the next validator behind the last one whose address is due, and has it due no more until it was dialed. So addresses that take
+    /// long to be dialed leave all others their turn.
     pub fn next(&mut self, now: u64) -> Option<u16>
         ensures other { IfSome result (λ validator. validator ≢ self.old.me) }
         ensures known { IfSome result (λ validator. validator < self.old.count) }
     {
         let (me, count) = (self.me, self.count);
-        for validator in 0..count {
-            if validator != me && self.take_due(validator, now) {
+        for validator in (self.from..count).chain(0..self.from) {
+            if validator != me && validator < count && self.take_due(validator, now) {
+                self.from = validator + 1;
                 return Some(validator);
             }
         }

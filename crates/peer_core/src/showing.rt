@@ -46,6 +46,12 @@ pub fn shown_by(frame: &[u8], heading: Option<Heading>, answer: Result<(), Refus
     }
 }
 
+/// Returns whether the node took something new in from a validator's frame, which comes once, whoever brings it. An ask is answered as often
+/// as it comes.
+pub fn is_taken_in(heading: Option<Heading>, answer: Result<(), Refusal>) -> bool {
+    answer.is_ok() && heading.is_some_and(|heading| heading.kind != Kind::Ask)
+}
+
 /// Returns whether a validator's frame told the node something new: it took it in, or it is of a height that hasn't come.
 pub fn is_news(heading: Option<Heading>, answer: Result<(), Refusal>, own: u64) -> bool {
     match (heading, answer) {

@@ -154,10 +154,11 @@ impl PeerCore {
         now.saturating_sub(self.since) >= STILL_MS
     }
 
-    /// Puts the last own messages of the height into the outbox, for all validators, as many as the budget has room for.
+    /// Puts the last own messages of the height into the outbox, for all validators, as many as the budget has room for, the newest
+    /// first: the others go on from these.
     fn send_again(&mut self, now: u64) -> Result<(), AllocError> {
         let first = self.own.frames().len().saturating_sub(MOST_AGAIN);
-        for place in first..self.own.frames().len() {
+        for place in (first..self.own.frames().len()).rev() {
             let links = self.links.for_all(self.alloc, now)?;
             if !self.budget.spend(links.len() as u64) {
                 break;

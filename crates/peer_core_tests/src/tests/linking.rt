@@ -1,11 +1,11 @@
 //! Which links are kept, and who is dialed.
 
 use super::{
-    GUARDED, PREVOTE, asks, assert_same, came, dial_all, duties, of_round, on_edge, on_edge_of,
-    on_large_edge, open,
+    ASK, GUARDED, PREVOTE, asks, assert_same, came, dial_all, duties, of_height, of_round, on_edge,
+    on_edge_of, on_large_edge, open, released,
 };
 use edge_frames::LinkId;
-use peer_core::{MOST_STRANGERS, Manner, PeerCore};
+use peer_core::{Duty, MOST_STRANGERS, Manner, PeerCore};
 use peer_links::Way;
 use protocol::Refusal;
 use std::alloc::AllocGlobal;
@@ -110,8 +110,8 @@ fn try_in_a_large_cluster_one_of_a_pair_dials<R: Abort + AllocGlobal>(rt: &R, ed
     );
 }
 
-/// A link on which a validator has shown may have had nothing new to bring; once others have brought a lot, its validator is dialed. One that
-/// brought something isn't.
+/// A link on which a validator has shown may have had nothing new to bring; eight heights later its validator is dialed. One that brought
+/// something lately isn't.
 #[test]
 fn in_a_large_cluster_who_brings_nothing_is_dialed(rt: HostRuntime) {
     on_large_edge(&rt, try_in_a_large_cluster_who_brings_nothing_is_dialed);
@@ -127,12 +127,122 @@ fn try_in_a_large_cluster_who_brings_nothing_is_dialed<R: Abort + AllocGlobal>(
     }
     let _ = dial_those_due(rt, edge, 0);
     let _ = dial_those_due(rt, edge, 1_000);
-    for _ in 0..79 {
-        came(edge, 51, &of_round(PREVOTE, 0, 16), Ok(()), 0, 1_000);
-    }
+    came(edge, 51, &of_round(PREVOTE, 7, 16), Ok(()), 7, 1_000);
     assert_same(rt, &dial_those_due(rt, edge, 2_000), &0);
-    came(edge, 51, &of_round(PREVOTE, 0, 16), Ok(()), 0, 2_000);
+    came(edge, 51, &of_round(PREVOTE, 8, 16), Ok(()), 8, 2_000);
     assert_same(rt, &dial_those_due(rt, edge, 3_000), &0b1000_0000_0000_0000);
+}
+
+/// Whom a validator of a large cluster is to dial it dials, also where a link shows that one already: it may be another one's.
+#[test]
+fn in_a_large_cluster_who_is_to_dial_dials(rt: HostRuntime) {
+    on_large_edge(&rt, try_in_a_large_cluster_who_is_to_dial_dials);
+}
+
+fn try_in_a_large_cluster_who_is_to_dial_dials<R: Abort + AllocGlobal>(
+    rt: &R,
+    edge: &mut PeerCore,
+) {
+    open(rt, edge, LinkId(50), Way::Accepted, 0);
+    asks(edge, 50, 5, 0);
+    assert_same(rt, &dial_those_due(rt, edge, 0), &0b1111_1111_1100);
+}
+
+/// Of a validator's links that were accepted a new one takes the place of one that brought nothing, or nothing for long: links 4 and 5
+/// brought something once, then link 6 comes.
+#[test]
+fn who_comes_back_gets_a_place(rt: HostRuntime) {
+    on_edge(&rt, GUARDED, try_who_comes_back_gets_a_place);
+}
+
+fn try_who_comes_back_gets_a_place<R: Abort + AllocGlobal>(rt: &R, edge: &mut PeerCore) {
+    dial_all(rt, edge);
+    for link in [4, 5] {
+        open(rt, edge, LinkId(link), Way::Accepted, 0);
+        asks(edge, link, 0, 0);
+        came(edge, link, &of_round(PREVOTE, 0, 0), Ok(()), 0, 0);
+    }
+    let _ = duties(edge, 0);
+    open(rt, edge, LinkId(6), Way::Accepted, 0);
+    asks(edge, 6, 0, 0);
+    assert_same(rt, &closed(edge, 0), &6);
+    came(edge, 3, &of_round(PREVOTE, 8, 3), Ok(()), 8, 0);
+    open(rt, edge, LinkId(7), Way::Accepted, 0);
+    came(
+        edge,
+        7,
+        &of_height(ASK, 8, 0),
+        Err(Refusal::OtherHeight),
+        8,
+        0,
+    );
+    assert_same(rt, &closed(edge, 0), &4);
+}
+
+/// The links that are to be closed, as one number's digits.
+fn closed(edge: &mut PeerCore, now: u64) -> u32 {
+    let mut digits = 0u32;
+    for _ in 0..1_000 {
+        match edge.next_duty(now) {
+            Some(Duty::Close(link, _)) => digits = digits.saturating_mul(10).saturating_add(link.0),
+            Some(_) => {}
+            None => break,
+        }
+    }
+    digits
+}
+
+/// Who turns from one validator into another again and again is closed, whatever it brings.
+#[test]
+fn who_turns_too_often_is_closed(rt: HostRuntime) {
+    on_edge(&rt, GUARDED, try_who_turns_too_often_is_closed);
+}
+
+fn try_who_turns_too_often_is_closed<R: Abort + AllocGlobal>(rt: &R, edge: &mut PeerCore) {
+    open(rt, edge, LinkId(4), Way::Accepted, 0);
+    for validator in [0, 2, 0, 2] {
+        asks(edge, 4, validator, 0);
+        assert_same(rt, &closed(edge, 0), &0);
+    }
+    asks(edge, 4, 0, 0);
+    assert_same(rt, &closed(edge, 0), &4);
+}
+
+/// What can be sent on again and again is no news: asks, and what is of a height that hasn't come.
+#[test]
+fn what_may_be_replayed_is_no_news(rt: HostRuntime) {
+    on_edge(&rt, GUARDED, try_what_may_be_replayed_is_no_news);
+}
+
+fn try_what_may_be_replayed_is_no_news<R: Abort + AllocGlobal>(rt: &R, edge: &mut PeerCore) {
+    for link in [4, 5] {
+        open(rt, edge, LinkId(link), Way::Accepted, 0);
+        asks(edge, link, 0, 0);
+    }
+    came(edge, 4, &of_round(PREVOTE, 0, 0), Ok(()), 0, 0);
+    came(edge, 5, &of_height(ASK, 0, 0), Ok(()), 1, 0);
+    came(
+        edge,
+        5,
+        &of_height(ASK, 9, 0),
+        Err(Refusal::OtherHeight),
+        1,
+        0,
+    );
+    assert_same(rt, &released(rt, edge, &of_round(PREVOTE, 0, 1), 1), &4);
+}
+
+/// An address whose turn it was waits until all others that are due had theirs.
+#[test]
+fn each_address_has_its_turn(rt: HostRuntime) {
+    on_edge(&rt, GUARDED, try_each_address_has_its_turn);
+}
+
+fn try_each_address_has_its_turn<R: Abort + AllocGlobal>(rt: &R, edge: &mut PeerCore) {
+    for (now, validator) in [(0, 0), (5_000, 2), (10_000, 3), (15_000, 0)] {
+        assert_same(rt, &edge.next_dial(now), &Some(validator));
+        edge.dialed(validator, false, now);
+    }
 }
 
 #[test]

@@ -1,11 +1,11 @@
 //! To whom a frame goes.
 
 use super::{
-    ASK, BUNDLE, GUARDED, PREVOTE, PROPOSAL, asks, assert_same, came, dial_all, duties, of_height,
-    of_round, on_edge, open, released,
+    ASK, BUNDLE, GUARDED, PRECOMMIT, PREVOTE, PROPOSAL, asks, assert_same, came, dial_all, duties,
+    of_height, of_round, on_edge, open, released,
 };
 use edge_frames::LinkId;
-use peer_core::{Manner, PeerCore};
+use peer_core::{Duty, Manner, PeerCore};
 use peer_links::Way;
 use std::alloc::AllocGlobal;
 use std::process::Abort;
@@ -42,8 +42,8 @@ fn try_a_stranger_is_sent_nothing<R: Abort + AllocGlobal>(rt: &R, edge: &mut Pee
     assert_same(rt, &released(rt, edge, &of_round(PREVOTE, 1, 1), 2), &12);
 }
 
-/// Of two links of validator 0, which is lower, the one that it brings news on is used; of two of validator 2, which is higher, the one
-/// that was dialed here.
+/// Of a validator's links the one that was dialed here is used, once something of that validator's came on it; else the one that brought
+/// news last.
 #[test]
 fn one_link_of_a_validator_is_used(rt: HostRuntime) {
     on_edge(&rt, GUARDED, try_one_link_of_a_validator_is_used);
@@ -51,17 +51,126 @@ fn one_link_of_a_validator_is_used(rt: HostRuntime) {
 
 fn try_one_link_of_a_validator_is_used<R: Abort + AllocGlobal>(rt: &R, edge: &mut PeerCore) {
     dial_all(rt, edge);
-    open(rt, edge, LinkId(4), Way::Accepted, 0);
-    open(rt, edge, LinkId(5), Way::Accepted, 0);
-    asks(edge, 4, 0, 1);
-    asks(edge, 5, 2, 1);
-    assert_same(rt, &released(rt, edge, &of_round(PREVOTE, 0, 1), 1), &123);
+    for link in [(4, 0), (5, 2), (6, 0)] {
+        open(rt, edge, LinkId(link.0), Way::Accepted, 0);
+        asks(edge, link.0, link.1, 1);
+    }
     came(edge, 4, &of_round(PREVOTE, 0, 0), Ok(()), 0, 2);
-    came(edge, 5, &of_round(PREVOTE, 0, 2), Ok(()), 0, 2);
-    assert_same(rt, &released(rt, edge, &of_round(PREVOTE, 1, 1), 3), &234);
-    edge.ended(LinkId(4));
+    assert_same(rt, &released(rt, edge, &of_round(PREVOTE, 0, 1), 2), &234);
+    asks(edge, 1, 0, 3);
+    came(edge, 5, &of_round(PREVOTE, 0, 2), Ok(()), 0, 3);
+    assert_same(rt, &released(rt, edge, &of_round(PREVOTE, 1, 1), 3), &135);
+    came(edge, 2, &of_round(PREVOTE, 1, 2), Ok(()), 0, 4);
+    assert_same(rt, &released(rt, edge, &of_round(PREVOTE, 2, 1), 4), &123);
+    edge.ended(LinkId(1));
+    assert_same(rt, &released(rt, edge, &of_round(PREVOTE, 3, 1), 5), &234);
+    came(edge, 6, &of_round(PREVOTE, 1, 0), Ok(()), 0, 6);
+    assert_same(rt, &released(rt, edge, &of_round(PREVOTE, 4, 1), 6), &236);
     edge.ended(LinkId(2));
-    assert_same(rt, &released(rt, edge, &of_round(PREVOTE, 2, 1), 4), &135);
+    assert_same(rt, &released(rt, edge, &of_round(PREVOTE, 5, 1), 7), &356);
+}
+
+/// Whose address was dialed stays behind the link, whatever the other end hands on.
+#[test]
+fn a_dialed_link_stays_its_validators(rt: HostRuntime) {
+    on_edge(&rt, GUARDED, try_a_dialed_link_stays_its_validators);
+}
+
+fn try_a_dialed_link_stays_its_validators<R: Abort + AllocGlobal>(rt: &R, edge: &mut PeerCore) {
+    dial_all(rt, edge);
+    asks(edge, 2, 2, 1);
+    asks(edge, 1, 2, 1);
+    came(edge, 1, &of_round(PREVOTE, 0, 2), Ok(()), 0, 1);
+    assert_same(rt, &released(rt, edge, &of_round(PREVOTE, 0, 1), 2), &123);
+    edge.ended(LinkId(2));
+    assert_same(rt, &released(rt, edge, &of_round(PREVOTE, 1, 1), 3), &13);
+}
+
+/// A dialed link that has been silent for nine seconds is left for one that brought news, until it is heard again.
+#[test]
+fn a_dead_dialed_link_is_left(rt: HostRuntime) {
+    on_edge(&rt, GUARDED, try_a_dead_dialed_link_is_left);
+}
+
+fn try_a_dead_dialed_link_is_left<R: Abort + AllocGlobal>(rt: &R, edge: &mut PeerCore) {
+    dial_all(rt, edge);
+    asks(edge, 1, 0, 0);
+    open(rt, edge, LinkId(4), Way::Accepted, 0);
+    asks(edge, 4, 0, 0);
+    came(edge, 4, &of_round(PREVOTE, 0, 0), Ok(()), 0, 0);
+    for second in 1..=8u64 {
+        edge.heard(LinkId(4), second * 1_000);
+        let _ = duties(edge, second * 1_000);
+    }
+    assert_same(
+        rt,
+        &released(rt, edge, &of_round(PREVOTE, 0, 1), 8_500),
+        &123,
+    );
+    edge.heard(LinkId(4), 8_500);
+    let _ = duties(edge, 9_000);
+    assert_same(
+        rt,
+        &released(rt, edge, &of_round(PREVOTE, 1, 1), 9_500),
+        &234,
+    );
+    edge.heard(LinkId(1), 9_600);
+    edge.heard(LinkId(4), 9_600);
+    let _ = duties(edge, 10_000);
+    assert_same(
+        rt,
+        &released(rt, edge, &of_round(PREVOTE, 2, 1), 10_500),
+        &1,
+    );
+}
+
+/// A link that takes over where one ended is sent the own messages.
+#[test]
+fn who_takes_over_is_told_the_own_messages(rt: HostRuntime) {
+    on_edge(&rt, GUARDED, try_who_takes_over_is_told_the_own_messages);
+}
+
+fn try_who_takes_over_is_told_the_own_messages<R: Abort + AllocGlobal>(
+    rt: &R,
+    edge: &mut PeerCore,
+) {
+    dial_all(rt, edge);
+    asks(edge, 1, 0, 0);
+    open(rt, edge, LinkId(4), Way::Accepted, 0);
+    asks(edge, 4, 0, 0);
+    let _ = duties(edge, 0);
+    assert_same(rt, &released(rt, edge, &of_round(PREVOTE, 0, 1), 1), &123);
+    assert_same(rt, &duties(edge, 1).sent, &0);
+    edge.ended(LinkId(1));
+    assert_same(rt, &duties(edge, 2).sent, &1);
+}
+
+/// The kind of the frame that is to be sent first.
+fn first_kind_sent(edge: &mut PeerCore, now: u64) -> Option<u8> {
+    for _ in 0..1_000 {
+        if let Duty::Send(sending) = edge.next_duty(now)? {
+            return sending.frame.as_slice().get(4).copied();
+        }
+    }
+    None
+}
+
+/// Of the own messages that are sent again the newest go first.
+#[test]
+fn the_newest_own_message_is_sent_again_first(rt: HostRuntime) {
+    on_edge(&rt, GUARDED, try_the_newest_own_message_is_sent_again_first);
+}
+
+fn try_the_newest_own_message_is_sent_again_first<R: Abort + AllocGlobal>(
+    rt: &R,
+    edge: &mut PeerCore,
+) {
+    dial_all(rt, edge);
+    let _ = duties(edge, 0);
+    for kind in [PREVOTE, PRECOMMIT] {
+        assert_same(rt, &released(rt, edge, &of_round(kind, 0, 1), 0), &123);
+    }
+    assert_same(rt, &first_kind_sent(edge, 1_000), &Some(PRECOMMIT));
 }
 
 /// A bundle goes to who asked for its height, and not again within a second.
