@@ -6,4 +6,5 @@ top=$(cd "$(dirname "${BASH_SOURCE[0]}")" && pwd)
 schedule=$(realpath -- "${1:-$top/schedules/first_decision.txt}")
 cd "$top"
 source gate/sources.sh
-exec "$(program_of tmsim)" "$schedule"
+program=$(program_of tmsim)
+exec "$program" "$schedule"

@@ -21,7 +21,7 @@ import time
 
 sys.dont_write_bytecode = True
 import beside
-from loads import TOP, Load, Running, build_sender, end_when_told, sync_time
+from loads import DIFFER, TOP, Load, Running, build_sender, sync_time, validators
 
 LOADS = ((1, 1), (64, 1), (256, 16))
 # A load more where etcd is beside, whose clients wait for each put.
@@ -99,6 +99,8 @@ def print_loads(given, parent):
     notes = measure(given, parent, sender) + (measure_etcd(given, parent) if given.beside else [])
     for it in notes:
         print(f"- {it}")
+    if any(DIFFER in it for it in notes):
+        sys.exit(1)
 
 
 def print_rest(given, parent):
@@ -136,7 +138,7 @@ def words():
 
 def main():
     given = words().parse_args()
-    end_when_told()
+    validators.end_when_told()
     usual = sorted([*LOADS, BESIDE]) if given.beside else LOADS
     loads = usual if given.clients is None else ((given.clients, given.window),)
     given.loads = [Load(*load, size) for size in given.data for load in loads]

@@ -33,7 +33,7 @@ for kind in apart together; do
     }'
     before=$seconds
   done
-  [ "$kind" = together ] || kept=$kilobytes
+  [ "$kind" = together ] || { kept=$kilobytes last=$((count - step)); }
 done
 echo "refused: 31500, $(awk -v r="$refused" -v z="$nothing" 'BEGIN { printf "%.1f", (r - z) * 1e6 / 31500 }') microseconds a message, peak $least_kilobytes KB"
-echo "31500 kept prevotes take $((kept - least_kilobytes)) KB"
+echo "$last kept prevotes take $((kept - least_kilobytes)) KB"

@@ -4,9 +4,10 @@
 # new folder within FOLDER, which should not be in memory.
 # usage: bench/journal.sh [FOLDER]
 set -euo pipefail
+folder=$(realpath -- "${1:-$(dirname "${BASH_SOURCE[0]}")/..}")
 cd "$(dirname "${BASH_SOURCE[0]}")/.."
 ./build.sh tmbench >&2
-work=$(mktemp -d "${1:-.}/tmbench.XXXXXX")
+work=$(mktemp -d "$folder/tmbench.XXXXXX")
 trap 'rm -rf "$work"' EXIT
 bin/tmbench journal save "$work/saves" 2000 | awk '{ printf "%s, %d saves a second\n", $0, 1000000 / ($3 > 0 ? $3 : 1) }'
 bin/tmbench journal fill "$work/decisions" 335

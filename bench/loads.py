@@ -1,11 +1,8 @@
 """Validators under the load of clients that send to all of them, and what that takes."""
-import contextlib
 import json
 import mmap
 import os
-import random
 import signal
-import socket
 import statistics
 import subprocess
 import sys
@@ -23,6 +20,8 @@ CONNECTIONS = 4
 # Up to how many validators a round may be as short as in test/validators.py. More of them share the processors of one machine.
 FEW = 8
 HAVE_MORE_TIME = {"start": 2000, "delta": 1000, "idle": 100}
+# What is noted where two validators printed other lists.
+DIFFER = "LISTS DIFFER"
 # Replies that every load brings: `accepted`, and that a number is delivered already, where others were quicker.
 USUAL = ("0 0", "13 3")
 # How many bytes of a list are compared at once.
@@ -65,11 +64,6 @@ def build_sender(folder):
             break
     print("no C compiler (cc) builds bench/sender.c here: bench/sender.py sends, which takes as much as the validators do", flush=True)
     return [sys.executable, f"{TOP}/bench/sender.py"]
-
-
-def end_when_told():
-    """Has a signal to end do so by way of what ends validators and removes folders."""
-    signal.signal(signal.SIGTERM, lambda *_: sys.exit(1))
 
 
 def processor_seconds(process):
@@ -124,26 +118,13 @@ def sync_time(folder):
     return statistics.median(took)
 
 
-def quiet_addresses(count):
-    """Returns addresses that can be listened at, none of which the system gives to a connection that some validator dials."""
-    first = int(validators.read("/proc/sys/net/ipv4/ip_local_port_range").split()[0])
-    found = []
-    for port in random.sample(range(1024, first), first - 1024):
-        with socket.socket() as it, contextlib.suppress(OSError):
-            it.bind(("127.0.0.1", port))
-            found.append(f"127.0.0.1:{port}")
-        if len(found) == count:
-            return found
-    raise validators.LeftOut(f"{count} ports below {first}")
-
-
 class Running:
     """A cluster of so many validators in a new folder, which runs, with keys for so many clients."""
 
     def __init__(self, program, parent, count, clients, **how):
         self.folder = tempfile.TemporaryDirectory(dir=parent)
         self.cluster = validators.Cluster(os.path.realpath(program), self.folder.name, ",".join(["1"] * count))
-        self.cluster.addresses = quiet_addresses(count)
+        self.cluster.addresses = validators.free_addresses(count)
         self.how = {**(HAVE_MORE_TIME if count > FEW else {}), **how}
         self.cluster.begin(clients)
 
@@ -205,4 +186,4 @@ class Running:
         lost = ("again", "were sent again"), ("missing", "weren't listed five seconds later")
         notes = [f"{seen[it]} transactions {what}" for it, what in lost if seen[it]]
         notes += [f"{count} replies are `refused {code}`" for code, count in seen["codes"].items() if code not in USUAL]
-        return notes + (["LISTS DIFFER"] if self.lists_differ() else [])
+        return notes + ([DIFFER] if self.lists_differ() else [])

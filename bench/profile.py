@@ -18,7 +18,7 @@ import sys
 import tempfile
 
 sys.dont_write_bytecode = True
-from loads import TOP, Load, Running, build_sender, end_when_told
+from loads import TOP, Load, Running, build_sender, validators
 
 LOAD = Load(256, 16, 64)
 # Samples for each second of a processor.
@@ -196,7 +196,7 @@ def words():
 
 def main():
     given = words().parse_args()
-    end_when_told()
+    validators.end_when_told()
     if not shutil.which("perf"):
         sys.exit("profile.py: perf is missing: apt-get install linux-perf (on Ubuntu linux-tools-generic)")
     with tempfile.TemporaryDirectory(prefix="profile.", dir="/dev/shm" if given.memory else None) as parent:

@@ -54,6 +54,7 @@ FUNCTIONS = {
     "rtlib.guarded": "",
     "rtlib.kit_sources": "names",
     "rtlib.sum_of": "file",
+    "rtlib.text_of": "file",
     "rtlib.Crate.below": "self",
     "rtlib.Crate.build_rlib": "self flags anew",
     "rtlib.Crate.count": "self pattern",

@@ -14,7 +14,7 @@ import os
 import sys
 
 sys.dont_write_bytecode = True
-from kit import ONE_JOB, TOP, crates as crates_below, guard, rt
+from kit import ONE_JOB, TOP, crates as crates_below, guard
 from libraries import where_built
 from wrong_bodies import checked
 
@@ -62,12 +62,15 @@ def main(words):
     edits = {}
     for path in sorted(glob.glob(f"{TOP}/must-not-compile/*/*.edit")):
         edits.setdefault(os.path.basename(os.path.dirname(path)), []).append(path)
+    lost = sorted({*edits, *names} - {it.name for it in crates_below()})
+    for name in lost:
+        print(f"must-not-compile/{name}: there is no such crate")
     wanted = [it for it in crates_below() if it.name in edits and (not names or it.name in names)]
     with where_built(wanted, is_built) as built:
         wells = [tried(crate, path) for crate in built for path in edits[crate.name]]
-    passed, failed = wells.count(True), wells.count(False)
+    passed, failed = wells.count(True), wells.count(False) + len(lost)
     if not wells:
-        failed = 1
+        failed = max(failed, 1)
     print(f"{passed} passed, {failed} failed")
     return 1 if failed else 0
 

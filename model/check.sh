@@ -28,8 +28,15 @@ done
 if [ -n "$keep" ]; then
     mkdir -p "$keep" && work=$(realpath -- "$keep")
 else
-    work=$(mktemp -d) && trap 'rm -rf "$work"' EXIT
+    work=$(mktemp -d)
 fi
+# Each search is a group of processes of its own, which ends with this script.
+set -m
+end_all() {
+    for search in $(jobs -p); do kill -- -"$search" 2> /dev/null || true; done
+    [ -n "$keep" ] || rm -rf "$work"
+}
+trap end_all EXIT
 
 # how each way is compiled, and with which options it runs
 declare -A compiled=([depth]='-O0 -DCOLLAPSE' [long]='-O1 -DCOLLAPSE' [breadth]='-O0 -DCOLLAPSE -DBFS' [part]='-O0 -DBITSTATE')
@@ -73,7 +80,7 @@ measure_of() {
 search() {
     local folder=$1 name rounds options way answer states measure got seconds kept measured
     IFS='|' read -r _ name rounds options way answer states measure <<< "$2"
-    mkdir -p "$folder" && cd "$folder" && cp "$here"/validators.pml "$here"/*.h .
+    mkdir -p "$folder" && cd "$folder" && rm -f passed line trace.txt trail.txt ./*.trail && cp "$here"/validators.pml "$here"/*.h .
     read -ra defined <<< "ROUNDS=$rounds $options" && defined=("${defined[@]/#/-D}")
     spin "${defined[@]}" -a validators.pml > spin.out 2>&1
     # shellcheck disable=SC2086

@@ -90,6 +90,9 @@ def main():
     if any(word.startswith("-") for word in words):
         print(__doc__, file=sys.stderr)
         return 2
+    if not os.access(program, os.X_OK):
+        print(f"charts.py: {program} is no program; ./build.sh makes it", file=sys.stderr)
+        return 2
     schedules = [pathlib.Path(name).resolve() for name in words] or sorted(HERE.glob("*.txt"))
     failed = 0
     with tempfile.TemporaryDirectory() as folder, concurrent.futures.ThreadPoolExecutor(os.cpu_count()) as pool:

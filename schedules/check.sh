@@ -67,6 +67,7 @@ keep() {
 cd "$here/.."
 source gate/sources.sh
 [ -n "$program" ] || program=$(program_of tmsim)
+[ -x "$program" ] || { echo "check.sh: $program is no program; ./build.sh makes it" >&2; exit 2; }
 run_all
 
 failed=0

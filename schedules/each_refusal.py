@@ -110,15 +110,22 @@ def main():
     words.add_argument("--runs", type=int, default=0)
     words.add_argument("schedules", nargs="*")
     given = words.parse_args()
+    program = pathlib.Path(given.program).resolve()
+    if not os.access(program, os.X_OK):
+        print(f"each_refusal.py: {program} is no program; ./build.sh makes it", file=sys.stderr)
+        return 2
     if not shutil.which("gcc"):
         print("no growth can be refused without gcc\n0 passed, 0 failed")
         return 0
     schedules = [pathlib.Path(name).resolve() for name in given.schedules] or sorted(HERE.glob("*.txt"))
     with tempfile.TemporaryDirectory() as work, concurrent.futures.ThreadPoolExecutor(os.cpu_count()) as pool:
-        growths = Growths(pathlib.Path(given.program).resolve(), work)
+        growths = Growths(program, work)
         counts = [it[3] for it in pool.map(lambda schedule: growths.run(schedule, 0), schedules)]
         each = numbers_of(counts, given.runs)
         wrong = sum(refuse_each(growths, *it, pool) for it in zip(schedules, each))
+    if not sum(counts):
+        print("no schedule grows, so nothing was refused")
+        wrong += 1
     print(f"{sum(map(len, each)) - wrong} passed, {wrong} failed")
     return 1 if wrong else 0
 

@@ -7,6 +7,7 @@ Of an append each number of bytes stays in turn. Whatever stays, the validator d
 without a failure; and once it is opened again and the same lines come again, it has delivered all. Without PROGRAM the
 tmsim in bin/ is taken (./build.sh builds it). The last line is 'N passed, M failed'.
 """
+import os
 import pathlib
 import subprocess
 import sys
@@ -80,6 +81,9 @@ def main():
         print(__doc__, file=sys.stderr)
         return 2
     program = pathlib.Path(words[1]).resolve() if words else HERE.parent / "bin/tmsim"
+    if not os.access(program, os.X_OK):
+        print(f"each_stop.py: {program} is no program; ./build.sh makes it", file=sys.stderr)
+        return 2
     with tempfile.TemporaryDirectory() as folder:
         stops = Stops(program, pathlib.Path(folder))
         call = 1

@@ -260,6 +260,9 @@ def main():
     parser.add_argument("--with", dest="program", type=pathlib.Path, default=HERE.parent / "bin/tmsim")
     asked = parser.parse_args()
     program = asked.program.resolve()
+    if not os.access(program, os.X_OK):
+        print(f"random_runs.py: {program} is no program; ./build.sh makes it", file=sys.stderr)
+        return 2
     failed = delivering = 0
     with tempfile.TemporaryDirectory() as folder, concurrent.futures.ThreadPoolExecutor(os.cpu_count()) as pool:
         runs = pool.map(lambda number: run_one(program, folder, asked.seed, number), range(asked.count))
@@ -270,7 +273,8 @@ def main():
                 print(breach)
     print(f"in {delivering} of them something was delivered")
     print(f"{asked.count - failed} passed, {failed} failed")
-    return 1 if failed else 0
+    # (runs in which nothing is ever delivered say nothing of lists)
+    return 1 if failed or not delivering else 0
 
 
 if __name__ == "__main__":

@@ -1,7 +1,7 @@
 """What `tmnode run --config FILE` takes from its file, and what it says of one that it can't use (docs/FORMATS.md)."""
 import subprocess
 
-from validators import PATIENCE, read, want
+from validators import read, want, want_all_ended
 
 
 def config_of(cluster, **more):
@@ -25,20 +25,19 @@ def write(cluster, text, encoding="utf-8"):
 def a_cluster_by_a_file(cluster, _):
     """Four validators whose shared words are in one file deliver the same, and the command line wins over the file."""
     write(cluster, "# a cluster\n\n" + config_of(cluster, stop=1))
-    ran = []
+    ran = {}
     try:
         for me in range(4):
             with open(cluster.path(f"v{me}.list"), "w", encoding="utf-8") as out, open(cluster.path(f"v{me}.log"), "w", encoding="utf-8") as log:
-                ran.append(subprocess.Popen(run_words(cluster, me, "--stop", 2), stdout=out, stderr=log))
+                ran[me] = subprocess.Popen(run_words(cluster, me, "--stop", 2), stdout=out, stderr=log)
         cluster.send_until_taken(7, 0, 1, "--data", "61")
         cluster.send_until_taken(7, 0, 2, "--close")
+        want_all_ended(ran, lambda me: cluster.start(me, {"links": "guarded"}))
         for me in range(4):
-            status = ran[me].wait(timeout=PATIENCE)
-            want(status == 0, f"validator {me} ends with status {status}")
             want(read(cluster.path(f"v{me}.list")) == "0 7 1 61\n1 7 2 close\n", f"validator {me} prints {read(cluster.path(f'v{me}.list'))!r}")
             want("validator" in read(cluster.path(f"v{me}.log")), "nothing is logged")
     finally:
-        for it in ran:
+        for it in ran.values():
             it.kill()
             it.wait()
 

@@ -14,10 +14,8 @@ import argparse
 import collections
 import concurrent.futures
 import os
-import resource
 import shutil
 import signal
-import socket
 import subprocess
 import sys
 import tempfile
@@ -25,7 +23,7 @@ import threading
 import time
 
 from link_trials import GUARDED, processor_seconds, sizes_of
-from validators import ASK, BUNDLE, PRECOMMIT, PREVOTE, PROPOSAL, Cluster, Failed, Heading, Wires, dial, peak_of, want
+from validators import ASK, BUNDLE, PRECOMMIT, PREVOTE, PROPOSAL, Cluster, Failed, Heading, Wires, allow_files, dial, end_when_told, free_addresses, peak_of, want
 
 TOP = os.path.dirname(os.path.dirname(os.path.realpath(__file__)))
 # How long a part may take until all go on, in seconds, and how much longer for each validator: a turn comes, and a crowd that was woken rests, behind
@@ -36,16 +34,6 @@ HEIGHT = 4
 STILL, REST = 20, 60_000
 # How many validators are asked at a time how far they are.
 ASKED_TOGETHER = 16
-
-
-def low_addresses(count):
-    """Returns addresses that are free and that the system gives no link: where thousands of links are dialed it soon gives any other."""
-    found = []
-    for port in range(20_000 + os.getpid() % 5_000, 32_000):
-        with socket.socket() as tried:
-            if len(found) < count and tried.connect_ex(("127.0.0.1", port)) != 0:
-                found.append(f"127.0.0.1:{port}")
-    return found
 
 
 # What frames are called, by their kind.
@@ -78,7 +66,7 @@ class Crowd(Cluster):
     def __init__(self, program, folder, powers, how):
         super().__init__(program, folder, powers)
         self.patience = PATIENCE + HEIGHT * self.count
-        addresses = low_addresses(2 * self.count)
+        addresses = free_addresses(2 * self.count)
         self.how, self.addresses, self.told_at = how, addresses[: self.count], addresses[self.count :]
         self.traffic = Traffic()
         self.peers = Wires(self.addresses, self.traffic.passes).peers_of(0)
@@ -171,8 +159,10 @@ def delivers(crowd, first, count, what):
     words = crowd.words_of_send(7, 0, first, "--file", file)
     words[words.index("--to") + 1] = ",".join(crowd.addresses[it] for it in crowd.receivers())
     with subprocess.Popen(words, stdout=subprocess.DEVNULL) as sender:
-        crowd.wait_for(lambda it: it[1] >= wanted, what)
-        sender.kill()
+        try:
+            crowd.wait_for(lambda it: it[1] >= wanted, what)
+        finally:
+            sender.kill()
     tell(f"{what}: {count} transactions are delivered by all after {time.monotonic() - began:.1f} s")
 
 
@@ -207,10 +197,14 @@ def main():
     parser.add_argument("--transactions", type=int, default=1000)
     parser.add_argument("--start", type=int, default=1000)
     asked = parser.parse_args()
-    soft, hard = resource.getrlimit(resource.RLIMIT_NOFILE)
-    resource.setrlimit(resource.RLIMIT_NOFILE, (min(max(soft, 4096), hard), hard))
+    program = os.path.realpath(asked.program)
+    if not os.access(program, os.X_OK):
+        print(f"crowds.py: {program} is no program; ./build.sh makes it", file=sys.stderr)
+        return 2
+    end_when_told()
+    allow_files(4_096)
     folder = tempfile.mkdtemp(prefix="crowd.")
-    crowd = Crowd(os.path.realpath(asked.program), folder, asked.powers or ",".join(["1"] * asked.validators), {"start": asked.start, "delta": asked.start // 2, "redial": 1000})
+    crowd = Crowd(program, folder, asked.powers or ",".join(["1"] * asked.validators), {"start": asked.start, "delta": asked.start // 2, "redial": 1000})
     try:
         crowd.begin()
         for part in (

@@ -6,7 +6,7 @@ import os
 import subprocess
 import time
 
-from validators import DECISION, LOCK, MARK, OWN, PATIENCE, PRECOMMIT, PREVOTE, PROPOSAL, Failed, read, want
+from validators import DECISION, LOCK, MARK, OWN, PATIENCE, PRECOMMIT, PREVOTE, PROPOSAL, read, want
 
 
 class Bytes:
@@ -218,10 +218,13 @@ def a_journal_is_followed(cluster, _):
 def a_reader_that_leaves(cluster, _):
     """The output may end early, as into `head`: the status is then 1 and nothing more is told."""
     run_for_a_while(cluster, 2)
-    with open("/dev/full", "w", encoding="utf-8") as full:
-        ran = subprocess.run([cluster.program, "journal", cluster.path("v0.journal")], stdout=full, stderr=subprocess.PIPE, timeout=PATIENCE, check=False)
-    if ran.returncode != 1 or ran.stderr:
-        raise Failed(f"a full device: status {ran.returncode}, {ran.stderr!r}")
+    words = [cluster.program, "journal", cluster.path("v0.journal")]
+    reading, writing = os.pipe()
+    os.close(reading)
+    with open("/dev/full", "wb") as full, open(writing, "wb") as left:
+        for name, out in (("a full device", full), ("a pipe that nobody reads", left)):
+            ran = subprocess.run(words, stdout=out, stderr=subprocess.PIPE, timeout=PATIENCE, check=False)
+            want((ran.returncode, ran.stderr) == (1, b""), f"{name}: status {ran.returncode}, {ran.stderr!r}")
 
 
 JOURNAL_TRIALS = (journals_at_each_cut, journals_that_are_none, a_journal_is_followed, a_reader_that_leaves)

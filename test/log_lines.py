@@ -28,6 +28,8 @@ def rows():
                 break
             elif is_there:
                 found += re.findall(r"`([^`]*)`", line.split("|")[1])
+    if not found:
+        raise LookupError("docs/RUNNING.md has no table of the log's lines")
     return found
 
 

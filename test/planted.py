@@ -21,10 +21,16 @@ TOP = pathlib.Path(__file__).resolve().parent.parent
 
 # How long a seed may take, in seconds.
 PATIENCE = 1800
+# With which statuses tmcluster ends without a verdict on its seed.
+WITHOUT_VERDICT = (2, 4, 5)
 
 
 class BadEdit(Exception):
     """An edit that can't be applied."""
+
+
+class NoVerdict(Exception):
+    """The simulator ended without a run: for its words, for want of memory, or since it couldn't print."""
 
 
 def apply(edit, top):
@@ -69,6 +75,8 @@ def run(program, seed, words):
         return "it takes too long"
     if ran.returncode == 0:
         return None
+    if ran.returncode in WITHOUT_VERDICT:
+        raise NoVerdict(f"tmcluster ends with {ran.returncode}: {ran.stderr.strip()}")
     failures = [line for line in ran.stdout.splitlines() if ": failed: " in line]
     return failures[-1] if failures else f"status {ran.returncode}"
 
@@ -117,7 +125,7 @@ def main():
     edits = asked.edits or sorted((TOP / "test/planted").glob("*.edit"))
     try:
         found = [try_out(edit, asked, words) for edit in edits]
-    except BadEdit as bad:
+    except (BadEdit, NoVerdict) as bad:
         print(f"test/planted.py: {bad}", file=sys.stderr)
         return 2
     print(f"{sum(found)} found, {len(found) - sum(found)} not found")

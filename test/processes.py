@@ -43,9 +43,11 @@ from validators import (
     POWERS,
     Tap,
     Wires,
+    allow_files,
     among,
     decisions_in,
     dial,
+    end_when_told,
     free_addresses,
     hold,
     limited,
@@ -57,6 +59,7 @@ from validators import (
     transaction_frame,
     vote_by,
     want,
+    want_all_ended,
     want_one_for_each_step,
 )
 
@@ -137,7 +140,7 @@ def halts_and_comes_back(cluster, changed, make_room, **how):
     for number in range(1, 13):
         cluster.send_until_taken(7, 0, number, "--data", "61" * 200)
     cluster.want_same(12, 0, 1, 2)
-    status = cluster.running.pop(3).wait(timeout=PATIENCE)
+    status = cluster.running[3].wait(timeout=PATIENCE)
     want(status == 6, f"the validator ends with status {status}")
     want(read(cluster.path("v3.log")).endswith("tmnode: halted\n"), "it doesn't say that it halted")
     before, saved = read(cluster.list_of(3)).rstrip("\n"), records_of(journal)
@@ -174,25 +177,10 @@ def four_print_the_same_and_end(cluster, _):
         cluster.start(me, {"stop": 2})
     cluster.send_until_taken(7, 0, 1, "--data", "61")
     cluster.send_until_taken(7, 0, 2, "--close")
-    processes, lists = {**cluster.running}, {me: cluster.list_of(me) for me in range(4)}
-    # Who ends takes its links with it, so where a processor is short up to two may be left behind, too few to decide: they end once another one is back.
-    behind = [me for me in range(4) if not ended(processes[me], 20)]
-    want(len(behind) <= 2, f"validators {behind} don't end, though they are enough to decide")
-    if behind:
-        cluster.start(next(me for me in range(4) if me not in behind))
+    lists = {me: cluster.list_of(me) for me in range(4)}
+    want_all_ended({**cluster.running}, cluster.start)
     for me in range(4):
-        status = processes[me].wait(timeout=PATIENCE)
-        want(status == 0, f"validator {me} ends with status {status}")
         want(read(lists[me]) == "0 7 1 61\n1 7 2 close\n", f"validator {me} prints {read(lists[me])!r}")
-
-
-def ended(process, seconds):
-    """Whether a process ends within so many seconds."""
-    try:
-        process.wait(timeout=seconds)
-    except subprocess.TimeoutExpired:
-        return False
-    return True
 
 
 def what_a_client_is_told(cluster, _):
@@ -331,8 +319,9 @@ def a_list_that_cannot_be_written(cluster, _):
         want(time.monotonic() < ends, f"it says nothing of its list: {read(cluster.path('v3.log'))[-400:]!r}")
         time.sleep(0.1)
     want(cluster.running[3].poll() is None, "it has ended")
-    ran = subprocess.run([cluster.program, "journal", cluster.path("v3.journal"), "--list"], capture_output=True, text=True, timeout=PATIENCE, check=False)
-    want(ran.stdout.splitlines() == read(cluster.list_of(0)).splitlines(), "its journal lacks lines")
+    while (listed := cluster.listed_by_journal(3)) != (wanted := read(cluster.list_of(0)).splitlines()):
+        want(time.monotonic() < ends, f"its journal has {len(listed)} lines of {len(wanted)}")
+        time.sleep(0.1)
 
 
 def nothing_to_do(cluster, _):
@@ -864,8 +853,10 @@ def tried(test, program, is_long):
         print(f"{test.__name__}: left out: {lack}", flush=True)
         shutil.rmtree(folder)
         return None
-    except (Failed, OSError, subprocess.SubprocessError) as fault:
-        print(f"{test.__name__}: FAILED: {fault}; see {folder}", flush=True)
+    except Exception as fault:
+        # (whatever it is, the tests behind this one run)
+        why = fault if isinstance(fault, (Failed, OSError, subprocess.SubprocessError)) else repr(fault)
+        print(f"{test.__name__}: FAILED: {why}; see {folder}", flush=True)
         return False
     finally:
         cluster.end()
@@ -885,6 +876,11 @@ def main():
     if not os.access(program, os.X_OK):
         print(f"processes.py: {program} is no program; ./build.sh makes it", file=sys.stderr)
         return 2
+    if unknown := {*given.names} - {it.__name__ for it in TESTS}:
+        print(f"processes.py: there is no test {', '.join(sorted(unknown))}", file=sys.stderr)
+        return 2
+    end_when_told()
+    allow_files(4_096)
     wells = [tried(test, program, given.long) for test in TESTS if not given.names or test.__name__ in given.names]
     if not given.names:
         wells.append(each_line_of_the_log(None not in wells))

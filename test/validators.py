@@ -1,11 +1,14 @@
 """Validators of a cluster as processes on this machine, clients, and what stands between them."""
+import contextlib
 import hashlib
 import hmac
 import os
 import random
 import resource
+import signal
 import socket
 import subprocess
+import sys
 import threading
 import time
 
@@ -44,18 +47,48 @@ def among(powers):
 
 def free_addresses(count):
     """Returns addresses that nobody has, of ports that the system gives to nobody who dials, and none of them twice."""
-    found = []
-    while len(found) < count:
-        port = random.randrange(10_000, 32_000)
-        with socket.socket() as it:
-            try:
-                it.bind(("127.0.0.1", port))
-            except OSError:
-                continue
-        if port not in GIVEN_PORTS:
-            GIVEN_PORTS.add(port)
-            found.append(f"127.0.0.1:{port}")
-    return found
+    dialed, found = int(read("/proc/sys/net/ipv4/ip_local_port_range").split()[0]), []
+    for port in random.sample(range(1024, dialed), dialed - 1024):
+        if len(found) == count:
+            return found
+        with socket.socket() as it, contextlib.suppress(OSError):
+            it.bind(("127.0.0.1", port))
+            if port not in GIVEN_PORTS:
+                GIVEN_PORTS.add(port)
+                found.append(f"127.0.0.1:{port}")
+    raise LeftOut(f"{count} free ports below {dialed}")
+
+
+def allow_files(count):
+    """Lets this process, and those that it begins, have so many files open, as far as they may."""
+    soft, hard = resource.getrlimit(resource.RLIMIT_NOFILE)
+    resource.setrlimit(resource.RLIMIT_NOFILE, (min(max(soft, count), hard), hard))
+
+
+def end_when_told():
+    """Has this process end at SIGTERM as at an error, so that what it began is ended too."""
+    signal.signal(signal.SIGTERM, lambda *_: sys.exit(1))
+
+
+def ended(process, seconds):
+    """Whether a process ends within so many seconds."""
+    try:
+        process.wait(timeout=seconds)
+    except subprocess.TimeoutExpired:
+        return False
+    return True
+
+
+def want_all_ended(processes, bring_back):
+    """Wants each of four validators, which end after some items, to end without a failure. Who ends takes its links with it, so where a
+    processor is short up to two may be left behind, too few to decide: they end once another one is back, which `bring_back` starts."""
+    behind = [me for me, it in processes.items() if not ended(it, 20)]
+    want(len(behind) <= 2, f"validators {behind} don't end, though they are enough to decide")
+    if behind:
+        bring_back(next(me for me in processes if me not in behind))
+    for me, it in processes.items():
+        status = it.wait(timeout=PATIENCE)
+        want(status == 0, f"validator {me} ends with status {status}")
 
 
 def read(path):
@@ -218,6 +251,11 @@ class Cluster:
             want(time.monotonic() < ends, f"validator {me} has decided {decided} heights of {count}")
             time.sleep(0.02)
 
+    def listed_by_journal(self, me):
+        """Returns the lines of the list that a validator's journal holds."""
+        words = [self.program, "journal", self.path(f"v{me}.journal"), "--list"]
+        return subprocess.run(words, capture_output=True, text=True, timeout=PATIENCE, check=False).stdout.splitlines()
+
     def list_of(self, me):
         return self.path(f"v{me}.{self.starts[me]}.list")
 
@@ -236,7 +274,7 @@ class Cluster:
 
     def send(self, client, to, number, *what):
         """Sends one transaction, and returns what is told of it."""
-        ran = subprocess.run(self.words_of_send(client, to, number, *what), capture_output=True, text=True, timeout=30, check=False)
+        ran = subprocess.run(self.words_of_send(client, to, number, *what), capture_output=True, text=True, timeout=PATIENCE, check=False)
         return ran.returncode, (ran.stdout + ran.stderr).strip()
 
     def file_of(self, lines):
@@ -372,6 +410,9 @@ class Wires:
         except OSError:
             pass
         for it in (near, far):
+            # (the other direction reads of the same two, so closing them alone would tell nobody)
+            with contextlib.suppress(OSError):
+                it.shutdown(socket.SHUT_RDWR)
             it.close()
 
 

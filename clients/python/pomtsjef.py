@@ -173,9 +173,9 @@ def place_behind(items, client):
 
 def address_of(word):
     """Returns the host and the port of HOST:PORT. ValueError: it has another form."""
-    host, port = word.rsplit(":", 1)
-    if int(port) not in range(1, 1 << 16):
-        raise ValueError("a port is out of range")
+    host, _, port = word.rpartition(":")
+    if not host or not (port.isascii() and port.isdecimal()) or int(port) not in range(1, 1 << 16):
+        raise ValueError(f"{word} is no HOST:PORT")
     return host.strip("[]"), int(port)
 
 
