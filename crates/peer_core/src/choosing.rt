@@ -3,7 +3,7 @@
 //! Both of two validators may have dialed the other, so there may be two links between them. Each uses the one that it dialed
 //! itself, once something came back: it leads to the other's address, while on one that it accepted whoever is nearer can hand on
 //! the other's frames, and so pass for it. Where none leads there, it uses the one on which something new of the other came last,
-//! as who only replays seldom has any.
+//! as who only replays has none.
 
 use crate::link::PeerLink;
 

@@ -216,7 +216,7 @@ impl PeerLinks {
         }
     }
 
-    /// Returns for how many seconds a link that was dialed may be silent until it leads nowhere.
+    /// Returns for how many seconds a link may be silent until another one is preferred.
     fn most_missed(&self) -> u32 {
         MOST_MISSED.saturating_mul(u32::from(sixteens(self.count)))
     }
