@@ -1,8 +1,13 @@
 -- What waits on a link, and what came by.
 use Rattle.std.specs.Prelude.{◌≡◌, ℕ, ◌≤◌, Bool, true, false, List, [], ◌∷◌, ◌++◌, length}
+use Rattle.std.specs.List.{sum_by}
 
 abbrev pub Frame : Type 0
 Frame = List ℕ
+
+-- how many bytes these have together
+abbrev pub bytes_of : List Frame → ℕ
+bytes_of frames = sum_by length frames
 
 -- all that were taken in, all that were handed out, and what waits, each in order
 pub record Line : Type 0 where

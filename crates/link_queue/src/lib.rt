@@ -1,6 +1,6 @@
 //! The frames that wait to be sent on one link.
 //!
-//! A [`LinkQueue`] holds at most 1,024 of them. Any thread offers a frame, which is one `Bytes`
+//! A [`LinkQueue`] holds at most 1,024 of them, with 16 MiB. Any thread offers a frame, which is one `Bytes`
 //! that the queues of all links share, and never waits for room: a frame that finds none is
 //! dropped, and its sender is told. The thread that writes to the link takes them in the order in
 //! which they were taken in, and waits where there are none. Once the queue is closed it takes what
@@ -16,4 +16,6 @@ mod queue;
 mod waiting;
 
 pub use queue::LinkQueue;
-pub use waiting::{Anything, Cause, Dropped, MOST_FRAMES, Queued, Sent, Untaken, Waiting};
+pub use waiting::{
+    Anything, Cause, Dropped, MOST_BYTES, MOST_FRAMES, Queued, Sent, Untaken, Waiting,
+};

@@ -25,7 +25,7 @@ pub struct LinkQueue<S: Sent> {
 }
 
 impl<S: Sent> LinkQueue<S> {
-    /// An empty queue, with room for 1,024 frames.
+    /// An empty queue, with room for 1,024 frames of 16 MiB.
     pub fn new(alloc: Global) -> Result<LinkQueue<S>, AllocError> {
         let shared = Shared {
             waiting: Mutex::new(Waiting::new(alloc)?),

@@ -1,6 +1,6 @@
 //! What waits on a link, as it stands under the queue's lock, and the answers that it alone makes.
 
-ghost use Rattle.std.specs.Prelude.{◌≡◌, ◌≤◌, ℕ, false, true, Some, None, [], length, IfOk, MatchResult, MatchBool};
+ghost use Rattle.std.specs.Prelude.{◌≡◌, ◌≤◌, ◌||◌, ◌&&◌, ℕ, false, true, Some, None, [], length, nat_le, nat_lt, IfOk, MatchResult, MatchBool};
 ghost use Rattle.link_queue.specs.Line.{line, IsInOrder, with_accepted, Handed, HasEnded, IsIdle};
 
 use crate::history::Frames;
@@ -12,6 +12,9 @@ use thiserror::Error;
 
 /// How many frames wait on a link at most.
 pub const MOST_FRAMES: usize = 1_024;
+
+/// How many bytes they have at most, where it is more than one: 16 MiB.
+pub const MOST_BYTES: usize = 16 * 1_024 * 1_024;
 
 /// What is known of each frame that is offered, and so of each that is taken.
 pub trait Sent {
@@ -32,7 +35,7 @@ impl Sent for Anything {
 /// Why a frame was dropped.
 #[derive(Clone, Copy, Debug, Error, PartialEq, Eq)]
 pub enum Cause {
-    /// As many frames waited as a queue holds.
+    /// As many frames, or bytes, waited as a queue holds.
     #[error("the queue is full")]
     Full,
     /// The queue was closed.
@@ -106,6 +109,8 @@ impl Untaken {
 #[derive(Drop)]
 pub struct Waiting<S: Sent> {
     frames: VecDeque<Bytes>,
+    /// How many bytes these have.
+    bytes: usize,
     is_closed: bool,
     accepted: Frames,
     taken: Frames,
@@ -113,19 +118,19 @@ pub struct Waiting<S: Sent> {
 }
 
 impl<S: Sent> Model for Waiting<S> {
-    ghost use Rattle.std.specs.Prelude.{◌≤◌, All};
+    ghost use Rattle.std.specs.Prelude.{◌≡◌, ◌≤◌, All};
     ghost use Rattle.std.specs.VecDeque.{deque_capacity};
-    ghost use Rattle.link_queue.specs.Line.{Line, line, IsInOrder};
+    ghost use Rattle.link_queue.specs.Line.{Line, line, bytes_of, IsInOrder};
 
     ghost Value = { Line };
 
     ghost view = { λ w. line w.accepted.frames w.taken.frames w.frames.items w.is_closed };
 
-    ghost invariant = { λ w. (1024 ≤ deque_capacity w.frames) × IsInOrder (line w.accepted.frames w.taken.frames w.frames.items w.is_closed) × All S.sent w.frames.items };
+    ghost invariant = { λ w. (1024 ≤ deque_capacity w.frames) × IsInOrder (line w.accepted.frames w.taken.frames w.frames.items w.is_closed) × All S.sent w.frames.items × (w.bytes ≡ bytes_of w.frames.items) };
 }
 
 impl<S: Sent> Waiting<S> {
-    ghost use Rattle.link_queue.specs.Answers.{refusal, given_back, cause_of, count_of, is_end};
+    ghost use Rattle.link_queue.specs.Answers.{is_full, refusal, given_back, cause_of, count_of, is_end};
 
     /// No frame, and room for as many as a queue holds.
     pub fn new(alloc: Global) -> Result<Waiting<S>, AllocError>
@@ -133,6 +138,7 @@ impl<S: Sent> Waiting<S> {
     {
         Ok(Waiting {
             frames: VecDeque::with_capacity(alloc, MOST_FRAMES)?,
+            bytes: 0,
             is_closed: false,
             accepted: Frames::none(),
             taken: Frames::none(),
@@ -160,22 +166,32 @@ impl<S: Sent> Waiting<S> {
     pub fn offer(&mut self, frame: Bytes) -> Result<Queued, Dropped>
         requires sent { S.sent frame }
         ensures answer { MatchResult result
-            (λ q. (refusal self.old ≡ None) × (self.new ≡ with_accepted self.old frame) × (count_of q ≡ length self.new.queued))
-            (λ d. (refusal self.old ≡ Some (cause_of d)) × (given_back d ≡ frame) × (self.new ≡ self.old)) }
+            (λ q. (refusal self.old frame ≡ None) × (self.new ≡ with_accepted self.old frame) × (count_of q ≡ length self.new.queued))
+            (λ d. (refusal self.old frame ≡ Some (cause_of d)) × (given_back d ≡ frame) × (self.new ≡ self.old)) }
         ensures order { IsInOrder self.new }
     {
+        let bytes = self.bytes.saturating_add(frame.len());
         let cause = if self.is_closed {
             Cause::Closed
-        } else if self.frames.len() >= MOST_FRAMES {
+        } else if self.is_full(bytes) {
             Cause::Full
         } else {
             self.accepted.add(frame.as_slice());
+            self.bytes = bytes;
             self.frames.push_back_reserved(frame);
             return Ok(Queued {
                 waiting: self.frames.len(),
             });
         };
         Err(Dropped { cause, frame })
+    }
+
+    /// Returns whether there is no room for one more frame, with which there would be so many bytes.
+    fn is_full(&self, bytes: usize) -> bool
+        ensures { result ≡ (nat_le 1024 (length self.now.queued) || (nat_lt 0 (length self.now.queued) && nat_lt 16777216 bytes)) }
+    {
+        let count = self.frames.len();
+        count >= MOST_FRAMES || count > 0 && bytes > MOST_BYTES
     }
 
     /// Hands out the frame that waited longest. It takes no memory.
@@ -191,6 +207,7 @@ impl<S: Sent> Waiting<S> {
                 has_ended: self.is_closed,
             });
         };
+        self.bytes -= frame.len();
         self.taken.add(frame.as_slice());
         Ok(frame)
     }

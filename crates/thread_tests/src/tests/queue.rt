@@ -2,7 +2,7 @@
 
 use super::assert_same;
 use bytes::Bytes;
-use link_queue::{Anything, Cause, LinkQueue, MOST_FRAMES, Untaken};
+use link_queue::{Anything, Cause, LinkQueue, MOST_BYTES, MOST_FRAMES, Untaken};
 use std::alloc::{AllocError, Global};
 use std::process::Abort;
 use std::sync::{Arc, Mutex, Wait};
@@ -121,6 +121,38 @@ fn one_frame_more_than_fits(rt: HostRuntime) {
     let queue = queue_of(&rt, rt.alloc());
     let frame = frame_of(rt.alloc(), 1).expect(&rt, "no memory");
     assert_full(&rt, rt.alloc(), &queue, &frame);
+}
+
+/// A frame of so many bytes.
+fn large<R: Abort>(rt: &R, alloc: Global, count: usize) -> Bytes {
+    let bytes = vec![in alloc; 0u8; count].expect(rt, "no memory");
+    Bytes::from_vec(bytes).expect(rt, "no memory")
+}
+
+#[test]
+fn more_bytes_than_fit(rt: HostRuntime) {
+    let queue = queue_of(&rt, rt.alloc());
+    let half = large(&rt, rt.alloc(), MOST_BYTES / 2);
+    assert!(rt; fill(&rt, &queue, &half, 2));
+    assert_same(
+        &rt,
+        &offer(&rt, rt.alloc(), &queue, 1),
+        &Answer::Dropped(Cause::Full),
+    );
+    assert_same(&rt, &take(&rt, &queue), &Found::Number(u32::MAX));
+    assert_same(&rt, &offer(&rt, rt.alloc(), &queue, 1), &Answer::Queued(2));
+}
+
+#[test]
+fn a_large_frame_that_is_alone_has_room(rt: HostRuntime) {
+    let queue = queue_of(&rt, rt.alloc());
+    let frame = large(&rt, rt.alloc(), MOST_BYTES + 1);
+    assert!(rt; fill(&rt, &queue, &frame, 1));
+    assert_same(
+        &rt,
+        &offer(&rt, rt.alloc(), &queue, 1),
+        &Answer::Dropped(Cause::Full),
+    );
 }
 
 /// What waits at the close of an empty queue still comes, and then its end.
