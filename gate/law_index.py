@@ -17,7 +17,9 @@ from pathlib import Path
 from typing import NamedTuple
 
 TOP = Path(__file__).resolve().parent.parent
-LAW = re.compile(r"((?:^///[^\n]*\n)*)^pub fn (\w+)(?:<[^>]*>)?\(\)\n\s+ensures \{ (\w+)[^}]*\}\n\{\}", re.M)
+# (its body has nothing, or calls of other laws)
+LAW = re.compile(r"((?:^///[^\n]*\n)*)^pub fn (\w+)(?:<[^>]*>)?\(\)\n((?: +(?://[^\n]*|ensures [^\n]*)\n)+)\{(?:\n(?: +\w+\(\);\n)+)?\}", re.M)
+STATED = re.compile(r"ensures \w* ?\{ (\w+)")
 LEMMA = re.compile(r"^pub (?:unfoldable |abbrev )?([^\s:]+) :(?! goal\.)", re.M)
 NAMES = re.compile(r"^(?:pub )?use Rattle\.(\w+)\.proofs\.([\w.]*\w)\.\{([^}]*)\}", re.M)
 LEMMAS = re.compile(r"^(?:pub )?use Rattle\.(\w+)\.proofs\.([\w.]*\w)", re.M)
@@ -34,15 +36,20 @@ def text_of(path):
     return (TOP / path).read_text(encoding="utf-8")
 
 
+def stated_in(text, statement):
+    """Returns a law's definition with its file, as the code that cites it brings it in."""
+    where = re.search(rf"Rattle\.(\w+)\.specs\.(\w+)\.\{{[^}}]*\b{statement}\b", text)
+    return f"{statement} in crates/{where[1]}/specs/{where[2]}.antt"
+
+
 def laws_of(crate):
     for file in sorted((TOP / f"crates/{crate}/src").glob("*.rt")):
         text = text_of(file)
         # (a proof's folder is named after its function, within one that is named after the file, but for lib.rt)
         inner = "" if file.stem == "lib" else f"{file.stem}/"
-        for doc, name, statement in LAW.findall(text):
-            where = re.search(rf"Rattle\.(\w+)\.specs\.(\w+)\.\{{[^}}]*\b{statement}\b", text)
+        for doc, name, clauses in LAW.findall(text):
             says = " ".join(doc.replace("///", " ").split())
-            stated = f"{statement} in crates/{where[1]}/specs/{where[2]}.antt"
+            stated = ", ".join(stated_in(text, it) for it in STATED.findall(clauses))
             yield Law(name, says, stated, f"crates/{crate}/proofs/{inner}{name}")
 
 

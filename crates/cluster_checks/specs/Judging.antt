@@ -1,7 +1,9 @@
 -- What a judge's list says of the items that a validator delivers.
-use Rattle.std.specs.Prelude.{◌≡◌, ℕ, ◌+◌, ◌<◌, ◌==◌, ◌&&◌, Bool, true, if◌then◌else◌, List, length, Some, MatchOption, slice_get}
+use Rattle.std.specs.Prelude.{◌≡◌, ℕ, ◌+◌, ◌<◌, ◌==◌, ◌&&◌, Bool, true, if◌then◌else◌, List, length, drop, Some, MatchOption, slice_get}
 use Rattle.std.specs.Option.{option_map}
 use Rattle.transactions.specs.declared.tx.Tx.{Tx}
+use Rattle.transactions.specs.declared.tx.Op.{Op}
+use Rattle.protocol.specs.Values.{is_close}
 use Rattle.cluster_checks.specs.declared.kinds.TxName.{TxName}
 use Rattle.cluster_checks.specs.declared.failure.Failure.{Failure}
 use Rattle.cluster_checks.specs.declared.failure.Failure.TheVariants.{Disagreement}
@@ -31,6 +33,14 @@ follows sender name =
 -- a client that is correct sent this next
 abbrev pub HasSent : Sender → Delivered → Type 0
 HasSent sender item = sender.is_correct ≡ true → slice_get sender.sent.items 0 ≡ Some item
+
+-- what a client sent and isn't delivered, once the next of it is: of a Byzantine client that isn't known
+abbrev pub left_after : Sender → List Delivered
+left_after sender = if sender.is_correct then drop 1 sender.sent.items else sender.sent.items
+
+-- a client's place in its order is behind this item
+abbrev pub StandsAt : TxName → Op → Sender → Type 0
+StandsAt name op sender = (sender.session ≡ name.session) × (sender.number ≡ name.number) × (sender.is_closed ≡ is_close op)
 
 -- a transaction is its client's next, which it sent if it is correct
 abbrev pub IsNext : List Sender → Tx → Type 0

@@ -2,7 +2,7 @@
 
 ghost use Rattle.std.specs.Prelude.{◌≡◌, ◌+◌, ◌++◌, ◌∷◌, [], true, Some, IfErr, OnOk, OnErr, length, slice_get};
 ghost use Rattle.std.specs.Bool.{Decides};
-ghost use Rattle.cluster_checks.specs.Judging.{name_of, item_of, follows, Keeps, Has, HasSent, IsNext, IsDeserved};
+ghost use Rattle.cluster_checks.specs.Judging.{name_of, item_of, follows, left_after, Keeps, Has, HasSent, IsNext, StandsAt, IsDeserved};
 
 use crate::failure::Failure;
 use crate::kinds::TxName;
@@ -247,7 +247,9 @@ impl Judge {
 
 impl Sender {
     /// A correct client is about to send this.
-    fn send(&mut self, name: TxName, op: Op) -> Result<(), AllocError> {
+    fn send(&mut self, name: TxName, op: Op) -> Result<(), AllocError>
+        ensures { OnOk result (self.new.sent.items ≡ self.old.sent.items ++ record { name = name; op = op } ∷ []) }
+    {
         if name.number == 1 {
             self.sessions.push(self.count)?;
         }
@@ -271,7 +273,9 @@ impl Sender {
 
     /// Returns whether it sent this next, of which only a correct client is asked.
     fn has_sent(&mut self, tx: &Tx) -> bool
-        ensures { result ≡ true → HasSent self.old (item_of tx.now) }
+        ensures sent { result ≡ true → HasSent self.old (item_of tx.now) }
+        ensures place { (self.new.session ≡ self.old.session) × (self.new.number ≡ self.old.number) × (self.new.is_closed ≡ self.old.is_closed) }
+        ensures left { self.new.sent.items ≡ left_after self.old }
     {
         if !self.is_correct {
             return true;
@@ -282,7 +286,10 @@ impl Sender {
         }
     }
 
-    fn deliver(&mut self, name: TxName, op: &Op, place: u64) -> Result<(), AllocError> {
+    /// Notes that this is delivered at a place of the list.
+    fn deliver(&mut self, name: TxName, op: &Op, place: u64) -> Result<(), AllocError>
+        ensures { StandsAt name op.now self.new }
+    {
         self.session = name.session;
         self.number = name.number;
         self.is_closed = matches!(op, Op::Close);

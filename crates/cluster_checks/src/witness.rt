@@ -1,7 +1,7 @@
 //! What is known of what a validator said and saved, over all of its lives.
 
 ghost use Rattle.std.specs.Prelude.{◌≡◌, ℕ, Some, List, OnOk};
-ghost use Rattle.cluster_checks.specs.Telling.{body_at, saying_of};
+ghost use Rattle.cluster_checks.specs.Telling.{body_at, saying_of, KeepsOthers};
 
 use crate::failure::Failure;
 use crate::kinds::{Heading, Kind, body_within};
@@ -140,6 +140,7 @@ impl Witness {
         ensures saved { OnOk result (body_at self.old.saved (saying_of heading) ≡ Some body.now) }
         ensures said { OnOk result (body_at self.new.said (saying_of heading) ≡ Some body.now) }
         ensures once { (other : List ℕ) → body_at self.old.said (saying_of heading) ≡ Some other → OnOk result (other ≡ body.now) }
+        ensures others { KeepsOthers (saying_of heading) self.old.said self.new.said }
     {
         let saying = Saying::of(heading);
         match self.saved.get(&saying) {
@@ -153,6 +154,7 @@ impl Witness {
     fn say(&mut self, saying: Saying, body: &[u8]) -> Result<(), Failure>
         ensures said { OnOk result (body_at self.new.said saying ≡ Some body.now) }
         ensures once { (other : List ℕ) → body_at self.old.said saying ≡ Some other → OnOk result (other ≡ body.now) }
+        ensures others { KeepsOthers saying self.old.said self.new.said }
     {
         match self.said.get(&saying) {
             Some(said) if said.as_slice() == body => Ok(()),

@@ -10,7 +10,7 @@ pub fn certificates_law()
     ensures { CertificatesLaw }
 {}
 
-/// The published number of items is all that it delivered, of the same nodes: it is at most 2^56, and stays within a u64.
+/// The published number of items is all that it delivered, of the same nodes.
 pub fn count_law()
     ensures { CountLaw }
 {}

@@ -181,7 +181,7 @@ impl<S: Store + Drop> NodeCore<S> {
         self.journal.has_failed()
     }
 
-    /// Whether no rule is enabled: true after each call that answered `Ok`.
+    /// Whether no rule is enabled: true after each `handle`, `fire_timeout` and `settle` that answered `Ok`.
     pub fn is_settled(&self) -> bool
         ensures { result ≡ is_none (enabled self.now.machine.powers self.now.machine.state) }
     {

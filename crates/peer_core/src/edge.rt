@@ -1,6 +1,6 @@
 //! A validator's edge, and how links come and go.
 
-ghost use Rattle.std.specs.Prelude.{◌≡◌, true, false, nat_lt, OnOk};
+ghost use Rattle.std.specs.Prelude.{◌≡◌, true, false, max, nat_lt, OnOk};
 ghost use Rattle.peer_core.specs.Resting.{is_held, holding};
 ghost use Rattle.peer_core.specs.Duties.{with_timeout};
 
@@ -181,7 +181,8 @@ impl PeerCore {
 
     /// Notes the height that a call of the node told, and returns whether it is a new one.
     pub fn told(&mut self, height: u64, now: u64) -> bool
-        ensures { result ≡ nat_lt self.old.told height }
+        ensures answer { result ≡ nat_lt self.old.told height }
+        ensures noted { self.new.told ≡ max self.old.told height }
     {
         let is_new = height > self.told;
         self.advance(height, now);
@@ -193,7 +194,8 @@ impl PeerCore {
 
     /// Forgets what was of lower heights.
     pub(crate) fn advance(&mut self, height: u64, now: u64)
-        ensures { self.new.links ≡ self.old.links }
+        ensures links { self.new.links ≡ self.old.links }
+        ensures told { self.new.told ≡ self.old.told }
     {
         if height <= self.height {
             return;

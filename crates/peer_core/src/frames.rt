@@ -329,7 +329,8 @@ impl PeerCore {
         self.outbox.put(Sending { frame, links, rank });
     }
 
-    /// Returns to whom a frame goes that the node released, or nothing where it waits or nobody wants it.
+    /// Returns to whom a frame goes that the node released, or nothing where it waits, can't be read,
+    /// was sent before, or nobody wants it.
     pub fn released(&mut self, frame: Bytes, now: u64) -> Result<Option<Sending>, AllocError>
         ensures frame { IfOk result (IsOf frame) }
         ensures links { IfOk result (GoesWhereDue frame now self.old.links) }

@@ -35,7 +35,7 @@ pub enum Behind {
     Nobody,
     /// A client, of which a transaction was taken or was known already.
     Client,
-    /// A validator: the one whose address was dialed, or whose frames came first.
+    /// A validator: the one whose address was dialed, or else who sent the last ask or bundle, or the first other frame.
     Validator(u16),
 }
 

@@ -1,6 +1,6 @@
 //! When a height is held open, since nothing waits anywhere.
 
-ghost use Rattle.std.specs.Prelude.{◌≡◌, None, true, false, if◌then◌else◌};
+ghost use Rattle.std.specs.Prelude.{◌≡◌, ◌+◌, None, true, false, if◌then◌else◌};
 ghost use Rattle.peer_core.specs.Resting.{rests, wait_of, is_held, holding, woken, stirred, is_drowsy, is_far, timeout_in, due_in, is_due, is_below, ends_by, without};
 
 use protocol::{Step, Timeout};
@@ -33,7 +33,9 @@ pub struct Rest {
 
 impl Rest {
     /// One of so many validators, which holds a height open for so long.
-    pub fn new(longest: u64, count: u16) -> Rest {
+    pub fn new(longest: u64, count: u16) -> Rest
+        ensures { result ≡ record { longest = longest; heights = count + 1; awake_until = 0; may_have = false; held = None } }
+    {
         Rest {
             longest,
             heights: u64::from(count) + 1,

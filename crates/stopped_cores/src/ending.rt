@@ -19,8 +19,8 @@ pub fn end<S: Store + Drop>(core: NodeCore<S>) -> S
     core.close()
 }
 
-/// Opens a validator's journal on a store, and its core over it. It is refused for want of memory (2), or where the device
-/// failed (1), and then what is left in the store is as it was, but for bytes that are of no record.
+/// Opens a validator's journal on a store, and its core over it. Over a store that such a core left, it is refused only for want of
+/// memory (2), or where the device failed (1), and then what is left in the store is as it was, but for bytes that are of no record.
 ///
 /// The ring is that of validator `me`, and has keys for as many validators as have a power.
 pub fn begin_again<S: Store + Drop>(

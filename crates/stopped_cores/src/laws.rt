@@ -16,7 +16,8 @@ pub fn comes_back_law<S: Store>()
     ensures { ComesBackLaw S.seen S.may_leave }
 {}
 
-/// The headline of what such cores tell: whatever less than a third of the power does and wherever stops come.
+/// The headline of what such cores tell: whatever less than a third of the power does and wherever stops come, where no tag is
+/// forged and no two values have one digest.
 pub fn stopped_cores_law()
     ensures { StoppedCoresLaw }
 {}

@@ -108,7 +108,10 @@ impl<'a, N: Log + Net<Stream = TcpStream, Listener = TcpListener> + Sync> Links
         u16::try_from(self.addresses.all.len()).unwrap_or(u16::MAX)
     }
 
-    fn dialer(&mut self) -> Result<TcpDialer<'a, N>, AllocError> {
+    fn dialer(&mut self) -> Result<TcpDialer<'a, N>, AllocError>
+        ensures all { IfOk result (λ dialer. dialer.addresses.all.items ≡ self.old.addresses.all.items) }
+        ensures me { IfOk result (λ dialer. dialer.addresses.me ≡ self.old.addresses.me) }
+    {
         TcpDialer::new(self.alloc, self.net, &self.addresses, &self.reached)
     }
 

@@ -28,7 +28,7 @@ pub fn called_law()
     ensures { CalledLaw }
 {}
 
-/// What a core's call answers is the world's answer, with the world's numbers, unless memory ran out.
+/// What a core's call answers is the world's answer, with the world's numbers, unless memory ran out or its journal failed.
 pub fn handed_law()
     ensures { HandedLaw }
 {}
@@ -53,7 +53,8 @@ pub fn count_law()
 
 /// The headline on what cores tell: of the delivered lists that two correct validators' cores tell, and of the items of the
 /// decisions that they tell, one begins the other, at any two moments; each keeps every client's order, and a correct
-/// client's items in it begin what the client sent.
+/// client's items in it begin what the client sent. Less than a third of the power lies in the run, no tag is forged in it, and
+/// no two values of it have one digest.
 pub fn headline_law()
     ensures { HeadlineLaw }
 {}

@@ -16,14 +16,15 @@ pub fn scene_law()
 {}
 
 /// Any two ends of the report of a world's run, of correct validators, tell one list: of what they delivered one begins the
-/// other, each keeps every client's order, and a correct client's items in it begin what the client sent.
+/// other, each keeps every client's order, and a correct client's items in it begin what the client sent. Less than a third of the
+/// power lies in the run, no tag is forged in it, and no two values of it have one digest.
 pub fn outcome_law()
     ensures { OutcomeLaw }
 {}
 
 /// Any end of a report of a world's run and any end of a later report of the same world, whatever was done between. Of one
-/// validator the earlier delivered list begins the later. Of two correct ones, one begins the other, the later keeps every
-/// client's order, and a correct client's items in it begin what the client sent.
+/// validator the earlier delivered list begins the later. Of two correct ones, under the premises of `outcome_law`, one begins the
+/// other, the later keeps every client's order, and a correct client's items in it begin what the client sent.
 pub fn reports_law()
     ensures { ReportsLaw }
 {}

@@ -9,7 +9,7 @@ use world_parties::FaultNumber;
 #[derive(Debug, Drop, Error)]
 #[error("event {event}: fault {}", *.number as u8)]
 pub struct RunFault {
-    /// The event, from 1 on.
+    /// The event, from 1 on; 0 where the world couldn't be opened.
     pub event: u64,
     pub number: FaultNumber,
     pub told: Seq<Told>,
