@@ -9,7 +9,7 @@ source gate/sources.sh
 are_there() {
     for name in "$@"; do [ -x "bin/$name" ] || return 1; done
 }
-if is_built && are_there "$@"; then
+if is_built && are_there tmsim tmnode client_example "$@"; then
     echo "bin/ is up to date"
     exit 0
 fi

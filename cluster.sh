@@ -65,11 +65,18 @@ wait_for() {
     done
 }
 
+# (of ports that the system gives to nobody who dials)
 ports=$(python3 -c '
-import socket
-each = [socket.socket() for _ in range(4)]
-for it in each: it.bind(("127.0.0.1", 0))
-print(*[it.getsockname()[1] for it in each])')
+import random, socket
+with open("/proc/sys/net/ipv4/ip_local_port_range") as it: dialed = int(it.read().split()[0])
+found = []
+for port in random.sample(range(1024, dialed), dialed - 1024):
+    with socket.socket() as it:
+        try: it.bind(("127.0.0.1", port))
+        except OSError: continue
+    found.append(port)
+    if len(found) == 4: break
+print(*found)')
 addresses=()
 for port in $ports; do addresses+=("127.0.0.1:$port"); done
 peers=$(IFS=,; echo "${addresses[*]}")

@@ -2,6 +2,7 @@
 import collections
 import os
 import random
+import re
 import shutil
 import subprocess
 import threading
@@ -145,6 +146,9 @@ def strangers_hold_no_place(cluster, is_long):
         counts = [it.end() for it in clients]
         want(min(counts) > 0, f"the clients had {counts} transactions delivered")
         cluster.want_same(sum(counts), *range(4))
+    lines = [it for it in read(cluster.path("v0.log")).splitlines() if "link " in it or "closed: " in it]
+    # (512 at once, and four more a second)
+    want(len(lines) < 1_500, f"{len(lines)} lines on links are logged")
 
 
 def strangers_get_nothing(cluster, is_long):
@@ -323,6 +327,13 @@ def too_few_threads(cluster, _):
         want(time.monotonic() < ends and cluster.running[3].poll() is None, f"it logs {read(log).splitlines()[-3:]}")
         time.sleep(0.1)
     want_all_to_go_on(cluster, range(3), 20, "beside one that has too few threads")
+    cluster.kill(3)
+    # (the list's own, and one for its status: none is left for its timer)
+    ran = subprocess.run(
+        [*nobody, *cluster.words(3, **GUARDED, status=free_addresses(1)[0])],
+        stdout=subprocess.DEVNULL, stderr=subprocess.PIPE, text=True, timeout=20, check=False, **limited(NPROC=3),
+    )
+    want(ran.returncode == 7 and ran.stderr.endswith("tmnode: out of memory\n"), f"with three threads it ends with {ran.returncode}: {ran.stderr[-200:]}")
 
 
 def a_link_of_no_use(cluster, _):
@@ -333,8 +344,12 @@ def a_link_of_no_use(cluster, _):
     with dial(cluster.addresses[0]) as link:
         link.sendall(bytes.fromhex("000000017f") * 1_100)
         want(link.recv(1) == b"", "the link gets an answer")
-    want("closed: it sends nothing that can be used" in read(cluster.path("v0.log")), "it isn't logged why")
     want_all_to_go_on(cluster, range(4), 20, "after it")
+    told = [it for it in read(cluster.path("v0.log")).splitlines() if "closed: it sends nothing that can be used" in it]
+    want(len(told) == 1, f"it isn't logged why: {told}")
+    link = re.search(r"link \d+: ", told[0])[0]
+    lines = [it for it in read(cluster.path("v0.log")).splitlines() if f"{link}closed: " in it]
+    want(len(lines) == 1, f"its end is logged by {lines}")
 
 
 LINK_TRIALS = (

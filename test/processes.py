@@ -9,6 +9,7 @@ can't run, which is left out; the last line is 'N passed, M failed', and the sta
 test that failed stays, with what its validators wrote.
 """
 import argparse
+import contextlib
 import os
 import queue
 import random
@@ -70,7 +71,7 @@ CLIENTS = (7, 9)
 
 
 def failures_of_words(cluster, _):
-    for words in ([], ["walk"], cluster.words(4)[1:], cluster.words(0, start=86_400_001)[1:]):
+    for words in ([], ["walk"], [b"\xff"], cluster.words(4)[1:], cluster.words(0, start=86_400_001)[1:]):
         ran = subprocess.run([cluster.program, *words], capture_output=True, text=True, timeout=30, check=False)
         told = ran.returncode, ran.stderr
         want(told == (2, "tmnode: usage\n"), f"{words} is told {told}")
@@ -253,16 +254,28 @@ def a_validator_that_is_gone_is_told(cluster, _):
     cluster.want_same(3, *range(3))
 
 
+def send_no_replies(server):
+    """Takes a connection, and sends frames that are no replies on it, one a second, until it ends."""
+    with contextlib.suppress(OSError):
+        link = server.accept()[0]
+        with link:
+            while True:
+                link.sendall(bytes.fromhex("000000017f"))
+                time.sleep(1)
+
+
 def one_that_hangs_is_given_up(cluster, is_long):
-    """An address that takes no connection, and one that answers nothing, are given up, and the others are asked meanwhile."""
+    """Addresses that take no connection, answer nothing, or send what is no reply are given up, and the others are asked meanwhile."""
     for me in range(4):
         cluster.start(me)
     cluster.send_until_taken(9, 0, 1, "--data", "")
-    with socket.create_server(("127.0.0.1", 0), backlog=0) as full, socket.create_server(("127.0.0.1", 0)) as silent:
-        full_address, silent_address = (f"127.0.0.1:{it.getsockname()[1]}" for it in (full, silent))
+    servers = [socket.create_server(("127.0.0.1", 0), backlog=it) for it in (0, 1, 1)]
+    with servers[0] as full, servers[1], servers[2] as noisy:
+        full_address, *mute = (f"127.0.0.1:{it.getsockname()[1]}" for it in servers)
         held = [socket.create_connection(full.getsockname())]
+        threading.Thread(target=send_no_replies, args=(noisy,), daemon=True).start()
         words = cluster.words_of_send(7, 0, 1, "--data", "61")
-        words[words.index("--to") + 1] = f"{full_address},{silent_address},{cluster.addresses[0]}"
+        words[words.index("--to") + 1] = ",".join([full_address, *mute, cluster.addresses[0]])
         began = time.monotonic()
         with subprocess.Popen(words, stdout=subprocess.PIPE, stderr=subprocess.PIPE, text=True) as sender:
             told = [sender.stdout.readline() for _ in range(2)]
@@ -271,8 +284,8 @@ def one_that_hangs_is_given_up(cluster, is_long):
             if is_long:
                 status = sender.wait(timeout=PATIENCE)
                 want(status == 5 and time.monotonic() - began < 100, f"those that hang are told {status} after {time.monotonic() - began:.0f} s")
-                told = sender.stdout.read()
-                want(told == f"{silent_address} 1 unanswered\n", f"of the one that answers nothing it is told {told!r}")
+                told = sorted(sender.stdout.read().splitlines())
+                want(told == sorted(f"{it} 1 unanswered" for it in mute), f"of those that answer nothing it is told {told}")
             else:
                 sender.kill()
         for it in held:
@@ -322,6 +335,69 @@ def a_list_that_cannot_be_written(cluster, _):
     while (listed := cluster.listed_by_journal(3)) != (wanted := read(cluster.list_of(0)).splitlines()):
         want(time.monotonic() < ends, f"its journal has {len(listed)} lines of {len(wanted)}")
         time.sleep(0.1)
+
+
+def a_list_whose_end_is_lost(cluster, _):
+    """A validator that ends by --stop says so where the end of its list can't be written."""
+    for me in range(3):
+        cluster.start(me)
+    with open("/dev/full", "w", encoding="utf-8") as full, open(cluster.path("v3.log"), "w", encoding="utf-8") as log:
+        cluster.running[3] = subprocess.Popen(cluster.words(3, stop=1), stdout=full, stderr=log)
+    cluster.send_until_taken(9, 0, 1, "--data", "61")
+    want(cluster.running[3].wait(PATIENCE) == 0, "it fails")
+    want("the list cannot be written, so it lacks its last lines" in read(cluster.path("v3.log")), "it says nothing of its list")
+
+
+def streams_that_are_closed(cluster, _):
+    """A validator that is started with its standard streams closed writes neither its list nor its log into its journal."""
+    for me in range(3):
+        cluster.start(me)
+    for number, closed in enumerate(((0, 1), (1, 2), (0, 1, 2)), 1):
+        cluster.running[3] = subprocess.Popen(cluster.words(3), preexec_fn=lambda closed=closed: [os.close(it) for it in closed])
+        cluster.send_until_taken(9, 3, number, "--data", "61")
+        cluster.want_same(number, *range(3))
+        want(cluster.running[3].poll() is None, f"without {closed} it ends")
+        cluster.kill(3)
+    cluster.start(3)
+    cluster.want_same(3, *range(4))
+
+
+def take_little(link, ended):
+    """Takes 32 kB a second of what comes on a link: as little as has the other side send something each two seconds."""
+    with contextlib.suppress(OSError):
+        while not ended.wait(0.2) and link.recv(6_400):
+            pass
+
+
+def a_reader_that_takes_little(cluster, _):
+    """A validator ends within seconds though a link takes what waits for it a little at a time."""
+    cluster.start(0, {"stop": 577})
+    for me in range(1, 4):
+        cluster.start(me)
+    cluster.send_until_taken(9, 1, 1, "--data", "61")
+    cluster.want_same(1, *range(4))
+    host, port = cluster.addresses[0].split(":")
+    with socket.socket() as link:
+        link.setsockopt(socket.SOL_SOCKET, socket.SO_RCVBUF, 4_096)
+        # (so that the validator's side holds little, too)
+        link.setsockopt(socket.IPPROTO_TCP, socket.TCP_MAXSEG, 536)
+        link.connect((host, int(port)))
+        ended = threading.Event()
+        reader = threading.Thread(target=take_little, args=(link, ended))
+        reader.start()
+        try:
+            for client in range(9):
+                # (only the validator that has them proposes them)
+                told = cluster.send(client, 0, 1, "--file", cluster.file_of(["61" * 1_000] * 64))
+                want(told[0] == 0, f"the file is told {told[0]}, {told[1][-200:]}")
+            cluster.wait_for(577, 0)
+            began = time.monotonic()
+            want(cluster.running[0].wait(30) == 0, "it fails")
+        finally:
+            ended.set()
+            reader.join()
+    took = time.monotonic() - began
+    want(5 < took < 12, f"it ends after {took:.1f} s")
 
 
 def nothing_to_do(cluster, _):
@@ -799,6 +875,9 @@ TESTS = (
     a_validator_that_is_gone_is_told,
     one_that_hangs_is_given_up,
     a_list_that_cannot_be_written,
+    a_list_whose_end_is_lost,
+    streams_that_are_closed,
+    a_reader_that_takes_little,
     who_reads_nothing_is_told,
     what_is_logged,
     how_far_it_is,

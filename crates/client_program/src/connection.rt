@@ -4,10 +4,14 @@ use messages::{FrameReader, Reply, read_reply};
 use node_settings::Failure;
 use std::alloc::Global;
 use std::io::{ErrorKind, Read, Write};
+use std::time::{Clock, Duration, Instant};
 use transactions::Fault;
 
 /// How many bytes are read at a time at most.
 const PIECE_BYTES: usize = 4_096;
+
+/// How long a validator that answers nothing is waited for, in seconds.
+pub(crate) const PATIENCE_SECONDS: u64 = 30;
 
 /// What a fault of the bytes that come means for the program.
 fn failure_of(fault: Fault) -> Failure {
@@ -44,6 +48,17 @@ fn feed_piece<S: Read>(stream: &mut S, reader: &mut FrameReader) -> Result<(), F
     }
 }
 
+/// Returns whether a reply that is waited for since then comes too late. Where there is no time, none does.
+fn is_late<R: Clock>(rt: &R, began: Option<Instant>) -> bool {
+    let Some(began) = began else {
+        return false;
+    };
+    match began.elapsed(rt) {
+        Ok(passed) => passed >= Duration::from_secs(PATIENCE_SECONDS),
+        Err(_) => false,
+    }
+}
+
 /// A stream to a validator, and what came of frames that are not whole.
 #[derive(Drop)]
 pub(crate) struct Connection<S> {
@@ -68,11 +83,16 @@ impl<S: Read + Write> Connection<S> {
         }
     }
 
-    /// The next reply that comes back. It is `CannotConnect` where the connection ends before.
-    pub(crate) fn reply(&mut self) -> Result<Reply, Failure> {
+    /// The next reply that comes back. It is `CannotConnect` where the connection ends before, or none has come for so long, whatever
+    /// else comes.
+    pub(crate) fn reply<R: Clock>(&mut self, rt: &R) -> Result<Reply, Failure> {
+        let began = Instant::now(rt).ok();
         for _ in 0..u64::MAX {
             if let Some(reply) = reply_among(&mut self.reader)? {
                 return Ok(reply);
+            }
+            if is_late(rt, began) {
+                break;
             }
             feed_piece(&mut self.stream, &mut self.reader)?;
         }

@@ -223,7 +223,7 @@ impl<W: Write + Send + Drop> Errand<'_, '_, '_, W> {
 
     /// Tells so many answers, up to the first transaction that a full queue refused: whether there was none. Those behind
     /// it are refused too, since their turn had not come.
-    fn take_answers<R: Wait>(
+    fn take_answers<R: Wait + Clock>(
         &mut self,
         rt: &R,
         connection: &mut Connection<TcpStream>,
@@ -231,7 +231,7 @@ impl<W: Write + Send + Drop> Errand<'_, '_, '_, W> {
     ) -> Result<bool, Failure> {
         let mut was_full = false;
         for _ in 0..count {
-            let reply = connection.reply()?;
+            let reply = connection.reply(rt)?;
             was_full = was_full || is_full(reply);
             if !was_full {
                 let number = self.delivery.number_of(self.answered);

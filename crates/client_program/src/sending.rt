@@ -3,7 +3,7 @@
 ghost use Rattle.std.specs.Prelude.{◌≡◌, ◌≤◌, IfOk};
 ghost use Rattle.node_settings.specs.Failures.{answer_status};
 
-use crate::connection::Connection;
+use crate::connection::{Connection, PATIENCE_SECONDS};
 use crate::framing::Sender;
 use crate::many::Delivery;
 use authenticators::Party;
@@ -19,9 +19,6 @@ use std::{fs, io};
 
 /// How long a client waits for a connection to each socket address, in seconds.
 const CONNECTING_SECONDS: u64 = 5;
-
-/// How long it waits for a validator that neither answers nor takes anything, in seconds.
-const PATIENCE_SECONDS: u64 = 30;
 
 /// Connects to the validator at this address.
 pub(crate) fn connect<R: Net<Stream = TcpStream> + AllocGlobal>(
@@ -52,14 +49,14 @@ fn reach<R: Net<Stream = TcpStream>>(rt: &R, address: &str) -> io::Result<TcpStr
 }
 
 /// Sends the frame to the validator at this address, and answers what it says of it.
-fn ask_validator<R: Net<Stream = TcpStream> + AllocGlobal>(
+fn ask_validator<R: Clock + Net<Stream = TcpStream> + AllocGlobal>(
     rt: &R,
     address: &str,
     frame: &[u8],
 ) -> Result<Answer, Failure> {
     let mut connection = connect(rt, address)?;
     connection.send(frame)?;
-    let reply = connection.reply()?;
+    let reply = connection.reply(rt)?;
     Ok(Answer { reply })
 }
 

@@ -108,6 +108,13 @@ impl<W: Write + Drop> Printout<W> {
         }
     }
 
+    /// Logs that the end of the list is lost, where it couldn't be written.
+    fn tell_last<R: Log>(&self, rt: &R) {
+        if !self.out.buffer().is_empty() {
+            warn!(rt; "the list cannot be written, so it lacks its last lines");
+        }
+    }
+
     /// Prints what waits in the ring. With the last of it the block leaves, so that a line which comes alone leaves at once.
     fn print_waiting<R: Wait>(&mut self, rt: &R, subscription: &mut Subscription) {
         for _ in rt.forever() {
@@ -177,6 +184,7 @@ pub(crate) fn print_until_end<
         let told = print_delivered(rt, node, &mut seat, &mut subscription, &mut printout);
         printout.tell(rt);
         if is_last || printout.is_done() {
+            printout.tell_last(rt);
             return told;
         }
         bell.wait(rt, TURN_MS);

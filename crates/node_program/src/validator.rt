@@ -310,25 +310,21 @@ fn serve_and_tell<
     } = service;
     let open = OpenLinks::new();
     let counted = CountedLinks { links, open: &open };
-    let (ended, ()) = thread::join(
+    let reported = Reported {
+        status,
+        metrics,
+        meters,
+        open: &open,
+    };
+    // (where no thread can be made the first one runs behind the second, which then lacks threads of its own and ends)
+    let ((), ended) = thread::join(
         rt,
+        || report_beside(rt, node, reported, clock, bell),
         || {
             let ended = serve_at_pace(rt, rt.alloc(), node, counted, clock, pace, bell, meters);
             bell.end(rt);
             ended
         },
-        || report_beside(
-            rt,
-            node,
-            Reported {
-                status,
-                metrics,
-                meters,
-                open: &open,
-            },
-            clock,
-            bell,
-        ),
     );
     ended
 }

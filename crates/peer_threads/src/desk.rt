@@ -2,6 +2,7 @@
 
 use crate::answers::Replies;
 use crate::departed::Departed;
+use crate::log_budget::LogBudget;
 use crate::outlets::Outlets;
 use bytes::Bytes;
 use edge_frames::LinkId;
@@ -23,6 +24,7 @@ pub(crate) struct Desk {
     pub(crate) core: PeerCore,
     pub(crate) outlets: Outlets,
     departed: Departed,
+    pub(crate) log_budget: LogBudget,
     /// How many frames were dropped since that was logged last, and when it was.
     dropped: u64,
     logged: u64,
@@ -34,12 +36,13 @@ pub(crate) struct Desk {
 
 impl Desk {
     /// Nothing is queued.
-    pub(crate) fn new(alloc: Global, core: PeerCore, outlets: Outlets) -> Desk {
+    pub(crate) fn new(alloc: Global, core: PeerCore, outlets: Outlets, now: u64) -> Desk {
         Desk {
             alloc,
             core,
             outlets,
             departed: Departed::new(alloc),
+            log_budget: LogBudget::new(now),
             dropped: 0,
             logged: 0,
             lost: 0,
@@ -134,7 +137,13 @@ impl Desk {
     }
 
     /// Queues replies for their link, which go out by one write, and returns how many.
-    pub(crate) fn reply<R: Wait + Log>(&mut self, rt: &R, link: LinkId, replies: Replies) -> u64 {
+    pub(crate) fn reply<R: Wait + Log>(
+        &mut self,
+        rt: &R,
+        link: LinkId,
+        replies: Replies,
+        now: u64,
+    ) -> u64 {
         let count = replies.count();
         self.lose(replies.lost());
         if count == 0 {
@@ -148,7 +157,9 @@ impl Desk {
             return count;
         }
         self.lose(count);
-        warn!(rt; "{count} replies are dropped, since their link has no room");
+        if self.log_budget.may_log(rt, now) {
+            warn!(rt; "{count} replies are dropped, since their link has no room");
+        }
         0
     }
 
@@ -161,11 +172,15 @@ impl Desk {
                     self.lose(dropped);
                 }
                 Duty::Close(link, closing) => {
-                    warn!(rt; "link {}: closed: {closing}", link.0);
                     self.outlets.close(rt, link);
+                    if self.log_budget.may_log(rt, now) {
+                        warn!(rt; "link {}: closed: {closing}", link.0);
+                    }
                 }
                 Duty::Meet(link, validator) => {
-                    info!(rt; "link {}: validator {validator}", link.0);
+                    if self.log_budget.may_log(rt, now) {
+                        info!(rt; "link {}: validator {validator}", link.0);
+                    }
                 }
                 duty => return Some(duty),
             }

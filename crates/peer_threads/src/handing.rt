@@ -56,6 +56,9 @@ impl<S: Store + Drop, J: Node, C: Clock> Shared<'_, S, J, C> {
             self.hand_in_together(rt, seat, frames.whole_frames(), count, &mut answers);
             self.heed_all(rt, &answers);
             self.note_all(rt, link, frames, &answers);
+            if answers.tell_halt() {
+                self.end(rt, Ending::Halted);
+            }
             self.follow(rt, seat);
         }
         count
@@ -113,7 +116,7 @@ impl<S: Store + Drop, J: Node, C: Clock> Shared<'_, S, J, C> {
         self.node.hold(rt).call(rt, &beside, seat, event)
     }
 
-    /// Counts the refusals among these answers, and does what is to be done after them.
+    /// Counts the refusals among these answers, and queues what the node released.
     fn heed_all<R: Wait + time::Clock + Log>(&self, rt: &R, answers: &Answers) {
         for answered in answers.as_slice() {
             if let Err(refusal) = answered.answer {
@@ -122,9 +125,6 @@ impl<S: Store + Drop, J: Node, C: Clock> Shared<'_, S, J, C> {
         }
         if let Some(height) = answers.height_of_released() {
             self.release(rt, height);
-        }
-        if answers.tell_halt() {
-            self.end(rt, Ending::Halted);
         }
     }
 
@@ -152,7 +152,7 @@ impl<S: Store + Drop, J: Node, C: Clock> Shared<'_, S, J, C> {
                 replies.add(reply);
             }
         }
-        let sent = desk.reply(rt, link, replies);
+        let sent = desk.reply(rt, link, replies, now);
         self.meters.sent_beside(sent.saturating_sub(1));
     }
 

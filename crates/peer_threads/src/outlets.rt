@@ -1,5 +1,6 @@
 //! The queues of the links that have a thread.
 
+use crate::patience::Standing;
 use bytes::Bytes;
 use edge_frames::{LinkId, MOST_LINKS};
 use link_queue::{Anything, Cause, LinkQueue};
@@ -12,6 +13,9 @@ use std::sync::{Arc, Wait};
 /// A link has two threads and two file descriptors. All of them have 768 descriptors, and peers that are dialed and not yet linked
 /// one each, 127 at most: 895 of the 1,024 that a process may usually open.
 pub const MOST_OPEN_LINKS: usize = MOST_LINKS;
+
+/// From how many links on one that is closed is cut at once.
+const CROWD: usize = MOST_OPEN_LINKS - 64;
 
 /// How many frames wait on a link at most for one more that repairs what may be lost.
 const MOST_BEFORE_REPAIR: usize = 16;
@@ -100,14 +104,28 @@ impl Outlets {
         self.outlet(link).is_some_and(|outlet| outlet.is_open)
     }
 
-    /// Closes a link's queue: what waits there is still sent.
-    pub(crate) fn close<R: Wait>(&mut self, rt: &R, link: LinkId) {
+    /// Returns how the link stands, as long as not all ends.
+    pub(crate) fn standing(&self, link: LinkId) -> Standing {
+        if self.is_open(link) {
+            Standing::Open
+        } else if self.outlets.len() < CROWD {
+            Standing::Closed
+        } else {
+            Standing::Crowded
+        }
+    }
+
+    /// Closes a link's queue, and returns whether it was open: what waits there is still sent.
+    pub(crate) fn close<R: Wait>(&mut self, rt: &R, link: LinkId) -> bool {
+        let mut was_open = false;
         for outlet in self.outlets.iter_mut() {
             if outlet.link == link {
+                was_open = outlet.is_open;
                 outlet.is_open = false;
                 outlet.queue.close(rt);
             }
         }
+        was_open
     }
 
     pub(crate) fn close_all<R: Wait>(&self, rt: &R) {

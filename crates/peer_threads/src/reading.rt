@@ -2,7 +2,7 @@
 
 use crate::shared::Shared;
 use edge_frames::LinkId;
-use log::{Log, warn};
+use log::Log;
 use messages::FrameReader;
 use peer_links::{Clock, Link, PIECE_BYTES, Received};
 use status_words::{Node, Seat};
@@ -58,7 +58,7 @@ impl<S: Store + Drop, J: Node, C: Clock> Shared<'_, S, J, C> {
                 &mut piece,
                 &mut frames,
             ) {
-                warn!(rt; "link {}: closed: {over}", link.0);
+                self.log_closed(rt, link, over);
                 break;
             }
             self.look(rt, &mut seat);

@@ -90,7 +90,7 @@ pub fn serve_at_pace<
     meters.decided(now);
     let Pace { plan, manner, stop } = pace;
     let core = PeerCore::new(alloc, links.me(), links.validators(), manner, plan, now);
-    let desk = Desk::new(alloc, core, Outlets::new(alloc));
+    let desk = Desk::new(alloc, core, Outlets::new(alloc), now);
     let shared = Shared {
         alloc,
         node,
@@ -233,12 +233,18 @@ impl<'n, S: Store + Drop + Send, J: Node + Send + Sync, C: Clock + Sync> Shared<
         } = peer;
         match self.open(rt, way) {
             Ok(OpenLink { link, queue }) => {
-                info!(rt; "link {}: {name}", link.0);
+                if self.may_log(rt) {
+                    info!(rt; "link {}: {name}", link.0);
+                }
                 self.alarm.ring(rt);
                 self.start_reader(rt, scope, link, reader);
                 self.start_writer(rt, scope, link, queue, writer);
             }
-            Err(fault) => warn!(rt; "{name}: closed: {fault}"),
+            Err(fault) => {
+                if self.may_log(rt) {
+                    warn!(rt; "{name}: closed: {fault}");
+                }
+            }
         }
     }
 
