@@ -5,16 +5,11 @@ mod longest;
 mod pieces;
 mod replies;
 
+use crate::same::assert_same;
 use messages::*;
 use std::alloc::Global;
-use std::fmt::Debug;
 use std::process::Abort;
 use transactions::{Duplicate, Fault, Op, Seq, Shared, Tx, Value};
-
-/// Ends the test where what was found is not what is wanted, and shows both.
-fn assert_same<R: Abort, T: PartialEq + Debug>(rt: &R, found: &T, wanted: &T) {
-    assert_eq!(rt; found, wanted);
-}
 
 /// The body of client 7's transaction 1, which asks for the byte `a`.
 const ONE_BYTE: [u8; 15] = [1, 0, 7, 0, 0, 0, 0, 0, 0, 0, 1, 0, 0, 1, b'a'];

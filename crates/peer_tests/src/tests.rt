@@ -16,18 +16,13 @@ mod frames;
 mod kept_frames;
 mod running;
 
+use crate::same::assert_same;
 use authenticators::{KeyRing, Party};
 use node_core::{Config, NodeCore};
 use powers::Powers;
 use std::alloc::Global;
-use std::fmt::Debug;
 use std::process::Abort;
 use vote_journal::{Journal, MemoryStore};
-
-/// Ends the test where what was found is not what is wanted, and shows both.
-fn assert_same<R: Abort, T: PartialEq + Debug>(rt: &R, found: &T, wanted: &T) {
-    assert_eq!(rt; found, wanted);
-}
 
 const KEYS: &[u8] = b"v0 v3 0000000000000000000000000000000000000000000000000000000000000000
 v1 v3 1111111111111111111111111111111111111111111111111111111111111111

@@ -7,13 +7,13 @@ ghost use Rattle.round_states.specs.Machine.{Agrees};
 ghost use Rattle.round_states.specs.Plans.{says, applied, IsOfPlace};
 ghost use Rattle.round_machine.specs.Naming.{rule_of, pick_in, IsPlaced, Serves};
 
+use crate::same::assert_same;
 use messages::{Body, Proposal, Step as VoteStep, Vote};
 use powers::Powers;
 use protocol::{Record, Refusal, Step, Timeout};
 use round_machine::*;
 use round_states::{Picked, Plan, Said, State, release};
 use std::alloc::Global;
-use std::fmt::Debug;
 use std::process::Abort;
 use transactions::{Duplicate, Id, Seq, Value, read_value, value_id};
 use vote_journal::{Journal, Saved, spell_record};
@@ -21,11 +21,6 @@ use vote_journal::{Journal, Saved, spell_record};
 mod scenes;
 mod single;
 mod tallies;
-
-/// Ends the test where what was found is not what is wanted, and shows both.
-fn assert_same<R: Abort, T: PartialEq + Debug>(rt: &R, found: &T, wanted: &T) {
-    assert_eq!(rt; found, wanted);
-}
 
 /// What a call that only memory can fail is expected to find.
 const MEMORY: &str = "memory is left";

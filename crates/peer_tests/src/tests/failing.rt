@@ -1,7 +1,7 @@
 //! Links that fail, and a store that does.
 
 use super::assert_same;
-use super::frames::{ACCEPTED, OLD_NUMBER, own_vote, proposal, transaction};
+use super::frames::{ACCEPTED, HALTED, OLD_NUMBER, own_vote, proposal, put, transaction};
 use super::running::{Course, Peers, STILL, Told, add_step, count, run};
 use log::Log;
 use messages::Step as VoteStep;
@@ -95,6 +95,29 @@ fn a_store_that_fails_halts(rt: HostRuntime) {
     assert_same(&rt, &told.ending, &Ending::Halted);
     let prevote = own_vote(&rt, alloc, VoteStep::Prevote, 0);
     assert_same(&rt, &count(&rt, &told, 0, &prevote), &0);
+}
+
+/// A link that brings the proposal of height 0 and, with it, a transaction.
+fn proposed_with_transaction(rt: &impl Abort, alloc: Global) -> Peers {
+    let mut peers = Peers::new(rt, alloc);
+    let wire = peers.wire(rt);
+    let mut bytes = proposal(rt, alloc, 0);
+    put(rt, &mut bytes, &transaction(rt, alloc, 0, 1));
+    peers.add_steps(rt, wire, [Step::Bytes(bytes)]);
+    peers
+}
+
+/// What is refused since the store has failed is replied before all ends.
+#[test]
+fn a_transaction_behind_a_failure_is_refused(rt: HostRuntime) {
+    let alloc = rt.alloc();
+    let course = Course {
+        failing: 4,
+        ..STILL
+    };
+    let told = run(&rt, alloc, proposed_with_transaction(&rt, alloc), course);
+    assert_same(&rt, &told.ending, &Ending::Halted);
+    assert_same(&rt, &count(&rt, &told, 0, &HALTED), &1);
 }
 
 /// A link that brings a transaction and then nothing, until it fails after five seconds: long enough for

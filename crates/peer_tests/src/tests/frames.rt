@@ -17,6 +17,9 @@ pub(super) const OLD_NUMBER: [u8; 7] = [0, 0, 0, 3, 0x20, 13, 3];
 /// The reply to one whose session is ahead of the one that is open.
 pub(super) const SESSION_AHEAD: [u8; 7] = [0, 0, 0, 3, 0x20, 13, 9];
 
+/// The reply that a validator which has halted refuses a transaction by.
+pub(super) const HALTED: [u8; 7] = [0, 0, 0, 3, 0x20, 15, 0];
+
 /// Client C's transaction of this number, of the byte 61.
 fn tx_body(client: u8, number: u8) -> [u8; 15] {
     [1, 0, client, 0, 0, 0, 0, 0, 0, 0, number, 0, 0, 1, 0x61]

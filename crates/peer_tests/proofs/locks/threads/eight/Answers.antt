@@ -3,9 +3,9 @@ use denote.Param.{param}
 use denote.Param.Send.{IsSend, IsSync, sendable}
 use Rattle.std.proofs.Crossing.{crosses}
 use Rattle.locked_node.proofs.Crossing.{locked_sync}
-use Rattle.lock_tests.proofs.tests.threads.eight.Given.{Over}
-use Rattle.lock_tests.proofs.tests.threads.eight.Lts.{arg-0-3}
-use Rattle.lock_tests.proofs.tests.threads.eight.Goals as goal
+use Rattle.peer_tests.proofs.locks.threads.eight.Given.{Over}
+use Rattle.peer_tests.proofs.locks.threads.eight.Lts.{arg-0-3}
+use Rattle.peer_tests.proofs.locks.threads.eight.Goals as goal
 
 -- the node by its lemma, since a search through all that it holds runs out of steps
 part_sync : (g : Over) (κs : Lfts 10) → IsSend (param 0 g.row.J) → IsSync (param 1 g.row.R)

@@ -3,9 +3,9 @@ use denote.Param.{param}
 use denote.Param.Send.{IsSend, IsSync, sendable}
 use Rattle.std.proofs.Crossing.{crosses}
 use Rattle.locked_node.proofs.Crossing.{locked_sync}
-use Rattle.lock_tests.proofs.tests.threads.beside.Given.{Over}
-use Rattle.lock_tests.proofs.tests.threads.beside.Lts.{arg-0-1}
-use Rattle.lock_tests.proofs.tests.threads.beside.Goals as goal
+use Rattle.peer_tests.proofs.locks.threads.beside.Given.{Over}
+use Rattle.peer_tests.proofs.locks.threads.beside.Lts.{arg-0-1}
+use Rattle.peer_tests.proofs.locks.threads.beside.Goals as goal
 
 -- the node by its lemma, since a search through all that it holds runs out of steps
 handers_send : (g : Over) (κs : Lfts 14) → IsSend (param 0 g.row.J) → IsSync (param 1 g.row.R)

@@ -5,20 +5,15 @@ ghost use Rattle.protocol.specs.State.{fresh};
 ghost use Rattle.round_states.specs.Plans.{says, IsOfPlace};
 ghost use Rattle.round_states.specs.Replaying.{HasProposedValue};
 
+use crate::same::assert_same;
 use messages::{Body, Proposal, Step as VoteStep, Vote};
 use powers::Powers;
 use protocol::{Act, OwnMessage, Record, Refusal, Step};
 use round_states::{Picked, Plan, Said, State, release};
 use std::alloc::Global;
-use std::fmt::Debug;
 use std::process::Abort;
 use transactions::{Id, Named, Seq, Value, read_value, value_id};
 use vote_journal::{Journal, JournalFault, Saved, Strikes, StrikingStore, spell_record};
-
-/// Ends the test where what was found is not what is wanted, and shows both.
-fn assert_same<R: Abort, T: PartialEq + Debug>(rt: &R, found: &T, wanted: &T) {
-    assert_eq!(rt; found, wanted);
-}
 
 /// The id of some value.
 const A: Id = [0xaa; 32];

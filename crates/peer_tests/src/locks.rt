@@ -13,18 +13,13 @@ mod sharing;
 mod taking;
 mod threads;
 
+use crate::same::assert_same;
 use authenticators::{KeyRing, Party};
 use node_core::{Config, NodeCore};
 use powers::Powers;
 use std::alloc::Global;
-use std::fmt::Debug;
 use std::process::Abort;
 use vote_journal::{Journal, MemoryStore};
-
-/// Ends the test where what was found is not what is wanted, and shows both.
-fn assert_same<R: Abort, T: PartialEq + Debug>(rt: &R, found: &T, wanted: &T) {
-    assert_eq!(rt; found, wanted);
-}
 
 /// What a call that only memory can fail is expected to find.
 const MEMORY: &str = "memory is left";

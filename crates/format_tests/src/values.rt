@@ -2,7 +2,7 @@ mod limits;
 mod parts;
 mod sessions;
 
-use std::fmt::Debug;
+use crate::same::assert_same;
 use std::process::Abort;
 use transactions::*;
 
@@ -19,11 +19,6 @@ const LATER: [u8; 19] = [2, 0, 7, 0, 0, 0, 1, 0, 0, 0, 0, 0, 0, 0, 1, 0, 0, 1, b
 
 /// The body of client 7's transaction 2, which is a close.
 const CLOSE: [u8; 12] = [1, 0, 7, 0, 0, 0, 0, 0, 0, 0, 2, 1];
-
-/// Ends the test where what was found is not what is wanted, and shows both.
-fn assert_same<R: Abort, T: PartialEq + Debug>(rt: &R, found: &T, wanted: &T) {
-    assert_eq!(rt; found, wanted);
-}
 
 /// Ends the test where other bytes were found than are wanted.
 fn assert_bytes<R: Abort>(rt: &R, found: &[u8], wanted: &[u8]) {
