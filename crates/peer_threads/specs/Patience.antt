@@ -13,6 +13,16 @@ abbrev pub closed_since : Option ℕ → ℕ → ℕ
 closed_since (Some since) now = since
 closed_since None now = now
 
+-- four times a second it is looked how the link stands
+abbrev pub is_to_look : Patience → ℕ → Bool
+is_to_look p now = is_over 250 p.looked now
+
+-- what is noted where the link is looked at
+abbrev pub noted : Standing → Patience → ℕ → Patience
+noted Open p now = record p { looked = now }
+noted Closed p now = record p { looked = now; closed = Some (closed_since p.closed now) }
+noted Crowded p now = record p { looked = now }
+
 -- A peer that takes nothing is given up after 30 seconds; on a link that is closed after 2, after 10 whatever it takes, and at once where its place is wanted.
 abbrev pub gives_up : Standing → Patience → ℕ → Bool
 gives_up Open p now = is_over 30000 p.taken now

@@ -172,8 +172,8 @@ impl Desk {
                     self.lose(dropped);
                 }
                 Duty::Close(link, closing) => {
-                    self.outlets.close(rt, link);
-                    if self.log_budget.may_log(rt, now) {
+                    let was_open = self.outlets.close(rt, link);
+                    if was_open && self.log_budget.may_log(rt, now) {
                         warn!(rt; "link {}: closed: {closing}", link.0);
                     }
                 }

@@ -1,7 +1,7 @@
 //! How long a thread that sends waits for its peer.
 
-ghost use Rattle.std.specs.Prelude.{◌≡◌, Some, None};
-ghost use Rattle.peer_threads.specs.Patience.{gives_up, closed_since};
+ghost use Rattle.std.specs.Prelude.{◌≡◌, None};
+ghost use Rattle.peer_threads.specs.Patience.{gives_up, is_to_look, noted};
 
 /// How long a peer may take nothing at all, in milliseconds.
 const STUCK_MS: u64 = 30_000;
@@ -53,15 +53,16 @@ impl Patience {
     }
 
     /// Returns whether it is time to look how the link stands.
-    pub(crate) fn is_to_look(&self, now: u64) -> bool {
+    pub(crate) fn is_to_look(&self, now: u64) -> bool
+        ensures { result ≡ is_to_look self.now now }
+    {
         now.saturating_sub(self.looked) >= LOOK_MS
     }
 
     /// Notes how the link stands now, and returns whether the peer is given up.
     pub(crate) fn gives_up(&mut self, standing: Standing, now: u64) -> bool
         ensures answer { result ≡ gives_up standing self.old now }
-        ensures taken { self.new.taken ≡ self.old.taken }
-        ensures closed { standing ≡ Standing.Closed → self.new.closed ≡ Some (closed_since self.old.closed now) }
+        ensures noted { self.new ≡ noted standing self.old now }
     {
         self.looked = now;
         let stuck = now.saturating_sub(self.taken);
