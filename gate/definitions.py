@@ -4,14 +4,18 @@ An edit of a definition has to make a law refuse. A check of its own takes some 
 reaches, so several stand in one: each in copies of the modules that it changes and of those on the way from them to its law, under names
 that end in its mark, and with a copy of the law. So edits say nothing of one another, nor of what isn't copied. Beside them stands, for
 each law, a copy over all of these modules in which nothing is edited: where it isn't proved the check tells nothing of that law's
-edits. Since no code is copied, a law whose proof cites a contract stands in such a check only where the file of that contract rests on nothing that is changed. What
-isn't told here is tried by itself (`gate/wrong_bodies.py`).
+edits. Since no code is copied, a law whose proof cites a contract stands in such a check only where the file of that contract rests
+on nothing that is changed. What isn't told here is tried by itself (`gate/wrong_bodies.py`).
+
+Where a function of code stands in the law's place, a copy of it stands in the check of the edits of code, with the copied modules' names in
+its clauses (`OfFunction`), and beside it one over copies in which nothing is edited.
 """
 import functools
 import os
 import re
 from typing import NamedTuple
 
+from functions import functions_of
 from kit import rt
 
 # The most lines of copies that stand in one check, so that a crate's edits fill several lanes, and memory lasts.
@@ -20,6 +24,13 @@ MOST_LINES = 30_000
 NAMES = re.compile(r"has no field|is not in scope|has no `")
 LAW = re.compile(r"(?m)^pub fn (\w+)(?:<\w+: \w+>)?\(\)\n(?: +[^\n]*\n)*\{(?:\n    (?P<cites>\w+)\(\);\n)?\}$")
 HEADER = re.compile(r"(?m)^(?:ghost )?use [^;]*;\n")
+# The same within a block of a type too.
+GHOST_USE = re.compile(r"(?m)^ *ghost use [^;]*;\n")
+# A function that a trait declares, with its clauses, and what an `impl` of a trait says of its ghost members.
+DECLARED = re.compile(r"(?m)^    fn (\w+)[^{}]*(?:\n +(?:requires|ensures)[^\n]*| *//[^\n]*|\n[^\n{}]*)*;$")
+IMPL = re.compile(r"(?ms)^impl(?:<[^\n]*?>)? (?:\w+::)*(\w+)[^\n]*?\bfor (?:\w+::)*(\w+)[^\n]*\{\n(.*?)^\}$")
+# How a body calls std's traits; what others say of a type may be read wherever the type is named.
+CALLED = {"From": r"\?|\b(?:into|from)\(", "Display": r"!\("}
 
 
 class Module(NamedTuple):
@@ -134,6 +145,41 @@ class Sources:
         found = {path for text in texts for side, path in self.names.findall(text) if not self.module_of(side, path)}
         return {it for it in found if not f"{it}.".startswith(own)}
 
+    def lines_of(self, function):
+        return "\n".join(self.text_of(function.file).split("\n")[function.first : function.last + 1])
+
+    def stated_by(self, file, text):
+        """Returns the modules on which a text of a file of code rests."""
+        return self.below(self.named_in("".join(it for it in GHOST_USE.findall(self.text_of(file)) if uses(it, text))))
+
+    def stated_of(self, function):
+        """Returns the modules on which a function's clauses rest."""
+        return self.stated_by(function.file, "\n".join(self.text_of(function.file).split("\n")[function.first : function.body + 1]))
+
+    def stated_beside(self, function):
+        """Returns the modules on which rests what else a function's proof may read: the clauses of what has the name of something that it calls, of a
+        trait too, what an `impl` says of a type that it names, what stands in its body, and the lemmas of its proof."""
+        lines, body = self.lines_of(function), self.lines_of(function).partition("\n    {\n")[2]
+        found = self.stated_by(function.file, body) | self.below(self.named_in("".join(self.lemmas_of(function, lines))))
+        for file in (it for it in self.files_of("src") if it.endswith(".rt")):
+            for it in functions_of(file, self.text_of(file)):
+                if it.key != function.key and re.search(rf"\b{it.name}(::<|\()", body):
+                    found |= self.stated_of(it)
+            for it in DECLARED.finditer(self.text_of(file)):
+                if re.search(rf"\b{it[1]}(::<|\()", body):
+                    found |= self.stated_by(file, it[0])
+            for trait, owner, members in members_of(self.text_of(file)):
+                is_named = owner == function.owner or re.search(rf"\b{owner}\b", lines)
+                if is_named and re.search(CALLED.get(trait, ""), body):
+                    found |= self.stated_by(file, members)
+        return found
+
+    def lemmas_of(self, function, lines):
+        """Returns the texts of a function's proof files, and what its attributes name of proofs, as proof files name it."""
+        files = (it for it in self.files_of("proofs") if function.has_proof_folder(os.path.dirname(it).partition("/")[2]))
+        named = re.findall(r"\bcrate::proofs::([\w:]+)", lines)
+        return [*map(self.text_of, files), *(f"Rattle.{self.crate.name}.proofs.{it.replace('::', '.')} " for it in named)]
+
     def rests_on_code(self, law, changed):
         """Whether a law's proof names a contract that may speak of what is changed: the contract isn't copied, and so would speak of what was there before."""
         return any(self.of_code(it) is None or self.of_code(it) & changed for it in self.contracts_of(law))
@@ -149,13 +195,19 @@ class Sources:
             return None
         return self.below(self.named_in(self.text_of(file)))
 
-    def way(self, law, changed):
-        """Returns the modules on the way from these to a law, with those of them that it reaches."""
-        found, more = set(), self.reached(law) & changed
+    def way(self, reached, changed):
+        """Returns the modules on the way from these to what reaches those, with those of them that it reaches."""
+        found, more = set(), reached & changed
         while more:
             found |= more
-            more = {it for it in self.reached(law) - found if self.named(it) & found}
+            more = {it for it in reached - found if self.named(it) & found}
         return found
+
+
+def members_of(text):
+    """Yields, for each `impl` of a trait in a file of code, the trait, the type and what is said of ghost members."""
+    for it in IMPL.finditer(text):
+        yield it[1], it[2], "".join(re.findall(r"(?m)^ +ghost (?!use )[^\n]*\n", it[3]))
 
 
 def errors_of(lines):
@@ -227,6 +279,61 @@ class Copy:
         return found[0] if len(found) == 1 else ""
 
 
+class OfFunction(Copy):
+    """A function of code over copies of modules, in some of which an edit may be made."""
+
+    def texts(self):
+        return {it.marked(self.mark).file: self.renamed(self.edited(it.file)) for it in self.modules}
+
+    def nodes(self, text_of):
+        """Returns the texts of the files that declare the copied modules, and the copies too."""
+        found = {}
+        for it in self.modules:
+            found[it.node] = with_modules(found.get(it.node) or text_of(it.node), [(it.name, f"{it.name}{self.mark}")])
+        return found
+
+    def names(self):
+        """Returns what the function's file brings from the copied modules, each as its module, its own name, and the name that it has there."""
+        crate = self.sources.crate.name
+        found = []
+        for path, names in re.findall(rf"(?m)^ *ghost use Rattle\.{crate}\.specs\.(\S+)\.\{{([^}}]*)\}};$", self.sources.text_of(self.law.file)):
+            module = self.sources.module_of("specs", path)
+            if module in self.modules:
+                rest = path[len(module.path) :]
+                pairs = (it.partition(" as ") for it in names.split(", "))
+                found += [(f"{crate}.specs.{module.path}{self.mark}{rest}", own, local or own) for own, _, local in pairs]
+        return found
+
+    def restated(self, text, body):
+        """Returns the function's text, whose body begins at this line, with the copies' names in its clauses, and what it brings for that; None where
+        an operator is one of them."""
+        lines, uses = text.split("\n"), []
+        first = next((at for at, it in enumerate(lines) if re.match(r" +(ensures|requires) ", it)), body)
+        clauses = "\n".join(lines[first:body])
+        attributes = "\n".join(lines[:first])
+        for it in self.modules:
+            attributes = attributes.replace(f"crate::specs::{it.path.replace('.', '::')}::", f"crate::specs::{it.path.replace('.', '::')}{self.mark}::")
+        for module, own, local in self.names():
+            if "◌" in own:
+                return None
+            here = rf"(?<![\w.◌'-]){re.escape(local)}(?![\w◌'-])"
+            if re.search(here, clauses):
+                clauses = re.sub(here, f"{local}{self.mark}", clauses)
+                uses.append(f"ghost use Rattle.{module}.{{{own} as {local}{self.mark}}};")
+        return "\n".join([*attributes.split("\n"), *clauses.split("\n"), *lines[body:]]), uses
+
+
+def of_function(sources, function, mark, pairs, files):
+    """Returns a function of code over copies of what lies between its clauses and these changed files, or None where nothing does, or where something
+    else in its proof speaks of these: that isn't copied, so it would speak of what was there before."""
+    changed = {it for it in sources.modules if it.file in files}
+    modules = sources.way(sources.stated_of(function), changed)
+    is_stated = modules and len(changed) == len(files) and all(it.side == "specs" for it in modules)
+    if not is_stated or sources.stated_beside(function) & modules:
+        return None
+    return OfFunction(sources, Law(function.file, "", sources.lines_of(function)), modules, mark, pairs)
+
+
 class Batch:
     """Edits of a crate's definitions that stand in one check."""
 
@@ -245,19 +352,17 @@ class Batch:
     def copies(self):
         return [*self.edits.values(), *self.controls.values()]
 
-    def texts(self, root=None):
-        """Returns the texts that the check reads in the place of the crate's own, or beside them, where the crate's first file has this text."""
+    def texts(self, text_of=None):
+        """Returns the texts that the check reads in the place of the crate's own, or beside them, where its files have these texts."""
+        text_of = text_of or self.sources.text_of
         found, declared = {}, {}
         for it in self.copies():
             found.update(it.texts())
             for module in it.modules:
                 declared.setdefault(module.node, []).append((module.name, f"{module.name}{it.mark}"))
         for node, names in declared.items():
-            found[node] = with_modules(self.sources.text_of(node), names)
-        root = root or self.sources.text_of("src/lib.rt")
-        # (behind what the file says of itself)
-        at = re.search(r"(?m)^(?!//!|#!|\n)", root).start()
-        found["src/lib.rt"] = root[:at] + "".join(f"mod {it.above};\n" for it in self.copies()) + root[at:]
+            found[node] = with_modules(text_of(node), names)
+        found["src/lib.rt"] = with_lines(text_of("src/lib.rt"), [f"mod {it.above};" for it in self.copies()])
         return found
 
     def only(self):
@@ -276,6 +381,12 @@ class Batch:
         return f"refused, as it must be, by {edit.law}: {told[0][:120]}" if said == "not proved" and told else None
 
 
+def with_lines(text, lines):
+    """Returns the text of a file of code with these lines behind what it says of itself."""
+    at = re.search(r"(?m)^(?!//!|#!|\n)", text).start()
+    return text[:at] + "".join(f"{it}\n" for it in lines) + text[at:]
+
+
 def with_modules(text, names):
     """Returns the text of a file that declares modules, with further ones declared just as those that they copy."""
     for name, new in names:
@@ -292,7 +403,7 @@ def batches(crate, edits):
         changed = {it for it in sources.modules if it.file in files}
         if not law or sources.rests_on_code(law, changed) or len(changed) < len(files) or any(it.side != "specs" for it in changed):
             continue
-        modules = sources.way(law, changed)
+        modules = sources.way(sources.reached(law), changed)
         if not modules:
             continue
         if not found or found[-1].lines() > MOST_LINES:

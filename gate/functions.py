@@ -11,13 +11,14 @@ def modules_of(file):
 
 
 def modules_of_types(folder):
-    """Returns where each type of a crate stands."""
+    """Returns where the types of each name stand in a crate."""
     found = {}
     for above, _, names in os.walk(f"{folder}/src"):
         for path in (f"{above}/{name}" for name in names if name.endswith(".rt")):
             with open(path, encoding="utf-8") as it:
                 types = re.findall(r"(?m)^(?:pub(?:\(\w+\))? )?(?:struct|enum) (\w+)", it.read())
-            found.update(dict.fromkeys(types, modules_of(os.path.relpath(path, folder))))
+            for name in types:
+                found.setdefault(name, []).append(modules_of(os.path.relpath(path, folder)))
     return found
 
 
@@ -39,7 +40,8 @@ class Function(NamedTuple):
 
     def path(self, modules):
         """Its path below the crate, as the check prints it: a type's own function stands where the type does."""
-        return "::".join(filter(None, [*modules.get(self.block, self.modules()), self.block, self.name]))
+        where = modules.get(self.block, [self.modules()])
+        return "::".join(filter(None, [*(self.modules() if self.modules() in where else where[0]), self.block, self.name]))
 
     def modules(self):
         return modules_of(self.file)
@@ -52,7 +54,8 @@ class Function(NamedTuple):
         """Whether the proof files of this folder below proofs/ are the function's: a method's stand at its type."""
         *above, name = folder.split("/")
         if self.owner:
-            return name == self.name and bool(above) and re.fullmatch(rf"{self.owner}([A-Z]\w*)?", above[-1]) is not None
+            is_block = above and (above[-1] == self.block or re.fullmatch(rf"{self.owner}([A-Z]\w*)?", above[-1]))
+            return name == self.name and bool(is_block)
         return name == self.name and above == self.modules()
 
     def is_named(self, crate, path):

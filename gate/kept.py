@@ -16,7 +16,7 @@ from kit import TOP, rt
 
 STORE = os.environ.get("GATE_KEPT") or os.path.expanduser("~/.cache/pomtsjef-gate/edits")
 # The scripts that say what a check comes to.
-SCRIPTS = ("kit.py", "kept.py", "functions.py", "placeholders.py", "definitions.py", "wrong_bodies.py")
+SCRIPTS = ("kit.py", "kept.py", "functions.py", "placeholders.py", "trait_methods.py", "definitions.py", "wrong_bodies.py")
 # Entries that no run asked for in so many seconds are removed.
 LONGEST_UNUSED = 30 * 24 * 3600
 

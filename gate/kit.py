@@ -21,7 +21,10 @@ TOP = os.path.dirname(os.path.dirname(os.path.realpath(__file__)))
 
 def load_rt():
     """Returns the kit's own `rt` as a module."""
-    said = subprocess.run(["rt", "doc"], capture_output=True, text=True, check=True).stdout
+    try:
+        said = subprocess.run(["rt", "doc"], capture_output=True, text=True, check=True).stdout
+    except FileNotFoundError:
+        sys.exit("the command rt, of Rattle's kit, isn't on the path")
     loader = SourceFileLoader("rt", f"{os.path.dirname(said.strip())}/bin/rt")
     made = module_from_spec(spec_from_loader("rt", loader))
     loader.exec_module(made)

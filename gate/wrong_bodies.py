@@ -4,14 +4,17 @@
 usage: gate/wrong_bodies.py [--built] [--anew] [CRATE [EDIT..]]
 
 Edits of functions' bodies stand in one check together: each in a copy of its function beside it, with the same contract and
-the same proof files. Every other function has a placeholder for its body there (`gate/placeholders.py`). Of a function with proof
-files one more copy, in which nothing is edited, has to be proved there, or its copies tell nothing. Of a method of a trait no
-copy can be made: its edit is made in place, in the same check where no copy is likely to call it, else in a further one. An edit counts as
-refused where the prover names a goal of its copy, or of its function; what its check didn't name goes into a further one, without
-placeholders, and in the end is tried alone, as is an edit of a constant or a type. An edit of a definition has a line
-'by: LAW', and that law has to be refused with it. So may an edit of code have, with a function in the law's place: where the
-whole check of its crate is dear, that function alone is checked, together with others that rest on nothing that its edit changes. Edits of
-definitions stand in one check too (`gate/definitions.py`), which is that of the edits of code where there are few of either.
+the same proof files. Every other function has a placeholder for its body there (`gate/placeholders.py`). Of a function whose
+proof rests on its name, for its proof files or a call of itself, one more copy, in which nothing is edited, has to be proved
+there, or its copies tell nothing. Of a method of a trait no copy can be made: its edit is made in place, in the same check,
+where no copy is likely to call it and no other edit of it stands there, or else in a copy as a function of its type
+(`gate/trait_methods.py`), or else in a further check. An edit counts as refused where the prover names a goal of its copy, or
+of its function; what its check didn't name goes into a further one, then into one without placeholders, and in the end is tried
+alone, as is an edit of a constant or a type. An edit of a definition has a line 'by: LAW', and that law has to be refused with
+it. So may an edit of code have, with a function in the law's place: where the whole check of its crate is dear, that function
+alone is checked, together with others that rest on nothing that its edit changes. Edits of definitions stand in one check too
+(`gate/definitions.py`), which is that of the edits of code where there are few of either; so do those that a function refuses,
+with a copy of it over copies of what they change, where nothing else in its proof speaks of that.
 Beside them stand the edits of crates/NAME/equal/, which say the same in other words: each has to be proved, so that a
 run can't call everything refused.
 
@@ -30,12 +33,13 @@ import tempfile
 import threading
 
 sys.dont_write_bytecode = True
-from definitions import NAMES, batches, errors_of
+from definitions import NAMES, Sources, batches, errors_of, of_function, with_lines
 from functions import functions_of, items_of, modules_of_types
 from kept import Kept
 from kit import ONE_JOB, PARTS, TOP, crates as crates_below, guard, rt
 from libraries import where_built
 from placeholders import MODULE, files_of, is_proof_of, linked, with_placeholders
+from trait_methods import place_of, with_names
 
 printing = threading.Lock()
 # What checks take of the memory that is planned for a proof of their whole crate: of one edit of definitions, which proves one function, of several
@@ -43,8 +47,12 @@ printing = threading.Lock()
 LAW_SHARE = 0.4
 BATCH_SHARE = 0.8
 CODE_SHARE = 0.75
-# Of this many edits of code, or of a batch of definitions, no check of their own is made where the crate has both: more of them fill a lane.
-MOST_BESIDE = 12
+# What a check says of a function that is proved.
+PROVED = r"proved(, may .*)?"
+# What is said of a refusal that says little of the contract.
+LITTLE = " (only because a proof file names what the edit took away)"
+# Of up to this many edits of code, or of a batch of definitions, no check of their own is made where the crate has both: more of them fill a lane.
+MOST_BESIDE = 50
 
 
 def say(text):
@@ -130,11 +138,13 @@ def texts_with(crate, edits):
 
 
 # How code calls a method of a trait, other than by its name.
-CALLS = {"from": r"\?|\binto\(", "fmt": r"!\(", "eq": r"[=!]=", "next": r"\bfor\b", "drop": r"\bfn\b"}
+PRINTS = r"\b(?:\w*print\w*|write\w*|format\w*|info|warn|error|debug|trace)!\("
+CALLS = {"from": r"\?|\binto\(", "fmt": PRINTS, "eq": r"[=!]=", "next": r"\bfor\b", "drop": r"\bfn\b"}
 
 
 def calls(function, owner, text):
     """Whether a text of a function of this type may call another function."""
+    text = re.sub(r"\bfn \w+", "fn", text, count=1)
     is_near = function.owner == owner or re.search(rf"\b{function.owner}\b", text)
     return is_near and re.search("|".join([rf"\b{function.name}\b", *filter(None, [CALLS.get(function.name)])]), text)
 
@@ -180,6 +190,58 @@ class Together:
         self.places[edit] = [self.copied(function, text, f"edit_{len(self.places)}")]
         return True
 
+    def add_over_definitions(self, edit):
+        """Puts a copy of the function that has to be refused with an edit of definitions, over copies of these."""
+        function, copies = over_definitions(self.crate, edit, f"_d{len(self.places)}")
+        keys = []
+        for it, changed, uses in copies:
+            self.texts.changed.update({**it.texts(), **it.nodes(self.texts.of)})
+            before = {*self.texts.changed}
+            keys.append(self.copied(function, changed, it.mark.lstrip("_")))
+            proofs = [file for file in self.texts.changed if file.startswith("proofs/") and file not in before]
+            self.texts.changed.update({file: it.renamed(self.texts.of(file)) for file in proofs})
+            self.texts.changed[function.file] = with_lines(self.texts.of(function.file), uses)
+        self.places[edit], self.controls[edit] = keys[:1], keys[1]
+
+    def add_as_function(self, edit):
+        """Puts a copy of a method of a trait beside its `impl`, as a function of its type."""
+        key = edit.functions[0]
+        found = [it for it in functions_of(key[0], self.original.of(key[0])) if it.key == key]
+        place = place_of(self.crate, found[0], self.original.of(key[0])) if len(edit.functions) == len(found) == 1 else None
+        text = self.text_of(found[0])
+        if not place or self.proofs_of(found[0]) or any(file != key[0] or text.count(old) != 1 for file, old, _ in edit.pairs):
+            return False
+        edited = text
+        for _, old, new in edit.pairs:
+            edited = edited.replace(old, new)
+        if self.in_place_called(found[0], edited):
+            return False
+        if key not in self.controls:
+            # (a type may have several `from`s)
+            self.controls[key] = self.copied_as_function(found[0], place, text, f"unedited_{len(self.controls)}")
+        self.places[edit] = [self.copied_as_function(found[0], place, edited, f"edit_{len(self.places)}")]
+        return True
+
+    def in_place(self):
+        """Returns the functions in which an edit is made in place."""
+        return [it for edit, places in self.places.items() if places == edit.functions for it in self.functions_changed(edit)]
+
+    def in_place_called(self, function, text):
+        """Whether a text in the function's place is likely to call another one in which an edit is made in place."""
+        return any(calls(it, function.owner, text) for it in self.in_place() if it.key != function.key)
+
+    def copied_as_function(self, function, place, text, ending):
+        """Puts a function with a method's text behind the method's `impl`, and returns its key."""
+        name = f"{function.name}_{ending}"
+        self.copies.append((function.owner, text))
+        lines = self.texts.of(function.file).split("\n")
+        here = next(it.last for it in functions_of(function.file, "\n".join(lines)) if it.key == function.key)
+        at = lines.index("}", here)
+        renamed = re.sub(rf"\bfn {function.name}\b", f"fn {name}", place.function(text), count=1)
+        lines[at + 1 : at + 1] = ["", place.head, *renamed.split("\n"), "}"]
+        self.texts.changed[function.file] = with_names("\n".join(lines), place.names)
+        return function._replace(name=name, block=function.owner).key
+
     def text_of(self, function):
         return "\n".join(self.original.of(function.file).split("\n")[function.first : function.last + 1])
 
@@ -205,8 +267,10 @@ class Together:
 
     def rests_on_its_name(self, function):
         """Whether the proof of a copy may fail for its name alone: the function, or a closure of it, has proof files, or it calls itself."""
-        has_files = any(function.name in folder.split("/") for folder, _ in self.proof_files())
-        return has_files or f"{function.name}(" in self.text_of(function).partition(f"fn {function.name}")[2]
+        of_closure = any({"fn", function.name} <= {*folder.split("/")} for folder, _ in self.proof_files())
+        before = rf"(?:\bself\s*\.|\bSelf::|\b{function.owner}::)" if function.owner else r"(?<![.\w:])"
+        body = self.text_of(function).partition(f"fn {function.name}")[2]
+        return bool(self.proofs_of(function)) or of_closure or re.search(rf"{before}{function.name}\(", body) is not None
 
     def copy_proof(self, folder, file, to):
         with open(f"{self.crate.folder}/proofs/{folder}/{file}", encoding="utf-8") as it:
@@ -215,13 +279,20 @@ class Together:
         self.texts.changed[f"proofs/{to}/{file}"] = re.sub(rf"({named}){path}(?![\w-])", rf"\1{to.replace('/', '.')}", text)
 
 
-def grouped(crate, edits, has_copies):
+def grouped(crate, edits, has_copies, of_definitions=()):
     """Returns the edits in groups, each of which stands in one check: first those in copies, which say nothing of one another, with those
-    in place that no copy calls, and then others in place, where what calls an edited function isn't told."""
-    copies, groups = Together(crate), []
-    for edit in [it for it in edits if not (has_copies and copies.add_copy(it))]:
-        if has_copies and not copies.may_call(edit) and copies.add_in_place(edit):
-            continue
+    in place that no copy calls, and then others in place, where what calls an edited function isn't told. Edits of definitions stand with the copies."""
+    copies, groups, left = Together(crate), [], edits
+    for edit in of_definitions:
+        copies.add_over_definitions(edit)
+    if has_copies:
+        left = [it for it in left if not copies.add_copy(it)]
+        # (of a method that has several edits one could stand in place)
+        keys = [key for it in left for key in it.functions]
+        left = [it for it in left if keys.count(it.functions[0]) == 1 or not copies.add_as_function(it)]
+        left = [it for it in left if copies.may_call(it) or not copies.add_in_place(it)]
+        left = [it for it in left if not copies.add_as_function(it)]
+    for edit in left:
         if not any(it.add_in_place(edit) for it in groups):
             groups.append(Together(crate))
             groups[-1].add_in_place(edit)
@@ -248,7 +319,7 @@ def is_proved(crate, function, text, lines):
     spans = [it for it in functions_of(function[0], text) if it.key == function]
     said = [re.match(r"fn (\S+): (.*)", line) for line in lines]
     own = [it[2] for it in said if it and any(span.is_named(crate.name, it[1]) for span in spans)]
-    return bool(own) and all(re.fullmatch(r"proved(, may .*)?", it) for it in own)
+    return bool(own) and all(re.fullmatch(PROVED, it) for it in own)
 
 
 def checked(crate, texts, flags, kept):
@@ -277,13 +348,14 @@ class Group:
 
     def __init__(self, together, kept, has_placeholders, batch=None):
         self.crate, self.together, self.texts, self.batch = together.crate, together, Texts(together.crate), batch
+        self.has_placeholders = has_placeholders
         where = modules_of_types(self.crate.folder)
         keys = [*together.controls.values(), *(key for places in together.places.values() for key in places)]
         self.texts.changed = {**together.texts.changed}
         if has_placeholders:
             self.texts.changed.update(with_placeholders(self.crate, together.texts.of, keys))
         if batch:
-            self.texts.changed.update(batch.texts(self.texts.of("src/lib.rt")))
+            self.texts.changed.update(batch.texts(self.texts.of))
         paths = {it.path(where) for key in keys for it in self.spans_of(key)} | {*(batch.only() if batch else ())}
         only = [word for it in sorted(paths) for word in ("--only", it)]
         ran = checked(self.crate, self.texts.changed, [*ONE_JOB, *only], kept)
@@ -307,17 +379,17 @@ class Group:
         if self.batch and edit in self.batch.edits:
             said = self.batch.verdict(edit, self.lines) if self.reached else None
             return (True, f"{edit.label}: {said}") if said else None
-        places, control = self.together.places[edit], self.together.controls.get(next(iter(edit.functions), None))
+        places, control = self.together.places[edit], self.together.controls.get(next(iter(edit.functions), edit))
         if not self.is_read or control and not self.has_proved(control):
             return None
         if edit.is_equal:
             return (True, f"{edit.label}: proved, as it must be") if all(map(self.has_proved, places)) else None
         goals = [goal for key in places for goal in goals_of(key, self.texts.of(key[0]), self.lines)]
-        if not goals:
-            return None
         told = [it for it in goals if not (it.startswith(("proofs/", "./proofs/")) and NAMES.search(it))]
-        little = "" if told else " (only because a proof file names what the edit took away)"
-        return True, f"{edit.label}: refused, as it must be{little}: {(told or goals)[0][:120]}"
+        # (a proof may name what went with a placeholder, where no unedited one stands beside it)
+        if not goals or not told and self.has_placeholders and not control:
+            return None
+        return True, f"{edit.label}: refused, as it must be{'' if told else LITTLE}: {(told or goals)[0][:120]}"
 
 
 def tried_alone(crate, edit, kept):
@@ -333,12 +405,24 @@ def tried_alone(crate, edit, kept):
     return Group(together, kept, False).verdict(edit) or (False, f"{edit.label}: NOT PROVED, though it does the same")
 
 
-def code_of(crate, law):
-    """Returns the function that stands in a law's place, or None where that is a law or has proof files."""
+def code_of(crate, law, has_proofs=False):
+    """Returns the function that stands in a law's place, or None where that is a law or, unless such a one is wanted too, has proof files."""
     files = [it for it in files_of(crate, "src") if it.endswith(".rt")]
     found = [it for file in files for it in functions_of(file, Texts(crate).of(file)) if it.is_named(crate.name, f"{crate.name}::{law}")]
-    has_files = any(is_proof_of(it, file) for it in found for file in files_of(crate, "proofs"))
+    has_files = not has_proofs and any(is_proof_of(it, file) for it in found for file in files_of(crate, "proofs"))
     return found[0] if len(found) == 1 and found[0].body < found[0].last and not has_files else None
+
+
+def over_definitions(crate, edit, mark="_d"):
+    """Returns the function that has to be refused with an edit of definitions, and its copies over copies of these, with the edit and without it: each
+    with the function's text there, and what that brings. Without copies it is tried by itself."""
+    function = code_of(crate, edit.law, has_proofs=True)
+    if not function or function.is_of_trait() or not edit.is_of_definitions:
+        return function, []
+    sources, files = Sources(crate), {it[0] for it in edit.pairs}
+    copies = [of_function(sources, function, *it, files) for it in ((mark, edit.pairs), (f"{mark}c", ()))]
+    restated = [it and it.restated(it.law.text, function.body - function.first) for it in copies]
+    return function, [(it, *given) for it, given in zip(copies, restated)] if all(restated) else []
 
 
 class Items:
@@ -395,13 +479,23 @@ def tried_by_functions(crate, edits, note):
     return None
 
 
+def beside_placeholders(crate, edit, code, texts):
+    """Returns the check of one function in the crate's files with these texts, where every other function has a placeholder."""
+    alone = Together(crate)
+    alone.texts, alone.places[edit] = texts, [code.key]
+    return Group(alone, None, True)
+
+
+def is_proved_beside_placeholders(crate, edit, code):
+    """Whether a function with proof files is proved so where nothing is edited."""
+    return beside_placeholders(crate, edit, code, Texts(crate)).has_proved(code.key)
+
+
 def verdict_by_law(crate, edit):
     """Returns whether all is well with an edit, as the check of its law or function tells, and what to say."""
-    edited, code = texts_with(crate, [edit]), code_of(crate, edit.law)
-    if code:
-        alone = Together(crate)
-        alone.texts, alone.places[edit] = edited, [code.key]
-        verdict = Group(alone, None, True).verdict(edit)
+    edited, code = texts_with(crate, [edit]), code_of(crate, edit.law, has_proofs=True)
+    if code and (code_of(crate, edit.law) or is_proved_beside_placeholders(crate, edit, code)):
+        verdict = beside_placeholders(crate, edit, code, edited).verdict(edit)
         if verdict:
             return verdict
     texts = edited.changed
@@ -411,14 +505,13 @@ def verdict_by_law(crate, edit):
     said = [it.rpartition(": ")[2] for it in lines if it.startswith(f"fn {crate.name}::{edit.law}: ")]
     if unread or len(said) != 1:
         return False, f"{edit.label}: BAD EDIT: {unread[:200] or f'the check says nothing of {edit.law}'}"
-    is_proved = said == ["proved"]
+    is_proved = bool(said and re.fullmatch(PROVED, said[0]))
     if edit.is_equal:
         return is_proved, f"{edit.label}: {'proved, as it must be' if is_proved else 'NOT PROVED, though it says the same'}"
     if is_proved:
         return False, f"{edit.label}: NOT REFUSED: {edit.law} is still proved with this edit"
     told = errors_of(lines) + [it for it in lines if re.match(r"note: src/\S+: it is not proved", it)]
-    little = "" if told else " (only because a proof file names what the edit took away)"
-    return True, f"{edit.label}: refused, as it must be{little}, by {edit.law}: {(told or [''])[0][:120]}"
+    return True, f"{edit.label}: refused, as it must be{'' if told else LITTLE}, by {edit.law}: {(told or [''])[0][:120]}"
 
 
 def tried_by_law(crate, edits, note):
@@ -443,9 +536,11 @@ def tried_in_batches(crate, edits, note):
 
 def tried(crate, edits, note):
     """Tries a crate's edits of code, and of definitions those of a batch that stands in the first check with them. Each verdict is noted as it is known."""
-    left, alone, is_first = [it for it in edits if it.functions], [it for it in edits if not it.functions and not it.law], True
+    left, alone = [it for it in edits if it.functions], [it for it in edits if not it.functions and not it.law]
+    is_first = has_copies = True
     by_law, told = [it for it in edits if it.law], set()
     batch = next(iter(batches(crate, by_law)), None)
+    of_definitions = [it for it in by_law if not (batch and it in batch.edits) and over_definitions(crate, it)[1]]
 
     def verdicts(group):
         """Notes what a check tells, and returns the edits of code of which it tells nothing."""
@@ -460,11 +555,14 @@ def tried(crate, edits, note):
         return untold
 
     with tempfile.TemporaryDirectory(prefix="wrong-bodies-") as kept:
-        while len(left) > (0 if is_first else 1):
-            groups = grouped(crate, left, is_first)
-            untold = [it for at, together in enumerate(groups) for it in verdicts(Group(together, kept, is_first, batch if is_first and not at else None))]
-            if len(untold) == len(left) and not is_first:
+        while len(left) > (0 if has_copies else 1):
+            groups = grouped(crate, left, has_copies, of_definitions if is_first else ())
+            untold = [it for at, together in enumerate(groups) for it in verdicts(Group(together, kept, has_copies, batch if is_first and not at else None))]
+            is_stuck = len(untold) == len(left)
+            if is_stuck and not has_copies:
                 break
+            # (what a copy doesn't tell it may tell where what it calls isn't edited in place)
+            has_copies = has_copies and not is_stuck and any(it.in_place() for it in groups)
             left, is_first = untold, False
         for edit in [*left, *alone]:
             note(edit, *tried_alone(crate, edit, kept))
@@ -510,7 +608,10 @@ def tasks_of(crate, edits, kept):
     for group in sharing:
         call = lambda given, jobs, group=group: kept.told(crate, group, tried_by_functions, say)
         tasks[crate.name, "edits", group[0].label] = [], size * len(group), LAW_SHARE * memory, call
-    for edit in (it for it in left if not any(it in group for group in sharing)):
+    left = [it for it in left if not any(it in group for group in sharing)]
+    over = [it for it in left if code and over_definitions(crate, it)[1]]
+    code += over
+    for edit in (it for it in left if it not in over):
         call = lambda given, jobs, edit=edit: kept.told(crate, [edit], tried_by_law, say)
         tasks[crate.name, "edits", edit.label] = [], size, LAW_SHARE * memory, call
     if code:
