@@ -6,6 +6,7 @@
 # status is other than 0 if a list differs, or isn't whole in two minutes.
 set -euo pipefail
 top=$(cd "$(dirname "${BASH_SOURCE[0]}")" && pwd)
+case $#${1:-} in 0 | 1[!-]*) ;; *) echo "usage: ./cluster.sh [PROGRAM]" >&2 && exit 2 ;; esac
 if [ $# -gt 0 ]; then
     program=$(realpath -- "$1")
 else
@@ -40,8 +41,9 @@ start() {
 send() {
     local client=$1 to=$2 number=$3
     shift 3
-    until "$program" send --id "$client" --validators 4 --keys "keys/c$client.keys" --to "${addresses[$to]}" \
-        --number "$number" "$@" >> "c$client.log" 2>&1; do
+    # (13 3 says that it is there already: its answer was lost)
+    until answer=$("$program" send --id "$client" --validators 4 --keys "keys/c$client.keys" --to "${addresses[$to]}" \
+        --number "$number" "$@" 2>> "c$client.log") || [ "$answer" = "refused 13 3" ]; do
         [ $SECONDS -lt $deadline ] || fail "transaction $number of client $client was not accepted"
         sleep 0.1
     done

@@ -4,6 +4,7 @@
 set -euo pipefail
 top=$(cd "$(dirname "${BASH_SOURCE[0]}")" && pwd)
 schedule=$(realpath -- "${1:-$top/schedules/first_decision.txt}")
+[ $# -le 1 ] && [ -r "$schedule" ] || { echo "usage: ./run.sh [SCHEDULE]; $schedule can't be read" >&2; exit 2; }
 cd "$top"
 source gate/sources.sh
 program=$(program_of tmsim)

@@ -58,8 +58,9 @@ def main(words):
         return 0 if prove(words[2:], TOP, words[1]) else 1
     names = [*PROGRAMS, *(it for it in words if it not in PROGRAMS)]
     wanted = [it for it in crates() if it.is_program and it.name in names]
-    if len(wanted) < len(names):
-        print(__doc__, file=sys.stderr)
+    unknown = [it for it in names if it not in {program.name for program in wanted}]
+    if unknown:
+        print(f"gate/build.py: no program {unknown[0]}\n\n{__doc__}", file=sys.stderr)
         return 2
     count = len({below.name for it in wanted for below in [it, *it.below()]})
     with tempfile.TemporaryDirectory(prefix="gate-build-") as room:

@@ -22,6 +22,9 @@ while [ $# -gt 0 ]; do
     shift
 done
 [ ${#names[@]} -gt 0 ] || mapfile -t names < <(cd "$here" && printf '%s\n' *.txt | sed 's/\.txt$//')
+for name in "${names[@]}"; do
+    [ -f "$here/$name.txt" ] || { echo "check.sh: no schedule $name" >&2; exit 2; }
+done
 got=$(mktemp -d)
 trap 'rm -rf "$got"' EXIT
 

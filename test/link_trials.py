@@ -4,6 +4,7 @@ import os
 import random
 import re
 import shutil
+import socket
 import subprocess
 import threading
 import time
@@ -163,7 +164,7 @@ def strangers_get_nothing(cluster, is_long):
         it.settimeout(0.01)
         try:
             came = it.recv(1 << 16)
-        except TimeoutError:
+        except socket.timeout:
             came = b""
         it.close()
         want(came == b"", f"a stranger gets {len(came)} bytes, of kind {came[4:5].hex()} first")

@@ -120,7 +120,7 @@ class Socket(threading.Thread):
     def accept(self):
         try:
             near = self.listener.accept()[0]
-        except TimeoutError:
+        except socket.timeout:
             return
         try:
             far = dial(self.target)

@@ -13,6 +13,8 @@ import time
 from concurrent.futures import ThreadPoolExecutor
 from typing import NamedTuple, Optional
 
+# How long one may wait at most, in seconds.
+MAX_TIMEOUT = 86_400.0
 CLIENTS, VALIDATORS, SESSIONS, NUMBERS = range(1_024), range(2, 129), range(1 << 32), range(1, (1 << 48) + 1)
 MAX_DATA, MAX_FRAME = 1_024, 1_048_576
 REPLY, NOT_QUEUED = 0x20, 13
@@ -119,8 +121,9 @@ def send(address, frame, seconds=10.0):
 
     OSError: it can't be connected to, ends the connection, or hasn't replied in time. ValueError: its reply is none.
     """
-    ends = time.monotonic() + seconds
     with socket.create_connection(address, timeout=seconds) as link:
+        # (a name may have several addresses, each of which is given as long)
+        ends = time.monotonic() + seconds
         link.sendall(frame)
         while True:
             (length,) = struct.unpack(">I", receive(link, 4, ends))
@@ -181,6 +184,8 @@ def address_of(word):
 
 def run_send(given):
     """Sends one transaction to all addresses at once, and prints their answers in order."""
+    if not 0 < given.timeout <= MAX_TIMEOUT:
+        raise ValueError("the timeout is out of range")
     with open(given.keys, "rb") as file:
         client = Client(file.read(), given.client, given.validators)
     frame, words = client.frame(given.session, given.number, given.data), given.to.split(",")
