@@ -11,26 +11,44 @@ use crate::running::{Trouble, done};
 use crate::words::{Invocation, WordsFault, read_words};
 use std::alloc::Global;
 use std::env;
-use std::io::{BufWriter, Write};
+use std::io::{BufWriter, ErrorKind, Write};
 use std::process::ExitCode;
 use std::rt::Env;
 
 fn main(rt: HostRuntime) -> ExitCode {
     let mut err = rt.stderr();
     let status = match words_given(&rt) {
-        Some(words) => program(rt.alloc(), &words, rt.stdout(), &mut err),
-        None => tell(Trouble::OutOfMemory, &mut err),
+        Ok(words) => program(rt.alloc(), &words, rt.stdout(), &mut err),
+        Err(fault) => refuse(fault, &mut err),
     };
     ExitCode::from(status)
 }
 
-/// The program's name and its arguments, where there is memory for them.
-fn words_given(rt: &(impl Env + AllocGlobal)) -> Option<Vec<String>> {
+/// The program's name and its arguments, where there is memory for them and each is text.
+fn words_given(rt: &(impl Env + AllocGlobal)) -> Result<Vec<String>, WordsFault> {
     let mut words = Vec::new(rt.alloc());
-    for word in env::args(rt).ok()? {
-        words.push(word).ok()?;
+    let args = match env::args(rt) {
+        Ok(args) => args,
+        Err(error) if error.kind() == ErrorKind::OutOfMemory => {
+            return Err(WordsFault::OutOfMemory);
+        }
+        Err(_) => return Err(WordsFault::Usage),
+    };
+    for word in args {
+        words.push(word)?;
     }
-    Some(words)
+    Ok(words)
+}
+
+/// Prints what is wrong with the words, and returns the exit status.
+fn refuse<E: Write>(fault: WordsFault, err: &mut E) -> u8 {
+    match fault {
+        WordsFault::OutOfMemory => tell(Trouble::OutOfMemory, err),
+        WordsFault::Usage => {
+            let _ = writeln!(err, "{fault}");
+            Trouble::Usage.status()
+        }
+    }
 }
 
 /// Prints why nothing came of it, and returns the exit status.
@@ -43,11 +61,7 @@ fn tell<E: Write>(trouble: Trouble, err: &mut E) -> u8 {
 fn program<W: Write + Drop, E: Write>(alloc: Global, words: &[String], out: W, err: &mut E) -> u8 {
     let invocation = match read_words(alloc, words) {
         Ok(invocation) => invocation,
-        Err(WordsFault::OutOfMemory) => return tell(Trouble::OutOfMemory, err),
-        Err(WordsFault::Usage) => {
-            let _ = writeln!(err, "{}", WordsFault::Usage);
-            return Trouble::Usage.status();
-        }
+        Err(fault) => return refuse(fault, err),
     };
     let Ok(mut out) = BufWriter::new(alloc, out) else {
         return tell(Trouble::OutOfMemory, err);

@@ -82,7 +82,7 @@ static OPTIONS: [WordOption; 12] = [
     WordOption {
         name: "calm",
         value: "M",
-        help: "After how many virtual minutes faults cease; else after three quarters of the run",
+        help: "After how many virtual minutes faults cease, and the run goes on for two and a half at least; else after three quarters of it",
     },
     WordOption {
         name: "faults",
