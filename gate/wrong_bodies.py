@@ -486,18 +486,33 @@ def beside_placeholders(crate, edit, code, texts):
     return Group(alone, None, True)
 
 
-def is_proved_beside_placeholders(crate, edit, code):
-    """Whether a function with proof files is proved so where nothing is edited."""
-    return beside_placeholders(crate, edit, code, Texts(crate)).has_proved(code.key)
+def verdict_beside_placeholders(crate, edit, code, edited):
+    """Returns what such a check tells of an edit, or None. Of a function with proof files, which may rest on lemmas, any refusal counts that says more than
+    what went with a placeholder, where it is proved so unedited."""
+    if code_of(crate, edit.law):
+        return beside_placeholders(crate, edit, code, edited).verdict(edit)
+    if not beside_placeholders(crate, edit, code, Texts(crate)).has_proved(code.key):
+        return None
+    group = beside_placeholders(crate, edit, code, edited)
+    told = reasons_in(group.lines)
+    if group.is_read and group.has_proved(code.key) and edit.is_equal:
+        return True, f"{edit.label}: proved, as it must be"
+    if not group.is_read or group.has_proved(code.key) or edit.is_equal or not told:
+        return None
+    return True, f"{edit.label}: refused, as it must be, by {edit.law}: {told[0][:120]}"
+
+
+def reasons_in(lines):
+    """Returns the lines that tell why something isn't proved, for more than what an edit took away."""
+    return errors_of(lines) + [it for it in lines if re.match(r"note: src/\S+: it is not proved", it)]
 
 
 def verdict_by_law(crate, edit):
     """Returns whether all is well with an edit, as the check of its law or function tells, and what to say."""
     edited, code = texts_with(crate, [edit]), code_of(crate, edit.law, has_proofs=True)
-    if code and (code_of(crate, edit.law) or is_proved_beside_placeholders(crate, edit, code)):
-        verdict = beside_placeholders(crate, edit, code, edited).verdict(edit)
-        if verdict:
-            return verdict
+    verdict = code and verdict_beside_placeholders(crate, edit, code, edited)
+    if verdict:
+        return verdict
     texts = edited.changed
     ran = rt.checked(crate, texts, [*ONE_JOB, "--only", edit.law], None)
     lines = ran.stdout.rstrip("\n").split("\n")
@@ -510,7 +525,7 @@ def verdict_by_law(crate, edit):
         return is_proved, f"{edit.label}: {'proved, as it must be' if is_proved else 'NOT PROVED, though it says the same'}"
     if is_proved:
         return False, f"{edit.label}: NOT REFUSED: {edit.law} is still proved with this edit"
-    told = errors_of(lines) + [it for it in lines if re.match(r"note: src/\S+: it is not proved", it)]
+    told = reasons_in(lines)
     return True, f"{edit.label}: refused, as it must be{'' if told else LITTLE}, by {edit.law}: {(told or [''])[0][:120]}"
 
 
