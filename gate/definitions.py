@@ -159,7 +159,8 @@ class Sources:
     def stated_beside(self, function):
         """Returns the modules on which rests what else a function's proof may read: the clauses of what has the name of something that it calls, of a
         trait too, what an `impl` says of a type that it names, what stands in its body, and the lemmas of its proof."""
-        lines, body = self.lines_of(function), self.lines_of(function).partition("\n    {\n")[2]
+        lines = self.lines_of(function)
+        body = "\n".join(lines.split("\n")[function.body - function.first + 1 :])
         found = self.stated_by(function.file, body) | self.below(self.named_in("".join(self.lemmas_of(function, lines))))
         for file in (it for it in self.files_of("src") if it.endswith(".rt")):
             for it in functions_of(file, self.text_of(file)):
