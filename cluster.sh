@@ -6,7 +6,11 @@
 # status is other than 0 if a list differs, or isn't whole in two minutes.
 set -euo pipefail
 top=$(cd "$(dirname "${BASH_SOURCE[0]}")" && pwd)
-case $#${1:-} in 0 | 1[!-]*) ;; *) echo "usage: ./cluster.sh [PROGRAM]" >&2 && exit 2 ;; esac
+case $#${1:-} in
+0 | 1[!-]*) ;;
+1--help | 1-h) sed -n '2,6s/^# //p' "${BASH_SOURCE[0]}" && exit ;;
+*) echo "usage: ./cluster.sh [PROGRAM]" >&2 && exit 2 ;;
+esac
 if [ $# -gt 0 ]; then
     program=$(realpath -- "$1")
 else
@@ -44,6 +48,7 @@ send() {
     # (13 3 says that it is there already: its answer was lost)
     until answer=$("$program" send --id "$client" --validators 4 --keys "keys/c$client.keys" --to "${addresses[$to]}" \
         --number "$number" "$@" 2>> "c$client.log") || [ "$answer" = "refused 13 3" ]; do
+        echo "$answer" >> "c$client.log"
         [ $SECONDS -lt $deadline ] || fail "transaction $number of client $client was not accepted"
         sleep 0.1
     done

@@ -56,8 +56,8 @@ ENDS = {
 BESIDE = ("what must not compile", "wrong bodies")
 # The stages that keep what they did.
 KEEP = ("proofs, tests and programs", "wrong bodies")
-# About what a whole run takes where nothing is kept, in processor seconds, as measured in pieces; its table says what it took.
-USUAL = 15_700
+# About what a whole run takes where nothing is kept, in processor seconds, as reckoned from pieces; its table says what it took.
+USUAL = 16_300
 # The part of a crate's time that a check belongs to.
 PARTS = ("proof", "tests", "edits")
 TICKS = os.sysconf("SC_CLK_TCK")
