@@ -12,7 +12,7 @@ import os
 import tempfile
 import time
 
-from kit import TOP, rt
+from kit import TOP, own_sum, rt
 
 STORE = os.environ.get("GATE_KEPT") or os.path.expanduser("~/.cache/pomtsjef-gate/edits")
 # The scripts that say what a check comes to.
@@ -71,7 +71,7 @@ class Kept:
 
     def front(self, crate, anew=False):
         """Returns the sum of all that the check of an edit reads beside the edit."""
-        return sum_of(self.scripts, rt.own_sum(crate), self.below(crate, anew))
+        return sum_of(self.scripts, own_sum(crate), self.below(crate, anew))
 
     def line_of(self, key):
         """Returns the line that an earlier run told under this key, or None."""

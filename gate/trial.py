@@ -23,7 +23,7 @@ from concurrent.futures import FIRST_COMPLETED, ThreadPoolExecutor, wait
 
 sys.dont_write_bytecode = True
 from kept import sum_of, sum_of_library
-from kit import crates, guard, rt
+from kit import crates, guard, offer, own_sum, rt
 
 
 class Trial:
@@ -35,7 +35,7 @@ class Trial:
         self.used = {}
 
     def key(self, crate):
-        return sum_of(rt.own_sum(crate), self.with_tests, [(it.name, self.sums[it.name]) for it in crate.below()])
+        return sum_of(own_sum(crate), self.with_tests, [(it.name, self.sums[it.name]) for it in crate.below()])
 
     def prove(self, crate, jobs):
         """Proves a crate unless nothing changed for it, and returns whether it is proved, the seconds taken and what was said."""
@@ -103,7 +103,7 @@ def hand_over(crate, stamp):
         if crate.makes_rlib():
             with open(f"{crate.folder}/out/rlib/stamp", "w", encoding="utf-8") as it:
                 it.write(stamp)
-        rt.offer(crate, stamp)
+        offer(crate, stamp)
 
 
 def wanted(names):

@@ -28,6 +28,7 @@ import time
 
 sys.dont_write_bytecode = True
 from build import PROGRAMS, keep_programs
+from kit import KEEPS
 from libraries import put_with_wrong_bodies
 
 TOP = os.path.dirname(os.path.dirname(os.path.realpath(__file__)))
@@ -54,10 +55,10 @@ ENDS = {
 }
 # The stages beside which the next ones run.
 BESIDE = ("what must not compile", "wrong bodies")
-# The stages that keep what they did.
-KEEP = ("proofs, tests and programs", "wrong bodies")
-# About what a whole run takes where nothing is kept, in processor seconds, as reckoned from pieces; its table says what it took.
-USUAL = 16_300
+# The stages that keep what they did: `rt ci` does where the kit can.
+KEEP = ("proofs, tests and programs", "wrong bodies") if KEEPS else ("wrong bodies",)
+# About what a whole run takes where nothing is kept, in processor seconds; its table says what it took.
+USUAL = 15_500
 # The part of a crate's time that a check belongs to.
 PARTS = ("proof", "tests", "edits")
 TICKS = os.sysconf("SC_CLK_TCK")

@@ -36,7 +36,7 @@ sys.dont_write_bytecode = True
 from definitions import NAMES, Sources, batches, errors_of, of_function, with_lines
 from functions import functions_of, items_of, modules_of_types
 from kept import Kept
-from kit import ONE_JOB, PARTS, TOP, crates as crates_below, guard, rt
+from kit import ONE_JOB, PARTS, TOP, crates as crates_below, guard, is_refused, rt
 from libraries import where_built
 from placeholders import MODULE, files_of, is_proof_of, linked, with_placeholders
 from trait_methods import place_of, with_names
@@ -395,11 +395,8 @@ class Group:
 def tried_alone(crate, edit, kept):
     """Tries one edit of code by itself."""
     if not edit.is_equal:
-        kind, text = rt.must_fail(crate, edit.path, ONE_JOB, kept)
-        if kind == rt.UNSURE:
-            # (its check was killed for memory, most likely)
-            kind, text = rt.must_fail(crate, edit.path, ONE_JOB, kept)
-        return kind in (rt.REFUSED, rt.AT_LIMIT), f"{edit.label}: {text.partition(': ')[2]}"
+        is_well, text = is_refused(crate, edit.path, kept)
+        return is_well, f"{edit.label}: {text.partition(': ')[2]}"
     together = Together(crate)
     together.add_in_place(edit)
     return Group(together, kept, False).verdict(edit) or (False, f"{edit.label}: NOT PROVED, though it does the same")
