@@ -11,7 +11,7 @@ LATE = ("height H, N items, M a second", "link N: closed: it took nothing for 30
 # refused to can't be chosen from outside.
 NEVER = (
     "ADDRESS: closed: there are too many links",
-    ".. since memory is short",
+    "a timeout waits for memory",
     "link N: closed: memory is short",
     "ADDRESS: closed: out of memory",
 )

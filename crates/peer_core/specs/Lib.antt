@@ -10,3 +10,5 @@ pub mod Duties
 pub mod Choosing
 pub mod Grounds
 pub mod Counting
+pub mod Waiting
+pub mod Efforts

@@ -47,6 +47,8 @@ pub(crate) struct Agenda {
     pub(crate) settles: bool,
     pub(crate) resends: bool,
     pub(crate) asks: bool,
+    /// Whether an own message was lost for want of memory.
+    pub(crate) unsent: bool,
     /// The pauses before the own messages are sent again.
     again: Pauses,
     /// The pauses before one more validator is asked.
@@ -61,6 +63,7 @@ impl Agenda {
             settles: false,
             resends,
             asks: false,
+            unsent: false,
             again: Pauses::new(now, LONGEST_BEFORE_AGAIN_MS),
             asking: Pauses::new(now, LONGEST_BEFORE_ASK_MS),
         }

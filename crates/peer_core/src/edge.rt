@@ -1,6 +1,6 @@
 //! A validator's edge, and how links come and go.
 
-ghost use Rattle.std.specs.Prelude.{◌≡◌, true, false, max, nat_lt, OnOk};
+ghost use Rattle.std.specs.Prelude.{◌≡◌, ◌⊎◌, Some, true, false, max, nat_lt, OnOk, OnErr};
 ghost use Rattle.peer_core.specs.Resting.{is_held, holding};
 ghost use Rattle.peer_core.specs.Duties.{with_timeout};
 
@@ -8,6 +8,7 @@ use crate::agenda::Agenda;
 use crate::budget::Budget;
 use crate::duty::OpenFault;
 use crate::grounds::Grounds;
+use crate::help::Help;
 use crate::holding::HeldFrames;
 use crate::links::PeerLinks;
 use crate::manner::{Keeping, Manner};
@@ -59,10 +60,7 @@ pub struct PeerCore {
     pub(crate) own: OwnFrames,
     /// The last own vote, of whichever height.
     pub(crate) last_vote: Option<Bytes>,
-    /// The bundles that the node made last, for who asks for one of them next.
-    pub(crate) bundles: OwnFrames,
-    /// When the last of them was made.
-    pub(crate) made: u64,
+    pub(crate) help: Help,
     pub(crate) held: HeldFrames,
     /// How long the node waits before it asks where it is one height behind, in milliseconds.
     pub(crate) moment: u64,
@@ -107,8 +105,7 @@ impl PeerCore {
             asks: 0,
             own: OwnFrames::new(alloc),
             last_vote: None,
-            bundles: OwnFrames::new(alloc),
-            made: 0,
+            help: Help::new(alloc),
             held: HeldFrames::new(alloc),
             moment: moment_of(count),
             catch_up: CatchUp::new(moment_of(count)),
@@ -188,6 +185,7 @@ impl PeerCore {
         self.advance(height, now);
         if is_new {
             self.told = height;
+            self.links.forgive(now);
         }
         is_new
     }
@@ -218,20 +216,28 @@ impl PeerCore {
     }
 
     /// Plans a timeout that the node scheduled, whose time begins now. That of a height's first propose step waits where the
-    /// validator rests.
+    /// validator rests. One that is refused memory is planned at the next tick.
     pub fn scheduled(&mut self, timeout: Timeout, now: u64) -> Result<(), PlanFault>
         ensures held { is_held self.old.rest timeout ≡ true → self.new.plan ≡ self.old.plan }
         ensures rest { self.new.rest ≡ holding self.old.rest timeout now }
         ensures planned { is_held self.old.rest timeout ≡ false → OnOk result (self.new.plan ≡ with_timeout self.old.plan now timeout) }
+        ensures kept { OnErr result ((self.new.plan ≡ self.old.plan) × (self.new.unfired ≡ Some timeout)) }
     {
         if self.rest.hold(timeout, now) {
             return Ok(());
         }
-        self.plan.schedule(now, timeout)
+        let planned = self.plan.schedule(now, timeout);
+        if planned.is_err() {
+            self.unfired = Some(timeout);
+        }
+        planned
     }
 
-    /// Has a timeout fired again whose rule was refused memory.
-    pub fn refused_memory(&mut self, timeout: Timeout, now: u64) {
+    /// Has a timeout fired again whose rule was refused memory. Where it can't be planned for want of memory, it is at the next tick.
+    pub fn refused_memory(&mut self, timeout: Timeout, now: u64)
+        ensures { (self.new ≡ record self.old { plan = with_timeout self.old.plan now timeout })
+            ⊎ (self.new ≡ record self.old { unfired = Some timeout }) }
+    {
         if self.plan.schedule(now, timeout).is_err() {
             self.unfired = Some(timeout);
         }

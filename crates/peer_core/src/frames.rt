@@ -1,6 +1,6 @@
 //! The frames that come, and those that the node releases.
 
-ghost use Rattle.std.specs.Prelude.{◌≡◌, Some, None, true, false, IfOk, IfSome, MatchBool};
+ghost use Rattle.std.specs.Prelude.{◌≡◌, Some, None, true, false, IfOk, OnErr, IfSome, MatchBool};
 ghost use Rattle.transactions.specs.Fields.{number_at};
 ghost use Rattle.messages.specs.Replies.{IsReply};
 ghost use Rattle.peer_core.specs.Heading.{heading_at, is_transaction_at};
@@ -15,7 +15,6 @@ use crate::grounds::Grounds;
 use crate::heading::{Heading, Kind, heading_of, is_transaction};
 use crate::holding::MOST_BEHIND;
 use crate::idle::idle_height;
-use crate::link::AGAIN_MS;
 use crate::manner::Keeping;
 use crate::quiet::{has_transactions, is_quiet};
 use crate::showing::{is_news, is_taken_in, shown_by};
@@ -40,8 +39,8 @@ impl PeerCore {
     /// Notes before a frame is handed in what the node may release for it, and returns whether it is to be handed in: a bundle goes
     /// to whom an ask came from.
     ///
-    /// A node tags each bundle for every validator, so with guarded links it isn't asked again within a second for one that a validator
-    /// asks for on a link of its own: that is sent the frame that was made, or waits for it.
+    /// A node tags each bundle for every validator, so with guarded links it isn't asked again for one that it keeps, or that is being made, where a validator
+    /// asks for it on a link of its own: that is sent the frame that was made, or waits for it. An ask on a link on which too much was spent is passed over.
     pub fn expect(&mut self, link: LinkId, frame: &[u8], now: u64) -> bool
         ensures handed { may_be_shared self.old.links.keeping self.old.height (heading_at frame.now) ≡ false → result ≡ true }
     {
@@ -82,26 +81,40 @@ impl PeerCore {
 
     /// Notes that a bundle is asked for that the node can make, and returns whether it is to be made.
     fn asks_node(&mut self, id: LinkId, ask: Heading, now: u64) -> bool {
-        let is_making = self.links.is_making(ask.height, now);
+        if ask.sender == self.redial.me() {
+            return false;
+        }
+        let may_spend = self.links.may_spend(id, ask.sender, now);
         let Some(link) = self.links.link_mut(id) else {
             return true;
         };
         link.ask(ask.height, now);
         let (is_known, waited) = (link.is_of(ask.sender), link.asked_for(now));
-        if self.is_early(ask, now) || is_known && self.send_made(ask.height, now) {
+        if self.is_early(ask, now) || !may_spend {
             return false;
         }
-        let is_shared = if is_known {
-            is_making
+        if is_known && self.send_made(ask.height, now) {
+            return false;
+        }
+        let is_made = !self.is_shared(id, is_known, ask.height, now)
+            && self.is_helper(ask.height, waited);
+        if is_made && let Some(link) = self.links.link_mut(id) {
+            link.make(ask.height, now);
+        }
+        is_made
+    }
+
+    /// Returns whether a height's bundle needs not be made for an ask, since it is made or was lately for others, who it goes to as well. For those of whom
+    /// nothing is known a large cluster's validator makes one bundle at a time.
+    fn is_shared(&self, id: LinkId, is_known: bool, height: u64, now: u64) -> bool {
+        if is_known {
+            self.links.is_making_known(height, now)
         } else {
-            self.is_large() && (is_making || self.made_lately(ask.height, now))
-        };
-        !is_shared
-            && self.is_helper(ask.height, waited)
-            && self
-                .links
-                .link_mut(id)
-                .is_some_and(|link| link.make(ask.height, now))
+            self.is_large()
+                && (self.links.is_making(height, now)
+                    || self.links.is_asked_by_strangers(id, now)
+                    || self.help.made_lately(height, now))
+        }
     }
 
     /// Returns whether this validator is one that makes a height's bundle for who has waited so long for it: in a large cluster one of those
@@ -117,12 +130,6 @@ impl PeerCore {
         !self.is_large() || place % count < u64::from(FIRST_ASKED)
     }
 
-    /// Returns whether a height's bundle was made within the last second. Who has shown nothing, but for an ask that the node wasn't handed, gets the
-    /// next one, so that many of them have one made each second, and not each of them.
-    fn made_lately(&self, height: u64, now: u64) -> bool {
-        now.saturating_sub(self.made) < AGAIN_MS && self.made(height).is_some()
-    }
-
     /// Returns whether a height was left so lately that who asks for it may just as well decide it by itself, or has since it asked. In a large
     /// cluster it is answered only if it asks again.
     fn is_early(&self, ask: Heading, now: u64) -> bool {
@@ -133,23 +140,16 @@ impl PeerCore {
 
     /// Sends a bundle that was made to whom it is for, and returns whether there is one.
     fn send_made(&mut self, height: u64, now: u64) -> bool {
-        let Some(frame) = self.made(height) else {
+        let Some(frame) = self.help.made(height) else {
             return false;
         };
         if let Ok(links) = self.links.for_bundle(self.alloc, height, now) {
+            self.links.charge_sent(&links, frame.len(), now);
             if !links.is_empty() {
                 self.put(frame, links, Rank::Fresh);
             }
         }
         true
-    }
-
-    /// Returns this height's bundle, if it is one of those that the node made last.
-    fn made(&self, height: u64) -> Option<Bytes> {
-        let found = self.bundles.frames().iter().find(|made| heading_of(&made.frame).is_ok_and(
-            |heading| heading.height == height,
-        ))?;
-        found.frame.clone().ok()
     }
 
     /// Does what is to be done beside the node with a frame that came on a link and was answered so by the node, which is then in
@@ -190,13 +190,18 @@ impl PeerCore {
         own: u64,
     ) {
         let shown = shown_by(frame, heading, answer);
-        self.links
-            .show(link, shown, is_taken_in(heading, answer), own);
-        let is_ask = heading.is_some_and(|heading| heading.kind == Kind::Ask);
-        if is_ask && answer.is_err() {
-            if let Some(link) = self.links.link_mut(link) {
-                link.forget_ask();
-            }
+        if shown.sender() != Some(self.redial.me()) {
+            self.links
+                .show(link, shown, is_taken_in(heading, answer), own);
+        }
+        let Some(link) = self.links.link_mut(link) else {
+            return;
+        };
+        match heading.map(|heading| heading.kind) {
+            Some(Kind::Ask) => link.answered_ask(answer.is_ok(), shown),
+            Some(Kind::Bundle) if answer.is_ok() && shown.sender() == link.validator() =>
+                link.pay(),
+            _ => {}
         }
     }
 
@@ -248,19 +253,20 @@ impl PeerCore {
         }
     }
 
-    /// Wakes the validator where another one's frame says that transactions wait, and stirs it where something else happens: it is of
-    /// this height or a later one, and no idle height brings it. One that an idle height brings says that it goes on.
+    /// Wakes the validator where another one's frame says that transactions wait, also one that ended its height, and stirs it where something else
+    /// happens: it is of this height or a later one, and no idle height brings it. One that an idle height brings says that it goes on.
     fn rouse_by(&mut self, frame: &[u8], heading: Heading, answer: Result<(), Refusal>, now: u64) {
         let is_of_round = matches!(
             heading.kind,
             Kind::Proposal | Kind::Prevote | Kind::Precommit
         );
         let is_news = is_news(Some(heading), answer, self.height);
-        if !is_of_round || !is_news || heading.height < self.height {
+        let brings_some = has_transactions(frame);
+        if !is_of_round || !is_news || heading.height < self.height && !brings_some {
             return;
         }
         let rests = self.rest.rests(self.height);
-        if has_transactions(frame) {
+        if brings_some {
             self.rest.wake(self.height);
         } else if !is_quiet(frame) {
             self.rest.stir(self.height);
@@ -319,8 +325,11 @@ impl PeerCore {
 
     /// Puts an own frame for all into the outbox.
     fn send_own(&mut self, frame: Bytes, now: u64) {
-        if let Ok(sending) = self.to_all(frame, now) {
-            self.outbox.put(sending);
+        match self.to_all(frame, now) {
+            Ok(sending) => {
+                self.outbox.put(sending);
+            }
+            Err(_) => self.lost(),
         }
     }
 
@@ -329,9 +338,29 @@ impl PeerCore {
         self.outbox.put(Sending { frame, links, rank });
     }
 
+    /// Notes that a frame which the node released was lost for want of memory, so that the node is to release its own messages again at the next tick.
+    pub fn lost(&mut self)
+        ensures { self.new ≡ record self.old { agenda = record self.old.agenda { unsent = true } } }
+    {
+        self.agenda.unsent = true;
+    }
+
     /// Returns to whom a frame goes that the node released, or nothing where it waits, can't be read,
-    /// was sent before, or nobody wants it.
+    /// was sent before, or nobody wants it. Where that is refused memory, the node is to release its own messages again.
     pub fn released(&mut self, frame: Bytes, now: u64) -> Result<Option<Sending>, AllocError>
+        ensures frame { IfOk result (IsOf frame) }
+        ensures links { IfOk result (GoesWhereDue frame now self.old.links) }
+        ensures lost { OnErr result (self.new.agenda.unsent ≡ true) }
+    {
+        let sending = self.routed(frame, now);
+        if sending.is_err() {
+            self.lost();
+        }
+        sending
+    }
+
+    /// Returns to whom a released frame goes.
+    fn routed(&mut self, frame: Bytes, now: u64) -> Result<Option<Sending>, AllocError>
         ensures frame { IfOk result (IsOf frame) }
         ensures links { IfOk result (GoesWhereDue frame now self.old.links) }
     {
@@ -400,10 +429,9 @@ impl PeerCore {
         ensures links { IfOk result (GoesTo (for_bundle height now self.old.links)) }
     {
         let links = self.links.for_bundle(self.alloc, height, now)?;
-        self.links.made(height);
-        self.made = now;
-        // (without memory for it, it is made once more)
-        let _ = self.bundles.keep(&frame);
+        self.links.made(height, frame.len(), now);
+        self.links.charge_sent(&links, frame.len(), now);
+        self.help.keep(&frame, height, now);
         if links.is_empty() {
             return Ok(None);
         }
@@ -440,7 +468,7 @@ impl PeerCore {
         let Some(frame) = self.unheld(frame, idle, now) else {
             return Ok(None);
         };
-        let Some(frame) = self.held.follow(frame) else {
+        let Some(frame) = self.held.follow(frame)? else {
             return Ok(None);
         };
         if self.links.keeping() == Keeping::Guarded && self.own.has(&frame) {

@@ -2,8 +2,10 @@
 
 ghost use Rattle.std.specs.Prelude.{◌≡◌, Some, None};
 ghost use Rattle.peer_core.specs.Choosing.{is_open, behind_after, behind_by, gets_bundle, was_sent, sent_at};
+ghost use Rattle.peer_core.specs.Efforts.{has_room, charged, later};
 
 use crate::duty::Closing;
+use crate::efforts::Account;
 use edge_frames::LinkId;
 use peer_links::Way;
 
@@ -27,6 +29,12 @@ pub(crate) const AGAIN_MS: u64 = 1_000;
 /// For how long a node that was asked for a bundle isn't asked for it again unless it has made it, in milliseconds. A machine that has much
 /// to do makes one in seconds, at 128 validators, and one for each second of them would take it over.
 const MAKING_MS: u64 = 60_000;
+
+/// How long a validator may owe a bundle that it was asked for until others are asked before it, in milliseconds.
+const MOST_OWED_MS: u64 = 1_000;
+
+/// After how long one that owes a bundle is asked as any other, in milliseconds: it may have been cut off, or behind itself.
+const FORGIVEN_MS: u64 = 60_000;
 
 /// Who is behind a link. It is learned and never trusted: it decides only what is worth sending.
 #[derive(Clone, Copy, Debug, PartialEq, Eq)]
@@ -109,13 +117,17 @@ pub struct PeerLink {
     answered: Option<Answered>,
     /// The last bundle that the node was asked for, as the peer asks.
     making: Option<Answered>,
-    /// How many more of the peer's asks the node may be handed until the next tick.
-    asks_left: u32,
+    /// Whether the last ask that came here was nobody's.
+    has_erred: bool,
+    /// What was spent on asks that came here.
+    account: Account,
+    /// Since when its validator hasn't answered an ask of this one by a bundle.
+    owes_since: Option<u64>,
 }
 
 impl PeerLink {
-    /// A link that was opened now, from which so many asks may be handed in until the next tick.
-    pub(crate) fn new(id: LinkId, way: Way, now: u64, asks: u32) -> PeerLink {
+    /// A link that was opened now.
+    pub(crate) fn new(id: LinkId, way: Way, now: u64) -> PeerLink {
         let behind = match way {
             Way::Dialed(validator) => Behind::Validator(validator),
             Way::Accepted => Behind::Nobody,
@@ -143,7 +155,9 @@ impl PeerLink {
             asked_first: None,
             answered: None,
             making: None,
-            asks_left: asks,
+            has_erred: false,
+            account: Account::NEW,
+            owes_since: None,
         }
     }
 
@@ -208,10 +222,8 @@ impl PeerLink {
     }
 
     /// Notes that a second passed. One in which this validator stood still, or came to nothing, counts once, however long it was.
-    /// So many asks may be handed in until the next one.
-    pub(crate) fn tick(&mut self, asks: u32) {
+    pub(crate) fn tick(&mut self) {
         self.silent = self.silent.saturating_add(1);
-        self.asks_left = asks;
     }
 
     /// Returns whether a validator is behind it that has said nothing for so many seconds.
@@ -314,35 +326,99 @@ impl PeerLink {
             .map_or(0, |asked| now.saturating_sub(asked.at))
     }
 
-    /// Returns whether the node was asked for this height's bundle within the last minute, as the peer asks, and hasn't made it yet.
+    /// Returns whether the node was asked for this height's bundle within the last minute, as the peer asks, and hasn't made it yet. Where the
+    /// last ask that came here was nobody's, the next one may be, too.
     pub(crate) fn is_making(&self, height: u64, now: u64) -> bool {
-        match self.making {
-            Some(making) => making.height == height && now.saturating_sub(making.at) < MAKING_MS,
-            None => false,
-        }
+        !self.has_erred
+            && self.is_asking(now)
+            && self.making.is_some_and(|making| making.height == height)
     }
 
-    /// Notes that the node has made this height's bundle.
-    pub(crate) fn made(&mut self, height: u64) {
-        if self.making.is_some_and(|making| making.height == height) {
+    /// Returns whether the node was asked for any bundle within the last minute, as the peer asks, and hasn't made it yet.
+    pub(crate) fn is_asking(&self, now: u64) -> bool {
+        let is_lately = |making: Answered| now.saturating_sub(making.at) < MAKING_MS;
+        self.making.is_some_and(is_lately)
+    }
+
+    /// Returns whether the last ask that came here was nobody's.
+    pub(crate) fn has_erred(&self) -> bool {
+        self.has_erred
+    }
+
+    /// Notes that the node has made this height's bundle, and returns whether the peer's ask had it made.
+    pub(crate) fn made(&mut self, height: u64) -> bool {
+        let is_for = self.making.is_some_and(|making| making.height == height);
+        if is_for {
             self.making = None;
         }
+        is_for
     }
 
-    /// Has the node asked for this height's bundle, unless the peer has asked too often, and returns whether it is.
-    pub(crate) fn make(&mut self, height: u64, now: u64) -> bool {
-        if self.asks_left == 0 {
-            return false;
-        }
-        self.asks_left -= 1;
+    /// Notes that the node is asked for this height's bundle.
+    pub(crate) fn make(&mut self, height: u64, now: u64) {
         self.making = Some(Answered { height, at: now });
-        true
     }
 
-    /// Forgets what the peer asks for.
-    pub(crate) fn forget_ask(&mut self) {
-        self.asked = None;
+    /// Notes that the node has answered an ask that came here, and forgets what the peer asked for where it refused it. An ask that has shown nobody
+    /// was nobody's.
+    pub(crate) fn answered_ask(&mut self, is_taken: bool, shown: Shown) {
         self.making = None;
+        self.has_erred = shown == Shown::Nothing;
+        if !is_taken {
+            self.asked = None;
+        }
+    }
+
+    /// Returns what was spent on asks that came here.
+    pub(crate) fn account(&self) -> Account
+        ensures { result ≡ self.now.account }
+    {
+        self.account
+    }
+
+    /// Returns whether more may be spent on asks that come here.
+    pub(crate) fn has_room(&self, now: u64) -> bool
+        ensures { result ≡ has_room self.now.account now }
+    {
+        self.account.has_room(now)
+    }
+
+    /// Charges so many milliseconds of its share.
+    pub(crate) fn charge(&mut self, milliseconds: u64, now: u64)
+        ensures { self.new ≡ record self.old { account = charged self.old.account milliseconds now } }
+    {
+        self.account.charge(milliseconds, now);
+    }
+
+    /// Goes on with what was spent on another link, where that is more.
+    pub(crate) fn take_over(&mut self, debt: Account)
+        ensures { self.new ≡ record self.old { account = later self.old.account debt } }
+    {
+        self.account = self.account.later(debt);
+    }
+
+    /// Notes that its validator is asked, which owes a bundle from now on, or for longer.
+    pub(crate) fn owe(&mut self, now: u64) {
+        if self.owed_for(now) >= FORGIVEN_MS {
+            self.owes_since = None;
+        }
+        self.owes_since = self.owes_since.or(Some(now));
+    }
+
+    /// Notes that its validator owes nothing: a bundle of its decided a height, or that has ended in time.
+    pub(crate) fn pay(&mut self) {
+        self.owes_since = None;
+    }
+
+    /// Returns for how long its validator has owed a bundle, in milliseconds.
+    fn owed_for(&self, now: u64) -> u64 {
+        self.owes_since.map_or(0, |since| now.saturating_sub(since))
+    }
+
+    /// Returns whether its validator has owed a bundle for too long, and not so long that it is asked again.
+    pub(crate) fn is_late(&self, now: u64) -> bool {
+        let owed = self.owed_for(now);
+        owed >= MOST_OWED_MS && owed < FORGIVEN_MS
     }
 
     /// Returns whether this height's bundle goes here: the peer asked for it, and wasn't sent it within the last second.

@@ -5,6 +5,7 @@ ghost use Rattle.peer_core.specs.Choosing.{gets_all, gets_ask, gets_bundle, is_f
 
 use crate::choosing::{best_of, mark_chosen};
 use crate::duty::{Closing, OpenFault};
+use crate::efforts::{Account, Debts, cost_of_making, cost_of_sending};
 use crate::link::{Behind, MOST_QUIET_MS, MOST_SILENT, PeerLink, Shown};
 use crate::manner::Keeping;
 use crate::ticking::sixteens;
@@ -33,10 +34,6 @@ const MOST_HEIGHTS: u64 = 8;
 /// For how many seconds a link may be silent, for each sixteen validators, until another one is preferred: two signs of life are missing then.
 const MOST_MISSED: u32 = 9;
 
-/// How many asks for bundles the node is handed each second from one link, divided by the number of validators, since each bundle is
-/// tagged for all.
-const MOST_ASKS: u32 = 1_024;
-
 impl<T: Drop> From<AllocFailed<T>> for OpenFault {
     fn from(_e: AllocFailed<T>) -> OpenFault {
         OpenFault::OutOfMemory
@@ -62,6 +59,9 @@ pub struct PeerLinks {
     height: u64,
     /// Whether some link may have to be closed, greeted or named.
     is_stirred: bool,
+    /// What was spent on links that were dialed and have ended, and on others.
+    dialed: Debts,
+    accepted: Debts,
 }
 
 /// Returns how many places the validators' links have, where each of the others has one for the link that is dialed here and so
@@ -89,6 +89,8 @@ impl PeerLinks {
             news: 0,
             height: 0,
             is_stirred: false,
+            dialed: Debts::new(),
+            accepted: Debts::new(),
         }
     }
 
@@ -132,12 +134,14 @@ impl PeerLinks {
         if self.links.len() >= MOST_LINKS {
             return Err(OpenFault::TooMany);
         }
-        let asks = self.most_asks();
         let place = self.links.partition_point(|link| link.id.0 < id.0);
-        self.links.insert(place, PeerLink::new(id, way, now, asks))?;
+        self.links.insert(place, PeerLink::new(id, way, now))?;
         match way {
             Way::Accepted => self.make_room(Behind::Nobody, MOST_STRANGERS),
-            Way::Dialed(validator) => self.greet(id, validator),
+            Way::Dialed(validator) => {
+                self.owe(id);
+                self.greet(id, validator);
+            }
         }
         Ok(())
     }
@@ -228,6 +232,7 @@ impl PeerLinks {
         };
         let link = self.links.remove(place);
         if let Some(validator) = link.validator() {
+            self.note_debt(link.way, validator, link.account());
             self.choose(validator);
         }
     }
@@ -248,8 +253,13 @@ impl PeerLinks {
         let before = link.validator();
         let is_other = link.show(shown);
         let (behind, is_open) = (link.behind, link.is_open());
+        let account = link.account();
         self.is_stirred = self.is_stirred || !is_open;
         if is_other {
+            if let Some(validator) = before {
+                self.accepted.note(validator, account);
+            }
+            self.owe(id);
             self.find_place(id, behind);
         }
         if let Some(validator) = before {
@@ -260,6 +270,28 @@ impl PeerLinks {
         self.lead(id);
         if is_news {
             self.note_news(id, shown);
+        }
+    }
+
+    /// Notes what was spent on a link of this way and validator.
+    fn note_debt(&mut self, way: Way, validator: u16, account: Account) {
+        match way {
+            Way::Dialed(_) => self.dialed.note(validator, account),
+            Way::Accepted => self.accepted.note(validator, account),
+        }
+    }
+
+    /// Has a link go on with what was spent on earlier ones of its way and validator.
+    fn owe(&mut self, id: LinkId) {
+        let Some(place) = self.place_of(id) else {
+            return;
+        };
+        if let Some(validator) = self.links[place].validator() {
+            let debt = match self.links[place].way {
+                Way::Dialed(_) => self.dialed.of(validator),
+                Way::Accepted => self.accepted.of(validator),
+            };
+            self.links[place].take_over(debt);
         }
     }
 
@@ -447,16 +479,64 @@ impl PeerLinks {
         Ok(ids)
     }
 
-    /// Notes that the node has made this height's bundle.
-    pub(crate) fn made(&mut self, height: u64) {
+    /// Notes that the node has made this height's bundle, of so many bytes, and charges it to the links whose asks were handed in for it.
+    pub(crate) fn made(&mut self, height: u64, size: usize, now: u64) {
+        let cost = cost_of_making(size, self.count);
         for link in self.links.iter_mut() {
-            link.made(height);
+            if link.made(height) {
+                link.charge(cost, now);
+            }
         }
+    }
+
+    /// Charges a bundle of so many bytes to the links that it is sent to.
+    pub(crate) fn charge_sent(&mut self, ids: &[LinkId], size: usize, now: u64) {
+        let cost = cost_of_sending(size, self.count);
+        for id in ids {
+            if let Some(link) = self.link_mut(*id) {
+                link.charge(cost, now);
+            }
+        }
+    }
+
+    /// Returns whether more may be spent on an ask that came on this link, and names this sender: on the link itself, and where it isn't known whose it is
+    /// on what that one's links before have spent.
+    pub(crate) fn may_spend(&self, id: LinkId, sender: u16, now: u64) -> bool {
+        let Some(place) = self.place_of(id) else {
+            return true;
+        };
+        let link = &self.links[place];
+        link.has_room(now) && (link.validator().is_some() || self.accepted.of(sender).has_room(now))
     }
 
     /// Returns whether the node was asked for this height's bundle and hasn't made it yet.
     pub fn is_making(&self, height: u64, now: u64) -> bool {
         self.links.iter().any(|link| link.is_making(height, now))
+    }
+
+    /// Returns whether the node was asked for this height's bundle by a known validator, and hasn't made it yet.
+    pub(crate) fn is_making_known(&self, height: u64, now: u64) -> bool {
+        self.links.iter().any(|link| link.validator().is_some() && link.is_making(height, now))
+    }
+
+    /// Returns whether the node was asked for any bundle by somebody of whom nothing is known, and hasn't made it yet. Somebody whose last ask was
+    /// nobody's counts for such ones alone, of which this link's may be one.
+    pub(crate) fn is_asked_by_strangers(&self, id: LinkId, now: u64) -> bool {
+        let has_erred = self
+            .place_of(id)
+            .is_some_and(|place| self.links[place].has_erred());
+        self.links.iter().any(|link| link.validator().is_none()
+            && link.is_asking(now)
+            && (has_erred || !link.has_erred()))
+    }
+
+    /// Forgives each validator that doesn't owe a bundle for too long yet, as its height has ended.
+    pub(crate) fn forgive(&mut self, now: u64) {
+        for link in self.links.iter_mut() {
+            if !link.is_late(now) {
+                link.pay();
+            }
+        }
     }
 
     /// Returns whether a link takes what others said: the chosen ones of validators do, and of open links all but those of clients.
@@ -488,11 +568,29 @@ impl PeerLinks {
         }
     }
 
+    /// Has an ask go to this link, whose validator owes a bundle from now on.
+    pub(crate) fn ask(&mut self, id: LinkId, now: u64) {
+        if let Some(link) = self.link_mut(id) {
+            link.wants_ask = true;
+            link.owe(now);
+        }
+    }
+
     /// Returns the link that is used of the first validator from this one on that has one, and behind the last one the first.
     pub fn next_validator(&self, from: u16) -> Option<(LinkId, u16)> {
+        self.next_used(from, None)
+    }
+
+    /// Returns the same among those that don't owe a bundle for too long now.
+    pub(crate) fn next_prompt(&self, from: u16, now: u64) -> Option<(LinkId, u16)> {
+        self.next_used(from, Some(now))
+    }
+
+    /// Returns the same, where a time is given among those that don't owe a bundle for too long then.
+    fn next_used(&self, from: u16, prompt_at: Option<u64>) -> Option<(LinkId, u16)> {
         let used = |link: &PeerLink| link
             .validator()
-            .filter(|_| link.is_chosen)
+            .filter(|_| link.is_chosen && !prompt_at.is_some_and(|now| link.is_late(now)))
             .map(|validator| (link.id, validator));
         let later = self
             .links
@@ -540,19 +638,13 @@ impl PeerLinks {
 
     /// Notes that a second passed, and lets the links of validators be closed that are silent. Their next ones take their places.
     pub fn close_silent(&mut self) {
-        let asks = self.most_asks();
         for link in self.links.iter_mut() {
-            link.tick(asks);
+            link.tick();
         }
         if self.close_silent_for(self.most_silent()) {
             self.is_stirred = true;
         }
         self.choose_all();
-    }
-
-    /// Returns how many asks for bundles the node may be handed each second from one link.
-    fn most_asks(&self) -> u32 {
-        MOST_ASKS / u32::from(self.count.max(1))
     }
 
     /// Returns for how many seconds a link of a validator may be silent now. Where more than half are silent, and not just a few,

@@ -1,8 +1,8 @@
 //! What is to be done now.
 
-ghost use Rattle.std.specs.Prelude.{◌≡◌, Some, false};
+ghost use Rattle.std.specs.Prelude.{◌≡◌, ◌<◌, [], Some, All, IfNone, false};
 ghost use Rattle.timeouts.specs.Waiting.{given};
-ghost use Rattle.edge_frames.specs.Links.{IsGiven};
+ghost use Rattle.edge_frames.specs.Links.{IsGiven, IsWithout};
 ghost use Rattle.timeouts.specs.Waiting.{earliest};
 ghost use Rattle.edge_frames.specs.Holding.{due_of};
 ghost use Rattle.peer_core.specs.Resting.{due_in};
@@ -12,6 +12,7 @@ use crate::agenda::take;
 use crate::duty::{Duty, Rank, Sending};
 use crate::edge::PeerCore;
 use crate::grounds::Grounds;
+use crate::heading::heading_of;
 use crate::manner::Keeping;
 use crate::own::{MOST_AGAIN, MOST_GREETING};
 use bytes::Bytes;
@@ -44,6 +45,10 @@ impl PeerCore {
     pub fn next_duty(&mut self, now: u64) -> Option<Duty>
         ensures early { IfHandedIn result (λ link frame. IsGiven self.old.height self.old.early link frame self.new.early) }
         ensures due { IfFired result (λ timeout. given now self.old.plan.due ≡ Some timeout) }
+        // Nothing is to be done only where no early frame of the height waits, no timeout is due, and nothing is left to be sent.
+        ensures none_early { IfNone result (All (IsWithout self.old.height) self.old.early) }
+        ensures none_due { IfNone result (All (λ d. now < d.at) self.old.plan.due) }
+        ensures none_left { IfNone result (self.new.outbox ≡ []) }
     {
         if let Some((link, frame)) = self.early.take(self.height) {
             return Some(Duty::HandIn(link, frame));
@@ -96,6 +101,9 @@ impl PeerCore {
     fn tick(&mut self, now: u64) {
         self.budget.refill();
         self.agenda.settles = true;
+        if take(&mut self.agenda.unsent) {
+            self.agenda.resends = true;
+        }
         if let Some(timeout) = self.unfired.take() {
             self.refused_memory(timeout, now);
         }
@@ -141,12 +149,18 @@ impl PeerCore {
 
     /// Returns what a large cluster's validator says in the place of an ask that nothing calls for: its last vote, if it has cast one since it was
     /// started. Whoever is behind it learns so from it, and nobody answers it, where an ask would be answered by a bundle of each that
-    /// has decided meanwhile.
+    /// has decided meanwhile. At rest it has no vote of its height, and asks: who lacks the height before learns from that alone that it is behind.
     fn sign_of_life(&self) -> Result<Option<Bytes>, AllocError> {
         match &self.last_vote {
-            Some(vote) if self.is_large() => Ok(Some(vote.clone()?)),
+            Some(vote) if self.is_large() && !self.rests_without(vote) => Ok(Some(vote.clone()?)),
             _ => Ok(None),
         }
+    }
+
+    /// Returns whether the validator rests, and this vote is of a height before.
+    fn rests_without(&self, vote: &[u8]) -> bool {
+        self.rest.rests(self.height)
+            && heading_of(vote).is_ok_and(|heading| heading.height < self.height)
     }
 
     /// Returns whether the height didn't move for a second.
@@ -238,7 +252,7 @@ impl PeerCore {
         }
         if self.catch_up.should_ask(self.height, now) {
             self.catch_up.asked();
-            self.ask_next();
+            self.ask_next(now);
         }
         if take(&mut self.agenda.asks) {
             return Some(Duty::Ask);
@@ -247,13 +261,28 @@ impl PeerCore {
     }
 
     /// Has the next validator asked. Who lacks a height asks the same one first, which makes one bundle for all of them.
-    fn ask_next(&mut self) {
+    fn ask_next(&mut self, now: u64) {
         self.agenda.asks = true;
-        if let Some((link, validator)) = self.links.next_validator(self.next_asked()) {
+        let from = self.next_asked();
+        let next = self
+            .next_prompt(from, now)
+            .or_else(|| self.links.next_validator(from));
+        if let Some((link, validator)) = next {
             self.asked = Some(validator);
             self.asks = self.asks.saturating_add(1);
-            self.links.want_ask(link);
+            self.links.ask(link, now);
         }
+    }
+
+    /// Returns the next validator from this one on that makes the height's bundle at once, and doesn't owe another one for too long: who is silent, or
+    /// behind itself, is asked last. There is none where the last one is asked again.
+    fn next_prompt(&self, from: u16, now: u64) -> Option<(LinkId, u16)> {
+        if self.asks_again() {
+            return None;
+        }
+        self.links
+            .next_prompt(from, now)
+            .filter(|next| self.makes_at_once(next.1, self.height))
     }
 
     /// Returns from which validator on it is looked for the one that is asked next. Where the last one doesn't make the height's bundle at once, those that do
@@ -286,7 +315,7 @@ impl PeerCore {
             self.links.want_asks();
             self.agenda.asks = true;
         } else if self.agenda.asks_more(now) {
-            self.ask_next();
+            self.ask_next(now);
         }
     }
 
@@ -299,6 +328,7 @@ impl PeerCore {
     fn next_sending(&mut self, now: u64) -> Option<Duty>
         ensures early { IfHandedIn result (λ link frame. ⊥) }
         ensures due { IfFired result (λ timeout. ⊥) }
+        ensures none_left { IfNone result (self.new.outbox ≡ []) }
     {
         if let Some(sending) = self.outbox.take() {
             return Some(Duty::Send(sending));

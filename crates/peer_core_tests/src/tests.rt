@@ -179,3 +179,16 @@ fn count(done: &mut Done, duty: &Duty) {
     };
     *counter = counter.saturating_add(1);
 }
+
+/// How often the node is to send its own messages again, among at most a thousand duties.
+fn resends(edge: &mut PeerCore, now: u64) -> u32 {
+    let mut count = 0u32;
+    for _ in 0..1_000 {
+        match edge.next_duty(now) {
+            Some(Duty::Resend) => count = count.saturating_add(1),
+            Some(_) => {}
+            None => break,
+        }
+    }
+    count
+}

@@ -1,7 +1,8 @@
 -- What the threads share crosses them: by its parts, since a `search` through all of them runs out of steps.
 use denote.RattleType.{RattleType}
+use denote.Struct.Declared.{shape}
 use denote.Ref.{NamedLft}
-use denote.Param.Send.{IsSend, IsSync, owning_send, sendable}
+use denote.Param.Send.{IsSend, IsSync, owning_send, struct_send, sendable}
 use lib.ListN.{drop}
 use Rattle.std.proofs.Crossing.{crosses}
 use Rattle.std.proofs.MapsCrossing as maps
@@ -21,6 +22,7 @@ use Rattle.peer_core.specs.contracts.grounds.Grounds as Grounds
 use Rattle.peer_core.specs.contracts.rest.Rest as Rest
 use Rattle.peer_core.specs.contracts.budget.Budget as Budget
 use Rattle.peer_core.specs.contracts.agenda.Agenda as Agenda
+use Rattle.peer_core.specs.contracts.help.Help as Help
 use Rattle.peer_core.specs.contracts.edge.PeerCore as PeerCore
 use Rattle.vote_journal.specs.declared.store.Store as stores
 use Rattle.status_words.specs.declared.words.Node as names
@@ -81,8 +83,11 @@ budget_send = search sendable depth 60
 agenda_send : IsSend Agenda.the_field.row
 agenda_send = search sendable depth 60
 
+help_send : IsSend Help.the_field.row
+help_send = search (own_send, sendable, crosses) depth 60
+
 core_send : IsSend PeerCore.the_field.row
-core_send = search (early_send, height_send, own_send, held_send, outbox_send, plan_send, links_send, redial_send, catch_send, grounds_send, rest_send, budget_send, agenda_send, seen_send, block-send, block-sync, sendable, crosses, maps.crosses) depth 60 fits 20000
+core_send = struct_send (shape PeerCore.the_type) (search (early_send, height_send, own_send, held_send, outbox_send, plan_send, links_send, redial_send, catch_send, grounds_send, rest_send, budget_send, agenda_send, help_send, seen_send, block-send, block-sync, sendable, crosses, maps.crosses) depth 60 fits 20000)
 
 outlets_send : IsSend Outlets.the_field.row
 outlets_send = search (frames_send, seen_send, block-send, block-sync, sendable, crosses, maps.crosses) depth 60 fits 20000

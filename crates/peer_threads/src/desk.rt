@@ -114,7 +114,10 @@ impl Desk {
     fn release_frame<R: Wait>(&mut self, rt: &R, frame: Vec<u8>, now: u64) {
         let dropped = match Bytes::from_vec(frame) {
             Ok(frame) => self.send_released(rt, frame, now),
-            Err(_) => 1,
+            Err(_) => {
+                self.core.lost();
+                1
+            }
         };
         self.drop_some(dropped);
     }
@@ -131,7 +134,7 @@ impl Desk {
     fn schedule<R: Log>(&mut self, rt: &R, timeouts: Vec<Timeout>, now: u64) {
         for timeout in timeouts {
             if self.core.scheduled(timeout, now).is_err() {
-                warn!(rt; "a timeout is lost, since memory is short");
+                warn!(rt; "a timeout waits for memory");
             }
         }
     }

@@ -251,12 +251,19 @@ impl<S: Store + Drop, J: Node, C: Clock> Shared<'_, S, J, C> {
                 self.heed(rt, done.answer(), done.status());
             }
             Duty::Settle => self.settle(rt, seat),
-            Duty::Resend => {
-                let done = self.node.resend(rt, seat);
-                self.heed(rt, done.answer(), done.status());
-            }
+            Duty::Resend => self.resend(rt, seat),
             Duty::Fire(timeout) => self.fire(rt, seat, timeout),
             Duty::Send(_) | Duty::Close(..) | Duty::Meet(..) => {}
+        }
+    }
+
+    /// Has the node release its own messages of the height again. Where it is refused memory for some, it is to once more.
+    fn resend<R: Wait + time::Clock + Log>(&self, rt: &R, seat: &mut Seat<J>) {
+        let done = self.node.resend(rt, seat);
+        let answer = done.answer();
+        self.heed(rt, answer, done.status());
+        if answer == Err(Refusal::OutOfMemory) {
+            self.desk.lock(rt).core.lost();
         }
     }
 

@@ -2,7 +2,7 @@
 
 use super::{
     ASK, BUNDLE, GUARDED, PRECOMMIT, PREVOTE, PROPOSAL, asks, assert_same, came, dial_all, duties,
-    of_height, of_round, on_edge, on_edge_of, on_large_edge, open, released,
+    of_height, of_round, on_edge, on_edge_of, on_large_edge, open, released, resends,
 };
 use edge_frames::LinkId;
 use peer_core::{Duty, Grounds, Manner, PeerCore, Sending};
@@ -77,6 +77,43 @@ fn try_who_is_behind_asks_whom_the_others_ask<R: Abort + AllocGlobal>(rt: &R, ed
     edge.told(3, 10);
     assert_same(rt, &duties(edge, 10).asks, &1);
     assert_same(rt, &released(rt, edge, &own(3), 10), &3);
+}
+
+/// Of four validators 0 doesn't answer. In height 4 it would be asked first again, and another one is, until it has brought a bundle that decides, or a
+/// minute has passed.
+#[test]
+fn who_does_not_answer_is_asked_last(rt: HostRuntime) {
+    on_edge(&rt, GUARDED, try_who_does_not_answer_is_asked_last);
+}
+
+fn try_who_does_not_answer_is_asked_last<R: Abort + AllocGlobal>(rt: &R, edge: &mut PeerCore) {
+    dial_all(rt, edge);
+    let _ = duties(edge, 0);
+    let own = |height: u8| of_height(ASK, height, 1);
+    let _ = released(rt, edge, &own(0), 0);
+    let later = of_height(ASK, 30, 2);
+    came(edge, 2, &later, Err(Refusal::OtherHeight), 0, 0);
+    assert_same(rt, &duties(edge, 0).asks, &1);
+    assert_same(rt, &released(rt, edge, &own(0), 0), &1);
+    assert_same(rt, &duties(edge, 1_000).asks, &1);
+    assert_same(rt, &released(rt, edge, &own(0), 1_000), &123);
+    assert_same(rt, &asked_in(rt, edge, 4, 1_100), &2);
+    let bundle = of_height(BUNDLE, 4, 0);
+    came(edge, 1, &bundle, Err(Refusal::OtherHeight), 5, 1_200);
+    assert_same(rt, &asked_in(rt, edge, 8, 1_300), &2);
+    came(edge, 1, &of_height(BUNDLE, 8, 0), Ok(()), 9, 1_400);
+    assert_same(rt, &asked_in(rt, edge, 12, 1_500), &1);
+    assert_same(rt, &asked_in(rt, edge, 16, 2_500), &2);
+    let _ = duties(edge, 61_400);
+    let _ = released(rt, edge, &own(16), 61_400);
+    assert_same(rt, &asked_in(rt, edge, 20, 61_500), &1);
+}
+
+/// Brings the edge to this height, and returns the links that it asks there.
+fn asked_in<R: Abort + AllocGlobal>(rt: &R, edge: &mut PeerCore, height: u8, now: u64) -> u32 {
+    assert!(rt; edge.told(u64::from(height), now));
+    assert_same(rt, &duties(edge, now).asks, &1);
+    released(rt, edge, &of_height(ASK, height, 1), now)
 }
 
 /// In a large cluster a validator that is behind asks one more after 1, 3 and 7 seconds, so that few make a bundle.
@@ -161,7 +198,29 @@ fn try_in_a_large_cluster_a_held_vote_is_not_said<R: Abort + AllocGlobal>(
     let held = of_round(PREVOTE, 1, 1);
     assert_same(rt, &released(rt, edge, &held, 0), &0);
     open(rt, edge, LinkId(1), Way::Dialed(0), 0);
-    assert_sent_first(rt, edge, 0, &vote);
+    let done = duties(edge, 0);
+    assert_same(rt, &(done.sent, done.asks), &(0, 1));
+}
+
+/// Who rests in a large cluster has no vote of its height to say, and asks: a vote of the height before tells nobody who is in that height that it is behind.
+#[test]
+fn in_a_large_cluster_who_rests_asks(rt: HostRuntime) {
+    let resting = Manner {
+        rest: 60_000,
+        ..GUARDED
+    };
+    on_edge_of(&rt, 1, 20, resting, try_in_a_large_cluster_who_rests_asks);
+}
+
+fn try_in_a_large_cluster_who_rests_asks<R: Abort + AllocGlobal>(rt: &R, edge: &mut PeerCore) {
+    open(rt, edge, LinkId(1), Way::Dialed(0), 0);
+    let _ = duties(edge, 0);
+    let vote = of_round(PREVOTE, 0, 1);
+    assert_same(rt, &released(rt, edge, &vote, 0), &1);
+    assert_sent_first(rt, edge, 3_000, &vote);
+    edge.told(1, 3_000);
+    assert_same(rt, &duties(edge, 5_000).asks, &0);
+    assert_same(rt, &duties(edge, 6_000).asks, &1);
 }
 
 /// In a large cluster who asks for the height that was left a moment ago isn't answered: it may have asked before it decided.
@@ -358,19 +417,6 @@ fn try_own_messages_are_sent_again_by_doubling_pauses<R: Abort + AllocGlobal>(
     for (second, sent) in [(1, 1), (2, 0), (3, 1), (4, 0), (5, 0), (6, 0), (7, 1)] {
         assert_same(rt, &duties(edge, second * 1_000).sent, &sent);
     }
-}
-
-/// How often the node is to send its own messages again, among at most a thousand duties.
-fn resends(edge: &mut PeerCore, now: u64) -> u32 {
-    let mut count = 0u32;
-    for _ in 0..1_000 {
-        match edge.next_duty(now) {
-            Some(Duty::Resend) => count = count.saturating_add(1),
-            Some(_) => {}
-            None => break,
-        }
-    }
-    count
 }
 
 /// With open links too the own messages are sent again after 1, 3 and 7 seconds.

@@ -374,3 +374,30 @@ fn try_links_are_counted<R: Abort + AllocGlobal>(rt: &R, edge: &mut PeerCore) {
     assert!(rt; (counts.validators, counts.clients, counts.strangers) == (2, 0, 1));
     assert!(rt; edge.kept() == 0);
 }
+
+/// An own message that comes back shows nobody: whoever sends it has heard it, as all have.
+#[test]
+fn an_own_message_shows_nobody(rt: HostRuntime) {
+    on_edge(&rt, GUARDED, try_an_own_message_shows_nobody);
+}
+
+fn try_an_own_message_shows_nobody<R: Abort + AllocGlobal>(rt: &R, edge: &mut PeerCore) {
+    open(rt, edge, LinkId(7), Way::Accepted, 0);
+    let own = of_round(PREVOTE, 0, 1);
+    came(edge, 7, &own, Err(Refusal::Repeat), 0, 0);
+    let ask = of_height(ASK, 0, 1);
+    came(edge, 7, &ask, Err(Refusal::OtherHeight), 0, 0);
+    let counts = edge.link_counts();
+    assert_same(rt, &(counts.strangers, counts.validators), &(1, 0));
+    came(
+        edge,
+        7,
+        &of_round(PREVOTE, 0, 2),
+        Err(Refusal::Repeat),
+        0,
+        0,
+    );
+    assert_same(rt, &edge.link_counts().validators, &1);
+    edge.told(1, 0);
+    assert!(rt; !edge.expect(LinkId(7), &ask, 0));
+}

@@ -133,6 +133,25 @@ fn try_a_proposal_of_transactions_wakes<R: Abort + AllocGlobal>(rt: &R, edge: &m
     assert_same(rt, &fired(edge, 1, 2), &1);
 }
 
+/// A proposal of a transaction that comes behind the precommits which decide it wakes it too: its height has ended by then.
+#[test]
+fn a_proposal_that_ends_its_height_wakes(rt: HostRuntime) {
+    on_edge(&rt, RESTING, try_a_proposal_that_ends_its_height_wakes);
+}
+
+fn try_a_proposal_that_ends_its_height_wakes<R: Abort + AllocGlobal>(rt: &R, edge: &mut PeerCore) {
+    dial_all(rt, edge);
+    assert!(rt; edge.told(1, 0));
+    schedule(rt, edge, 1, 0);
+    let mut proposal = of_round(PROPOSAL, 0, 0);
+    proposal[24] = 1;
+    came(edge, 1, &proposal, Ok(()), 1, 0);
+    assert_same(rt, &fired(edge, 0, 1), &1);
+    assert!(rt; edge.told(2, 1_000));
+    schedule(rt, edge, 2, 1_000);
+    assert_same(rt, &fired(edge, 1, 2), &1);
+}
+
 /// Its own proposal of no transactions waits as long, and goes once something happens.
 #[test]
 fn an_own_proposal_rests(rt: HostRuntime) {

@@ -2,11 +2,12 @@
 
 use super::{
     ASK, BUNDLE, GUARDED, PRECOMMIT, PREVOTE, PROPOSAL, asks, assert_same, came, dial_all, duties,
-    of_height, of_round, on_edge, open, released,
+    of_height, of_round, on_edge, on_edge_of, open, released, resends,
 };
 use edge_frames::LinkId;
 use peer_core::{Duty, Manner, PeerCore};
 use peer_links::Way;
+use protocol::Refusal;
 use std::alloc::AllocGlobal;
 use std::process::Abort;
 
@@ -251,22 +252,96 @@ fn try_a_bundle_is_made_once_however_long_it_takes<R: Abort + AllocGlobal>(
     assert!(rt; edge.expect(LinkId(3), &of_height(ASK, 0, 3), 60_000));
 }
 
-/// No link has a node asked for bundles of ever more heights.
+/// Of 128 validators none has this one make bundles without end: one of 400,000 bytes costs its link more than eight seconds, of which a minute is free.
+/// Another validator's asks aren't touched, nor those on another link of the same one, on which somebody else may pass for it.
 #[test]
-fn who_asks_too_often_is_passed_over(rt: HostRuntime) {
-    on_edge(&rt, GUARDED, try_who_asks_too_often_is_passed_over);
+fn who_asks_for_much_waits(rt: HostRuntime) {
+    on_edge_of(&rt, 1, 128, GUARDED, try_who_asks_for_much_waits);
 }
 
-fn try_who_asks_too_often_is_passed_over<R: Abort + AllocGlobal>(rt: &R, edge: &mut PeerCore) {
+fn try_who_asks_for_much_waits<R: Abort + AllocGlobal>(rt: &R, edge: &mut PeerCore) {
+    dial_all(rt, edge);
+    open(rt, edge, LinkId(5), Way::Accepted, 0);
+    came(
+        edge,
+        5,
+        &of_round(PREVOTE, 0, 2),
+        Err(Refusal::Repeat),
+        0,
+        0,
+    );
+    edge.told(1_000, 0);
+    for height in [0, 1, 122, 123, 124, 125, 126] {
+        assert!(rt; edge.expect(LinkId(2), &of_height(ASK, height, 2), 9_000));
+        assert_same(rt, &released(rt, edge, &bundle_of(height), 9_000), &2);
+    }
+    assert!(rt; !edge.expect(LinkId(2), &of_height(ASK, 127, 2), 9_000));
+    assert!(rt; edge.expect(LinkId(3), &of_height(ASK, 127, 3), 9_000));
+    assert_same(rt, &released(rt, edge, &bundle_of(127), 9_000), &23);
+    assert!(rt; edge.expect(LinkId(5), &of_height(ASK, 129, 2), 9_000));
+    assert!(rt; edge.expect(LinkId(2), &of_height(ASK, 128, 2), 9_300));
+    assert_same(rt, &released(rt, edge, &bundle_of(128), 9_300), &2);
+    edge.ended(LinkId(2));
+    open(rt, edge, LinkId(6), Way::Dialed(2), 9_300);
+    assert!(rt; !edge.expect(LinkId(6), &of_height(ASK, 250, 2), 9_300));
+}
+
+/// A long bundle of this height.
+fn bundle_of(height: u8) -> [u8; 400_000] {
+    let mut bundle = [0; 400_000];
+    bundle[..15].copy_from_slice(&of_height(BUNDLE, height, 1));
+    bundle
+}
+
+/// Who asks for two kept bundles in turn is sent no more of them than it may be, and again once a while has passed.
+#[test]
+fn kept_bundles_cost_their_asker(rt: HostRuntime) {
+    on_edge_of(&rt, 1, 128, GUARDED, try_kept_bundles_cost_their_asker);
+}
+
+fn try_kept_bundles_cost_their_asker<R: Abort + AllocGlobal>(rt: &R, edge: &mut PeerCore) {
     dial_all(rt, edge);
     edge.told(1_000, 0);
-    let mut handed_in: u32 = 0;
-    for height in 0..=255 {
-        if edge.expect(LinkId(1), &of_height(ASK, height, 0), 0) {
-            handed_in = handed_in.saturating_add(1);
-        }
+    for height in [0, 1] {
+        assert!(rt; edge.expect(LinkId(3), &of_height(ASK, height, 3), 9_000));
+        assert_same(rt, &released(rt, edge, &bundle_of(height), 9_000), &3);
     }
-    assert_same(rt, &handed_in, &256);
-    assert!(rt; edge.expect(LinkId(2), &of_height(ASK, 0, 2), 2_000));
-    assert!(rt; !edge.expect(LinkId(1), &of_height(ASK, 1, 0), 2_000));
+    let _ = duties(edge, 9_000);
+    for _ in 0..500 {
+        let _ = edge.expect(LinkId(2), &of_height(ASK, 0, 2), 9_000);
+        let _ = edge.expect(LinkId(2), &of_height(ASK, 1, 2), 9_000);
+    }
+    assert_same(rt, &duties(edge, 9_000).sent, &896);
+    let _ = edge.expect(LinkId(2), &of_height(ASK, 0, 2), 10_000);
+    assert_same(rt, &duties(edge, 10_000).sent, &1);
+}
+
+/// A stranger whose asks are nobody's doesn't keep a validator from being answered.
+#[test]
+fn false_asks_keep_nobody_waiting(rt: HostRuntime) {
+    on_edge(&rt, GUARDED, try_false_asks_keep_nobody_waiting);
+}
+
+fn try_false_asks_keep_nobody_waiting<R: Abort + AllocGlobal>(rt: &R, edge: &mut PeerCore) {
+    dial_all(rt, edge);
+    open(rt, edge, LinkId(7), Way::Accepted, 0);
+    edge.told(1, 0);
+    let ask = of_height(ASK, 0, 3);
+    came(edge, 7, &ask, Err(Refusal::BadTag), 1, 0);
+    assert!(rt; edge.expect(LinkId(7), &ask, 1));
+    assert!(rt; edge.expect(LinkId(1), &of_height(ASK, 0, 0), 1));
+}
+
+/// Where memory was refused for an own message, the node is to release its own messages again at the next tick, once.
+#[test]
+fn what_was_lost_is_released_again(rt: HostRuntime) {
+    on_edge(&rt, GUARDED, try_what_was_lost_is_released_again);
+}
+
+fn try_what_was_lost_is_released_again<R: Abort + AllocGlobal>(rt: &R, edge: &mut PeerCore) {
+    assert_same(rt, &resends(edge, 0), &1);
+    edge.lost();
+    assert_same(rt, &resends(edge, 999), &0);
+    assert_same(rt, &resends(edge, 1_000), &1);
+    assert_same(rt, &resends(edge, 2_000), &0);
 }
