@@ -12,7 +12,9 @@ use Rattle.protocol.proofs.Membership.{in_append, in_map}
 use Rattle.world_parties.specs.Cast.{Cast, setting_of, is_correct, is_validator, correct}
 use Rattle.world_schedule.specs.Calls.{Call, Sent, Began, Handed, Asked, Resent, Reopened, events_by, events, all_moved, run_of, unopened}
 use Rattle.world_schedule.specs.Reports.{Made, calls_of, validator_of, end_of}
+use Rattle.world_schedule.specs.Outcome.{EndsBy}
 use Rattle.world_schedule.specs.declared.report.End.{End}
+use Rattle.world_schedule.proofs.Coming.{coming_law}
 use Rattle.world_schedule.proofs.Outcome.{outcome_law}
 use Rattle.fair_worlds.specs.Laws.{AreByCorrect, AreUnforged, honesty, FairLaw, ReportLaw}
 use Rattle.fair_worlds.proofs.Callers.{in_correct, correct_calls_law}
@@ -79,7 +81,8 @@ report_law powers count liars events report k clients asked one other i j =
     let cast = k.opened.cast in
     let first : List Made = k.opened.begun.made in
     let by : AreByCorrect cast (first ++ k.reported.tells.more) = (correct_calls_law cast).run first _ _ _ report k.reported.tells ((correct_calls_law cast).opening first k.opened.begun.settled) in
-    outcome_law cast first _ _ _ report k.reported.tells (honesty cast clients) (fair_law cast clients (first ++ k.reported.tells.more) by asked) one other i j (at_end one i) (at_end other j)
+    let ends : EndsBy cast first (λ number p. false) events report = record { more = k.reported.tells.more; of_events = coming_law cast first _ events _ report k.reported.tells; ends_are = k.reported.tells.ends_are } in
+    outcome_law cast first _ events report ends (honesty cast clients) (fair_law cast clients (first ++ k.reported.tells.more) by asked) one other i j (at_end one i) (at_end other j)
   where
     at_end : (end : End) → end ∈ report.ends → IsCorrect (setting_of k.opened.cast) (honesty k.opened.cast clients) end.validator
     at_end end i = let m = in_map (end_of (setting_of k.opened.cast) (calls_of (k.opened.begun.made ++ k.reported.tells.more))) end (correct k.opened.cast) (subst (λ (es : List End). end ∈ es) k.reported.tells.ends_are i) in

@@ -25,3 +25,4 @@ pub mod Ended
 pub mod Ends
 pub mod Reopening
 pub mod Outcome
+pub mod Coming

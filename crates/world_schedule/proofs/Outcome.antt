@@ -16,7 +16,7 @@ use Rattle.world_schedule.proofs.Runs.{past_law, delivered_law}
 use Rattle.world_schedule.proofs.Ends.{ends_law}
 
 pub outcome_law : OutcomeLaw
-outcome_law cast ms brought events before report k h fair one other i j okp okq =
+outcome_law cast ms brought events report k h fair one other i j okp okq =
     ends_law (setting_of cast) h (correct cast) (ms ++ k.more) fair one other (subst (λ es. one ∈ es) k.ends_are i) (subst (λ es. other ∈ es) k.ends_are j) okp okq
 
 -- ---- two reports
@@ -40,7 +40,7 @@ more_calls : (first between more : List Made) → calls_of first ++ calls_of (be
 more_calls first between more = sym (map-append (λ (m : Made). m.call) first (between ++ more)) ∙ ap calls_of (sym (append_assoc first between more))
 
 pub reports_law : ReportsLaw
-reports_law cast ms between brought brought_then events events_then before before_then report later k l one other i j =
+reports_law cast ms between brought brought_then events events_then report later k l one other i j =
     let c = setting_of cast in
     let first : List Made = ms ++ k.more in
     let early : List Call = calls_of first in

@@ -1,7 +1,7 @@
 //! What the ends of a report come to.
 
 ghost use Rattle.world_schedule.specs.Ends.{EndsLaw, SceneLaw};
-ghost use Rattle.world_schedule.specs.Outcome.{OutcomeLaw, ReportsLaw};
+ghost use Rattle.world_schedule.specs.Outcome.{ComingLaw, OutcomeLaw, ReportsLaw};
 
 /// Any two ends of one report, of correct validators: of their delivered lists one begins the other, each keeps every
 /// client's order, and a correct client's items in it begin what the client sent. The premises are on the very run that
@@ -15,9 +15,16 @@ pub fn scene_law()
     ensures { SceneLaw }
 {}
 
+/// Whatever a report tells of a world's run, each call of it is one of its event's, in the events' order: a client's item, or what was asked of a validator
+/// for the event.
+pub fn coming_law()
+    ensures { ComingLaw }
+{}
+
 /// Any two ends of the report of a world's run, of correct validators, tell one list: of what they delivered one begins the
 /// other, each keeps every client's order, and a correct client's items in it begin what the client sent. Less than a third of the
-/// power lies in the run, no tag is forged in it, and no two values of it have one digest.
+/// power lies in the run, no tag is forged in it, and no two values of it have one digest. It is asked that the calls are of the
+/// events, and no more: a report tells just what each came to, and by `coming_law` that is more.
 pub fn outcome_law()
     ensures { OutcomeLaw }
 {}
