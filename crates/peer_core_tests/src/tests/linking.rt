@@ -5,7 +5,7 @@ use super::{
     on_edge_of, on_large_edge, open, released,
 };
 use edge_frames::LinkId;
-use peer_core::{Duty, MOST_STRANGERS, Manner, PeerCore};
+use peer_core::{Duty, MOST_STRANGERS, Manner, OpenFault, PeerCore};
 use peer_links::Way;
 use protocol::Refusal;
 use std::alloc::AllocGlobal;
@@ -400,4 +400,20 @@ fn try_an_own_message_shows_nobody<R: Abort + AllocGlobal>(rt: &R, edge: &mut Pe
     assert_same(rt, &edge.link_counts().validators, &1);
     edge.told(1, 0);
     assert!(rt; !edge.expect(LinkId(7), &ask, 0));
+}
+
+/// No more than 384 links have a place; the next one is taken once one of them has ended.
+#[test]
+fn a_link_too_many_is_refused(rt: HostRuntime) {
+    on_edge(&rt, GUARDED, try_a_link_too_many_is_refused);
+}
+
+fn try_a_link_too_many_is_refused<R: Abort + AllocGlobal>(rt: &R, edge: &mut PeerCore) {
+    for number in 0..384 {
+        open(rt, edge, LinkId(number), Way::Accepted, 0);
+    }
+    let refused = edge.opened(LinkId(384), Way::Accepted, 0);
+    assert_same(rt, &refused, &Err(OpenFault::TooMany));
+    edge.ended(LinkId(7));
+    open(rt, edge, LinkId(384), Way::Accepted, 0);
 }
