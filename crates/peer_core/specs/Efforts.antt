@@ -3,9 +3,9 @@ use Rattle.std.specs.Prelude.{ℕ, Bool, nat_le, ◌*◌, ◌/◌, ◌^◌, ◌-
 use Rattle.peer_core.specs.declared.efforts.Account.{Account}
 use Rattle.peer_core.specs.Resting.{plus}
 
--- how many bytes the asks on one link may cost each millisecond: of what those of the least third of so many validators may, its share
+-- how many bytes the asks on one link may cost each millisecond: its share, where as many links as there are validators have one
 abbrev pub share : ℕ → ℕ
-share count = max (256000 * 3 / max count 1) 1
+share count = max (128000 / max count 1) 1
 
 -- how many bytes are hashed for one of this size that is tagged for each validator, up to the greatest u64
 abbrev pub tagged : ℕ → ℕ → ℕ
@@ -15,9 +15,9 @@ tagged size count = min (size * count) (2 ^ 64 - 1)
 abbrev pub cost : ℕ → ℕ → ℕ
 cost bytes count = plus (bytes / share count) 1
 
--- no more was spent than the next minute's share
+-- no more was spent than the share of the next ten seconds
 abbrev pub has_room : Account → ℕ → Bool
-has_room a now = nat_le a.free (plus now 60000)
+has_room a now = nat_le a.free (plus now 10000)
 
 abbrev pub charged : Account → ℕ → ℕ → Account
 charged a milliseconds now = record a { free = plus (max a.free now) milliseconds }

@@ -6,13 +6,12 @@ ghost use Rattle.peer_core.specs.Efforts.{share, cost, has_room, charged, tagged
 
 use powers::MOST_VALIDATORS;
 
-/// How many bytes are hashed and sent each millisecond at most on the links of less than a third of the validators, where each has one: what one
-/// processor hashes.
-const MOST_EFFORT: u64 = 256_000;
+/// How many bytes are hashed and sent each millisecond at most on as many links as there are validators, which less than a third of them may have:
+/// half of what one processor hashes, since nothing else is done by the node meanwhile.
+const MOST_EFFORT: u64 = 128_000;
 
-/// How far ahead a link's peer may spend, in milliseconds: at 128 validators what eight bundles cost, as several may be asked of one validator
-/// behind others that don't answer.
-const MOST_AHEAD_MS: u64 = 60_000;
+/// How far ahead a link's peer may spend, in milliseconds. It may begin to ask with one bundle, whatever that costs.
+const MOST_AHEAD_MS: u64 = 10_000;
 
 /// What the asks that came on a link have cost.
 #[derive(Clone, Copy, Debug)]
@@ -24,7 +23,7 @@ pub(crate) struct Account {
 impl Account {
     pub(crate) const NEW: Account = Account { free: 0 };
 
-    /// Returns whether no more was spent than its next minute's share.
+    /// Returns whether no more was spent than the share of its next ten seconds.
     pub(crate) fn has_room(&self, now: u64) -> bool
         ensures { result ≡ has_room self.now now }
     {
@@ -52,7 +51,7 @@ impl Account {
 fn share_of(count: u16) -> u64
     ensures { result ≡ share count }
 {
-    (MOST_EFFORT * 3 / u64::from(count.max(1))).max(1)
+    (MOST_EFFORT / u64::from(count.max(1))).max(1)
 }
 
 /// Returns how many milliseconds of a link's share so many bytes are, at least one.

@@ -40,7 +40,7 @@ impl PeerCore {
     /// to whom an ask came from.
     ///
     /// A node tags each bundle for every validator, so with guarded links it isn't asked again for one that it keeps, or that is being made, where a validator
-    /// asks for it on a link of its own: that is sent the frame that was made, or waits for it. An ask on a link on which too much was spent is passed over.
+    /// asks for it on a link of its own: that is sent the frame that was made, or waits for it. An ask on a link that is closed, or on which too much was spent, is passed over.
     pub fn expect(&mut self, link: LinkId, frame: &[u8], now: u64) -> bool
         ensures handed { may_be_shared self.old.links.keeping self.old.height (heading_at frame.now) ≡ false → result ≡ true }
     {
@@ -86,8 +86,11 @@ impl PeerCore {
         }
         let may_spend = self.links.may_spend(id, ask.sender, now);
         let Some(link) = self.links.link_mut(id) else {
-            return true;
+            return false;
         };
+        if !link.is_open() {
+            return false;
+        }
         link.ask(ask.height, now);
         let (is_known, waited) = (link.is_of(ask.sender), link.asked_for(now));
         if self.is_early(ask, now) || !may_spend {

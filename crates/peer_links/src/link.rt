@@ -15,7 +15,7 @@ pub const PIECE_BYTES: usize = 16_384;
 pub enum Received {
     /// So many bytes, from 1 to 16,384, stand at the front of the buffer.
     Piece(usize),
-    /// Nothing has come yet. The link waited for it for a moment.
+    /// Nothing has come yet. The link waited for it, for ten seconds at most.
     Idle,
     /// The peer sends nothing more.
     Ended,
@@ -28,13 +28,13 @@ pub enum Received {
 pub enum Sent {
     /// So many bytes from their front, at least 1, were taken. The rest is to be sent by a further call.
     Taken(usize),
-    /// None was taken: there was none, or the peer takes nothing yet. The link waited for it for a moment.
+    /// None was taken: there was none, or the peer takes nothing yet. The link waited for it, for ten seconds at most.
     Idle,
     /// The link failed, and is of no more use.
     Failed,
 }
 
-/// One half of a link to a peer. A call waits for the peer, but no longer than for a moment where
+/// One half of a link to a peer. A call waits for the peer, but no longer than ten seconds where
 /// nothing comes or nothing is taken: how long a peer may be slow, the caller decides.
 pub trait Link {
     /// How many calls failed.
@@ -106,8 +106,8 @@ pub trait Links {
 /// What dials validators, on a thread of its own, so that it holds up nobody who comes. Whom to dial, and
 /// how often, the caller decides.
 pub trait Dialer {
-    /// Dials the address of the validator with this number, and waits for it, at most a second. Whom it
-    /// reached the source gives as a peer, with `Way::Dialed` of this number.
+    /// Dials the address of the validator with this number, and waits for it: at most a second, once its host's name is
+    /// looked up. Whom it reached the source gives as a peer, with `Way::Dialed` of this number.
     fn dial<R: Wait + time::Clock>(&mut self, rt: &R, validator: u16) -> Dialed;
 }
 

@@ -16,8 +16,8 @@ use std::sync::Wait;
 /// How long nothing more is logged of frames that are dropped, in milliseconds.
 const LOG_MS: u64 = 1_000;
 
-/// What decides, and the queues that it fills. Frames are queued in the order in which the node released them, since the node's lock is
-/// held until they are.
+/// What decides, and the queues that it fills. Frames are queued while the node's lock is held, in the order in which the node released
+/// them; but one that leaves while its call goes on is queued before what the calls handed in with that one released.
 #[derive(Drop)]
 pub(crate) struct Desk {
     alloc: Global,

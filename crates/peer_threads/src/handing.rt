@@ -5,13 +5,13 @@ use crate::beside::Beside;
 use crate::shared::{Ending, Shared};
 use bytes::Bytes;
 use edge_frames::LinkId;
-use locked_node::{Done, Event};
+use locked_node::{Done, Event, HeldNode};
 use log::Log;
 use messages::{FrameReader, WholeFrames};
 use peer_core::{Duty, Kind, halts, heading_of, may_release};
 use peer_links::Clock;
 use protocol::{Refusal, Timeout};
-use status_words::{Node, Seat, Status};
+use status_words::{Node, Seat};
 use std::sync::Wait;
 use std::thread::Threads;
 use std::time;
@@ -54,7 +54,7 @@ impl<S: Store + Drop, J: Node, C: Clock> Shared<'_, S, J, C> {
         if count > 0 {
             let mut answers = Answers::new();
             self.hand_in_together(rt, seat, frames.whole_frames(), count, &mut answers);
-            self.heed_all(rt, &answers);
+            self.count_refusals(&answers);
             self.note_all(rt, link, frames, &answers);
             if answers.tell_halt() {
                 self.end(rt, Ending::Halted);
@@ -86,7 +86,7 @@ impl<S: Store + Drop, J: Node, C: Clock> Shared<'_, S, J, C> {
         !is_for_node
     }
 
-    /// Hands in so many frames, one behind the other, while the node's lock is held.
+    /// Hands in so many frames, one behind the other, and queues what the node released for them, while the node's lock is held.
     fn hand_in_together<R: Threads + Wait + time::Clock + Log + Sync>(
         &self,
         rt: &R,
@@ -103,9 +103,12 @@ impl<S: Store + Drop, J: Node, C: Clock> Shared<'_, S, J, C> {
             };
             answers.add(&node.call(rt, &beside, seat, Event::Frame(frame)));
         }
+        if let Some(height) = answers.height_of_released() {
+            self.queue_released(rt, &mut node, height);
+        }
     }
 
-    /// Asks the node what the event says.
+    /// Asks the node what the event says, and queues what it released, while its lock is held.
     fn call<'e, R: Threads + Wait + time::Clock + Log + Sync>(
         &self,
         rt: &R,
@@ -113,18 +116,20 @@ impl<S: Store + Drop, J: Node, C: Clock> Shared<'_, S, J, C> {
         event: Event<'e>,
     ) -> Done<'e> {
         let beside = Beside::new(rt, self);
-        self.node.hold(rt).call(rt, &beside, seat, event)
+        let mut node = self.node.hold(rt);
+        let done = node.call(rt, &beside, seat, event);
+        if may_release(done.answer()) {
+            self.queue_released(rt, &mut node, done.status().height);
+        }
+        done
     }
 
-    /// Counts the refusals among these answers, and queues what the node released.
-    fn heed_all<R: Wait + time::Clock + Log>(&self, rt: &R, answers: &Answers) {
+    /// Counts the refusals among these answers.
+    fn count_refusals(&self, answers: &Answers) {
         for answered in answers.as_slice() {
             if let Err(refusal) = answered.answer {
                 self.meters.refused(refusal);
             }
-        }
-        if let Some(height) = answers.height_of_released() {
-            self.release(rt, height);
         }
     }
 
@@ -166,7 +171,7 @@ impl<S: Store + Drop, J: Node, C: Clock> Shared<'_, S, J, C> {
     ) {
         let done = self.call(rt, seat, Event::Frame(frame));
         let (answer, status) = (done.answer(), done.status());
-        self.heed(rt, answer, status);
+        self.heed(rt, answer);
         let now = self.clock.now_ms(rt);
         // (no transaction is kept, so that nothing is to be replied)
         let _ = self
@@ -176,28 +181,23 @@ impl<S: Store + Drop, J: Node, C: Clock> Shared<'_, S, J, C> {
             .answered(link, frame, answer, status.height, now);
     }
 
-    /// After any call of the node counts a refusal, queues what it released, rings the bell where it has moved to another height, and
-    /// lets all end where it has halted.
-    fn heed<R: Wait + time::Clock + Log>(
-        &self,
-        rt: &R,
-        answer: Result<(), Refusal>,
-        status: Status,
-    ) {
+    /// After any call of the node counts a refusal, and lets all end where it has halted.
+    fn heed<R: Wait + time::Clock + Log>(&self, rt: &R, answer: Result<(), Refusal>) {
         if let Err(refusal) = answer {
             self.meters.refused(refusal);
-        }
-        if may_release(answer) {
-            self.release(rt, status.height);
         }
         if halts(answer) {
             self.end(rt, Ending::Halted);
         }
     }
 
-    /// Queues what the node released, which is in this height.
-    fn release<R: Wait + time::Clock + Log>(&self, rt: &R, height: u64) {
-        let mut node = self.node.hold(rt);
+    /// Queues what the node released, which is in this height, and rings the bell where it has moved to that.
+    fn queue_released<R: Wait + time::Clock + Log>(
+        &self,
+        rt: &R,
+        node: &mut HeldNode<'_, S, J>,
+        height: u64,
+    ) {
         let released = node.take_released();
         let now = self.clock.now_ms(rt);
         let mut desk = self.desk.lock(rt);
@@ -247,8 +247,8 @@ impl<S: Store + Drop, J: Node, C: Clock> Shared<'_, S, J, C> {
         match duty {
             Duty::HandIn(link, frame) => self.hand_in_early(rt, seat, link, &frame),
             Duty::Ask => {
-                let done = self.node.ask(rt, seat);
-                self.heed(rt, done.answer(), done.status());
+                let done = self.call(rt, seat, Event::Ask);
+                self.heed(rt, done.answer());
             }
             Duty::Settle => self.settle(rt, seat),
             Duty::Resend => self.resend(rt, seat),
@@ -258,10 +258,10 @@ impl<S: Store + Drop, J: Node, C: Clock> Shared<'_, S, J, C> {
     }
 
     /// Has the node release its own messages of the height again. Where it is refused memory for some, it is to once more.
-    fn resend<R: Wait + time::Clock + Log>(&self, rt: &R, seat: &mut Seat<J>) {
-        let done = self.node.resend(rt, seat);
+    fn resend<R: Threads + Wait + time::Clock + Log + Sync>(&self, rt: &R, seat: &mut Seat<J>) {
+        let done = self.call(rt, seat, Event::Resend);
         let answer = done.answer();
-        self.heed(rt, answer, done.status());
+        self.heed(rt, answer);
         if answer == Err(Refusal::OutOfMemory) {
             self.desk.lock(rt).core.lost();
         }
@@ -274,7 +274,7 @@ impl<S: Store + Drop, J: Node, C: Clock> Shared<'_, S, J, C> {
         seat: &mut Seat<J>,
     ) {
         let done = self.call(rt, seat, Event::Settle);
-        self.heed(rt, done.answer(), done.status());
+        self.heed(rt, done.answer());
     }
 
     /// Fires a timeout, and counts it where the node takes it. One that was refused memory is scheduled again.
@@ -286,7 +286,7 @@ impl<S: Store + Drop, J: Node, C: Clock> Shared<'_, S, J, C> {
     ) {
         let done = self.call(rt, seat, Event::Timeout(timeout));
         let answer = done.answer();
-        self.heed(rt, answer, done.status());
+        self.heed(rt, answer);
         if answer.is_ok() {
             self.meters.fired_timeout();
         }

@@ -22,6 +22,9 @@ use vote_journal::Store;
 /// How long it waits for links to end, in milliseconds at a time.
 const TURN_MS: u64 = 10;
 
+/// Why a link is closed where the system starts no further thread.
+const NO_THREAD: &str = "no thread can be started";
+
 /// How long the dialer waits where nobody is to be dialed, in milliseconds.
 const DIAL_TURN_MS: u64 = 250;
 
@@ -41,7 +44,8 @@ pub struct Pace {
 ///
 /// The node settles first, and each other validator is dialed once. Each peer has a thread that reads and hands in whole frames, and one that
 /// sends what its queue holds. What the node releases goes to every link, and a reply to the link that
-/// the transaction came on. At the end what was released by then is sent first. A link that ends,
+/// the transaction came on. At the end what was released by then is written to the links first: what the
+/// system hasn't sent when a connection is shut may be lost. A link that ends,
 /// fails, or names a length above 1,048,576 is closed and logged, and nothing of a frame that isn't
 /// whole is handed in; so is one more than 384.
 pub fn serve<
@@ -268,7 +272,7 @@ impl<'n, S: Store + Drop + Send, J: Node + Send + Sync, C: Clock + Sync> Shared<
     >(&'s self, rt: &'s R, scope: &Scope<'s, E>, link: LinkId, half: L) {
         let started = scope.spawn(move || self.read_link(rt, link, half));
         if started.is_err() {
-            warn!(rt; "link {}: closed: no thread can be started", link.0);
+            self.log_closed(rt, link, NO_THREAD);
             self.leave(rt, link);
         }
     }
@@ -281,7 +285,7 @@ impl<'n, S: Store + Drop + Send, J: Node + Send + Sync, C: Clock + Sync> Shared<
     >(&'s self, rt: &'s R, scope: &Scope<'s, E>, link: LinkId, queue: Queue, half: L) {
         let started = scope.spawn(move || self.write_link(rt, link, queue, half));
         if started.is_err() {
-            warn!(rt; "link {}: closed: no thread can be started", link.0);
+            self.log_closed(rt, link, NO_THREAD);
             self.leave(rt, link);
         }
     }

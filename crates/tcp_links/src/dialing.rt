@@ -11,7 +11,7 @@ use std::alloc::{AllocError, AllocFailed, Global};
 use std::collections::VecDeque;
 use std::io;
 use std::io::ErrorKind;
-use std::net::{Net, TcpStream, ToSocketAddrs};
+use std::net::{Net, SocketAddr, TcpStream, ToSocketAddrs};
 use std::sync::{Arc, Mutex, Wait};
 use std::time::{Clock, Duration};
 
@@ -45,13 +45,16 @@ impl ReachedPeers {
 /// Dials addresses when it is told to. A dial that fails is logged, as a warning if the dial of that address
 /// before it did not fail, and else to debug.
 ///
-/// A host's name is looked up first, and of its addresses the first one is dialed.
+/// A host's name is looked up first, and of its addresses the first one is dialed. Where a dial reached a validator before, its socket address is
+/// dialed first, so that a peer which stays where it was is found again also while no name can be looked up.
 #[derive(Drop)]
 pub struct TcpDialer<'a, N> {
     alloc: Global,
     net: &'a N,
     addresses: Addresses<'a>,
     last_dials: LastDials,
+    /// The socket address that was reached last of each validator.
+    known: Vec<Option<SocketAddr>>,
     reached: Arc<ReachedPeers>,
 }
 
@@ -71,6 +74,7 @@ impl<'a, N> TcpDialer<'a, N> {
             net,
             addresses: Addresses::new(alloc, &addresses.all, addresses.me)?,
             last_dials: LastDials::new(alloc, addresses.all.len())?,
+            known: vec![in alloc; None; addresses.all.len()]?,
             reached: Arc::try_clone(reached)?,
         })
     }
@@ -78,11 +82,35 @@ impl<'a, N> TcpDialer<'a, N> {
 
 impl<N: Net<Stream = TcpStream>> TcpDialer<'_, N> {
     /// Connects to a validator's address, and hands the peer over.
-    fn reach<R: Wait>(&self, rt: &R, validator: u16, address: &str) -> io::Result<()> {
-        let stream = connect(self.net, address)?;
+    fn reach<R: Wait>(&mut self, rt: &R, validator: u16, address: &str) -> io::Result<()> {
+        let stream = self.connect(validator, address)?;
         let peer = peer_of(self.alloc, stream, &address, Way::Dialed(validator))?;
         self.reached.add(rt, peer)?;
         Ok(())
+    }
+
+    /// Connects to the socket address that was reached last, or to the one that the address represents now.
+    fn connect(&mut self, validator: u16, address: &str) -> io::Result<TcpStream> {
+        let place = usize::from(validator);
+        let known = self.known.get(place).copied().flatten();
+        let mut failed = None;
+        if let Some(known) = known {
+            match connect_to(self.net, &known) {
+                Ok(stream) => return Ok(stream),
+                Err(error) => failed = Some(error),
+            }
+        }
+        let found = found_at(self.net, address)?;
+        if let Some(error) = failed
+            && known == Some(found)
+        {
+            return Err(error);
+        }
+        let stream = connect_to(self.net, &found)?;
+        if let Some(known) = self.known.get_mut(place) {
+            *known = Some(found);
+        }
+        Ok(stream)
     }
 }
 
@@ -105,10 +133,15 @@ impl<N: Log + Net<Stream = TcpStream>> Dialer for TcpDialer<'_, N> {
     }
 }
 
-/// Connects to the first of the socket addresses that an address represents.
-fn connect<N: Net<Stream = TcpStream>>(net: &N, address: &str) -> io::Result<TcpStream> {
-    match address.to_socket_addrs(net)?.next() {
-        Some(address) => TcpStream::connect_timeout(net, &address, Duration::from_millis(DIAL_MS)),
-        None => Err(ErrorKind::AddrNotAvailable.into()),
-    }
+/// Returns the first of the socket addresses that an address represents.
+fn found_at<N: Net>(net: &N, address: &str) -> io::Result<SocketAddr> {
+    let Some(found) = address.to_socket_addrs(net)?.next() else {
+        return Err(ErrorKind::AddrNotAvailable.into());
+    };
+    Ok(found)
+}
+
+/// Connects to a socket address, within a second.
+fn connect_to<N: Net<Stream = TcpStream>>(net: &N, address: &SocketAddr) -> io::Result<TcpStream> {
+    TcpStream::connect_timeout(net, address, Duration::from_millis(DIAL_MS))
 }

@@ -6,7 +6,7 @@ use crate::addresses::Addresses;
 use crate::dialing::{ReachedPeers, TcpDialer};
 use crate::tcp_link::{TcpLink, peer_of};
 use log::{Log, warn};
-use peer_links::{Links, Next, Way};
+use peer_links::{Links, Next, Peer, Way};
 use std::alloc::{AllocError, Global};
 use std::fmt::Display;
 use std::io::ErrorKind;
@@ -30,6 +30,8 @@ pub struct TcpLinks<'a, N> {
     reached: Arc<ReachedPeers>,
     /// How long it waits next where nobody dials.
     wait_ms: u64,
+    /// Whether the last one that dialed could not be taken.
+    fails: bool,
 }
 
 impl<'a, N: Log + Net<Stream = TcpStream, Listener = TcpListener>> TcpLinks<'a, N> {
@@ -56,24 +58,34 @@ impl<'a, N: Log + Net<Stream = TcpStream, Listener = TcpListener>> TcpLinks<'a, 
             addresses,
             reached,
             wait_ms: FIRST_WAIT_MS,
+            fails: false,
         })
     }
 
-    /// Takes who dials, or waits for a moment where nobody does.
+    /// Takes who dials, or waits for a moment where nobody does or can be taken. Of those in a row that can't be taken the first is logged.
     fn accept<R: Clock>(&mut self, rt: &R) -> Next<TcpLink> {
         match self.listener.accept() {
             Ok((stream, address)) => {
-                self.wait_ms = FIRST_WAIT_MS;
-                self.peer(stream, &address)
+                if let Some(peer) = self.peer(stream, &address) {
+                    (self.wait_ms, self.fails) = (FIRST_WAIT_MS, false);
+                    return Next::Peer(peer);
+                }
             }
             Err(error) => {
-                if error.kind() != ErrorKind::WouldBlock {
+                if error.kind() != ErrorKind::WouldBlock && self.fails_first() {
                     warn!(self.net; "a peer cannot be taken: {error}");
                 }
-                self.wait(rt);
-                Next::Idle
             }
         }
+        self.wait(rt);
+        Next::Idle
+    }
+
+    /// Notes that one can't be taken, and returns whether the one before could.
+    fn fails_first(&mut self) -> bool {
+        let is_first = !self.fails;
+        self.fails = true;
+        is_first
     }
 
     /// Waits for a moment, and the next time for twice as long.
@@ -82,13 +94,15 @@ impl<'a, N: Log + Net<Stream = TcpStream, Listener = TcpListener>> TcpLinks<'a, 
         self.wait_ms = self.wait_ms.saturating_mul(2).min(MOST_WAIT_MS);
     }
 
-    /// Makes a peer of a connection that dialed this node.
-    fn peer<A: Display>(&self, stream: TcpStream, address: &A) -> Next<TcpLink> {
+    /// Makes a peer of a connection that dialed this node, if it can be used.
+    fn peer<A: Display>(&mut self, stream: TcpStream, address: &A) -> Option<Peer<TcpLink>> {
         match peer_of(self.alloc, stream, address, Way::Accepted) {
-            Ok(peer) => Next::Peer(peer),
+            Ok(peer) => Some(peer),
             Err(error) => {
-                warn!(self.net; "{address}: cannot be used: {error}");
-                Next::Idle
+                if self.fails_first() {
+                    warn!(self.net; "{address}: cannot be used: {error}");
+                }
+                None
             }
         }
     }

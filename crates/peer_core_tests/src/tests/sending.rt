@@ -252,7 +252,7 @@ fn try_a_bundle_is_made_once_however_long_it_takes<R: Abort + AllocGlobal>(
     assert!(rt; edge.expect(LinkId(3), &of_height(ASK, 0, 3), 60_000));
 }
 
-/// Of 128 validators none has this one make bundles without end: one of 400,000 bytes costs its link more than eight seconds, of which a minute is free.
+/// Of 128 validators none has this one make bundles without end: one of 400,000 bytes costs its link more than fifty seconds, of which ten are free.
 /// Another validator's asks aren't touched, nor those on another link of the same one, on which somebody else may pass for it.
 #[test]
 fn who_asks_for_much_waits(rt: HostRuntime) {
@@ -271,19 +271,16 @@ fn try_who_asks_for_much_waits<R: Abort + AllocGlobal>(rt: &R, edge: &mut PeerCo
         0,
     );
     edge.told(1_000, 0);
-    for height in [0, 1, 122, 123, 124, 125, 126] {
-        assert!(rt; edge.expect(LinkId(2), &of_height(ASK, height, 2), 9_000));
-        assert_same(rt, &released(rt, edge, &bundle_of(height), 9_000), &2);
-    }
-    assert!(rt; !edge.expect(LinkId(2), &of_height(ASK, 127, 2), 9_000));
-    assert!(rt; edge.expect(LinkId(3), &of_height(ASK, 127, 3), 9_000));
-    assert_same(rt, &released(rt, edge, &bundle_of(127), 9_000), &23);
-    assert!(rt; edge.expect(LinkId(5), &of_height(ASK, 129, 2), 9_000));
-    assert!(rt; edge.expect(LinkId(2), &of_height(ASK, 128, 2), 9_300));
-    assert_same(rt, &released(rt, edge, &bundle_of(128), 9_300), &2);
+    assert!(rt; edge.expect(LinkId(2), &of_height(ASK, 0, 2), 9_000));
+    assert_same(rt, &released(rt, edge, &bundle_of(0), 9_000), &2);
+    assert!(rt; !edge.expect(LinkId(2), &of_height(ASK, 1, 2), 9_000));
+    assert!(rt; edge.expect(LinkId(3), &of_height(ASK, 1, 3), 9_000));
+    assert_same(rt, &released(rt, edge, &bundle_of(1), 9_000), &23);
+    assert!(rt; edge.expect(LinkId(5), &of_height(ASK, 122, 2), 9_000));
     edge.ended(LinkId(2));
-    open(rt, edge, LinkId(6), Way::Dialed(2), 9_300);
-    assert!(rt; !edge.expect(LinkId(6), &of_height(ASK, 250, 2), 9_300));
+    open(rt, edge, LinkId(6), Way::Dialed(2), 9_000);
+    assert!(rt; !edge.expect(LinkId(6), &of_height(ASK, 123, 2), 51_002));
+    assert!(rt; edge.expect(LinkId(6), &of_height(ASK, 124, 2), 51_003));
 }
 
 /// A long bundle of this height.
@@ -302,18 +299,40 @@ fn kept_bundles_cost_their_asker(rt: HostRuntime) {
 fn try_kept_bundles_cost_their_asker<R: Abort + AllocGlobal>(rt: &R, edge: &mut PeerCore) {
     dial_all(rt, edge);
     edge.told(1_000, 0);
-    for height in [0, 1] {
-        assert!(rt; edge.expect(LinkId(3), &of_height(ASK, height, 3), 9_000));
-        assert_same(rt, &released(rt, edge, &bundle_of(height), 9_000), &3);
+    for (height, sender, link) in [(0, 3, 3), (1, 0, 1)] {
+        assert!(rt; edge.expect(LinkId(link), &of_height(ASK, height, sender), 9_000));
+        assert_same(rt, &released(rt, edge, &bundle_of(height), 9_000), &link);
     }
     let _ = duties(edge, 9_000);
     for _ in 0..500 {
         let _ = edge.expect(LinkId(2), &of_height(ASK, 0, 2), 9_000);
         let _ = edge.expect(LinkId(2), &of_height(ASK, 1, 2), 9_000);
     }
-    assert_same(rt, &duties(edge, 9_000).sent, &896);
+    assert_same(rt, &duties(edge, 9_000).sent, &25);
     let _ = edge.expect(LinkId(2), &of_height(ASK, 0, 2), 10_000);
     assert_same(rt, &duties(edge, 10_000).sent, &1);
+}
+
+/// An ask that comes on a link which has ended or is closed isn't handed in: nobody would get its bundle.
+#[test]
+fn asks_behind_a_links_end_are_passed_over(rt: HostRuntime) {
+    on_edge(&rt, GUARDED, try_asks_behind_a_links_end_are_passed_over);
+}
+
+fn try_asks_behind_a_links_end_are_passed_over<R: Abort + AllocGlobal>(
+    rt: &R,
+    edge: &mut PeerCore,
+) {
+    dial_all(rt, edge);
+    edge.told(5, 0);
+    let ask = of_height(ASK, 0, 2);
+    edge.ended(LinkId(2));
+    assert!(rt; !edge.expect(LinkId(2), &ask, 0));
+    for number in 10..75 {
+        open(rt, edge, LinkId(number), Way::Accepted, 0);
+    }
+    assert!(rt; !edge.expect(LinkId(10), &ask, 0));
+    assert!(rt; edge.expect(LinkId(11), &ask, 0));
 }
 
 /// A stranger whose asks are nobody's doesn't keep a validator from being answered.
