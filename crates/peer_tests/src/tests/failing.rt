@@ -120,11 +120,11 @@ fn a_transaction_behind_a_failure_is_refused(rt: HostRuntime) {
     assert_same(&rt, &count(&rt, &told, 0, &HALTED), &1);
 }
 
-/// A link that brings a transaction and then nothing, until it fails after five seconds: long enough for
+/// A link that brings a transaction and then nothing, until it fails after fifteen seconds: long enough for
 /// all others to be opened meanwhile, on a busy machine too.
 fn add_lasting(rt: &impl Abort, alloc: Global, peers: &mut Peers) {
     let wire = peers.wire(rt);
-    let mut half = peers.half_of_turns(rt, &wire, 4_096, 50);
+    let mut half = peers.half_of_turns(rt, &wire, 4_096, 150);
     half.set_turn(100);
     add_step(rt, &mut half, Step::Bytes(transaction(rt, alloc, 0, 1)));
     peers.add(rt, wire, half);
