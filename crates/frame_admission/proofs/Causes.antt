@@ -1,21 +1,23 @@
 -- The causes of the gate and those of the state, one after the other.
-use Rattle.std.proofs.Common.{◌≡◌, ℕ, ◌<◌, Bool, true, false, cond, not, ◌&&◌, List, [], ◌∷◌, ◌++◌, length, Option, Some, None, Result, Ok, Err, is_ok, refl, ap, inl, inr}
+use Rattle.std.proofs.Common.{◌≡◌, ℕ, ◌<◌, Bool, true, false, cond, not, ◌&&◌, List, [], ◌∷◌, ◌++◌, length, Option, Some, None, Result, Ok, Err, is_ok, refl, ap, ◌∙◌, inl, inr}
 use Rattle.std.proofs.lemmas.Bool.{cases_Bool, ltb-true}
 use Rattle.transactions.specs.declared.fault.Fault.{Fault}
 use Rattle.transactions.specs.declared.fault.Fault.TheVariants as faults
 use Rattle.transactions.specs.declared.tx.Tx.{Tx}
 use Rattle.transactions.specs.Fields.{Fails}
-use Rattle.transactions.specs.Grammar.{tx_body_spelling}
+use Rattle.transactions.specs.Grammar.{tx_body_spelling, tx_fields_spelling}
 use Rattle.messages.specs.Framing.{message_of}
 use Rattle.protocol.specs.Tags.{Setting, Validator, Client, right, tx_is_right}
 use Rattle.messages.specs.Grammar.{body_spelling}
 use Rattle.protocol.specs.Messages.{Body, sender_of, OfTx, OfProposal, OfVote, OfAsk, OfBundle, Message}
 use Rattle.protocol.specs.State.{Node}
-use Rattle.protocol.specs.Refusals.{Cause, ◌↪◌, first_cause, Refusal, causes, refusal_of, is_known, sender_causes}
+use Rattle.protocol.specs.Refusals.{Cause, ◌↪◌, first_cause, Refusal, causes, refusal_of, is_known, sender_causes, tagged_tx}
 use Rattle.protocol.specs.Refusals as names
 use Rattle.protocol.specs.Answers.{IsCause, IsVerdict, cause_of, of_fault}
 use Rattle.protocol.specs.declared.refusal.Refusal.{Refusal as Answer}
 use Rattle.protocol.specs.declared.refusal.Refusal.TheVariants as answers
+use Rattle.frame_admission.specs.Examined.{found_of}
+use Rattle.frame_admission.specs.declared.examined.Found.TheVariants as founds
 use Rattle.frame_admission.specs.Gate.{tag_causes, validator_of, let_in, judged, gate_causes, admission, state_causes, answer_behind, GateLaw, IsAnswer, IsRefused}
 
 -- a cause, and where there is none another
@@ -146,7 +148,20 @@ both true true x y (Err e) h = absurd (none_told (cause_of e) h)
 both true false x y (Err e) h = refl
 both false b x y (Err e) h = refl
 
+-- a body's bytes have no tags
+same_body : (t : Tx) (m : Message) → tx_body_spelling t ≡ tx_body_spelling (tagged_tx t m)
+unfolding tx_fields_spelling
+same_body t m = refl
+
 -- a transaction is right where neither cause stands
 pub tx_verdict : (c : Setting) (p : ℕ) (t : Tx) (r : Result (Unit {0}) Answer) → IsVerdict (first_cause (tag_causes c p (Client t.client) (tx_body_spelling t) t.tags)) r → is_ok r ≡ tx_is_right c p t
 unfolding tx_is_right
 tx_verdict c p t r h = both (c.clients t.client) (right c p (Client t.client) (tx_body_spelling t) t.tags) names.UnknownSender names.BadTag r h
+
+-- what is found of a transaction: in any state nothing stands against it
+pub tx_checked : (c : Setting) (p : ℕ) (m : Message) (b : Body) (t : Tx) (r : Result (Unit {0}) Answer) (found : Bool) → b ≡ OfTx t
+    → IsVerdict (first_cause (tag_causes c p (sender_of b) (body_spelling b) m.tags)) r → found ≡ is_ok r
+    → (first_cause (gate_causes c p b m.tags) ≡ None) × (founds.Tx found ≡ found_of c p m b)
+tx_checked c p m b t r found is h ok =
+    let verdict : IsVerdict (first_cause (tag_causes c p (Client t.client) (tx_body_spelling (tagged_tx t m)) m.tags)) r = rw (← same_body t m) (rw is at h) in
+    rw is (refl, ap (λ (x : Bool). founds.Tx x) (ok ∙ tx_verdict c p (tagged_tx t m) r verdict))

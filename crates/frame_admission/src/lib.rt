@@ -8,12 +8,14 @@
 ghost use Rattle.frame_admission.specs.Gate.{GateLaw};
 
 mod admission;
+mod examined;
 mod own_frames;
 mod tagger;
 mod tags;
 
 pub use admission::admit;
-pub use own_frames::{bytes_of, frame_for, frame_of_body, own_tags};
+pub use examined::{Examined, Found, LetIn};
+pub use own_frames::{bytes_of, frame_for, frame_of_body, frame_with, own_tags};
 pub use tagger::{InTurn, Tagger};
 pub use tags::is_genuine;
 

@@ -22,8 +22,23 @@ pub fn frame_for(alloc: Global, ring: &KeyRing, body: &Body) -> Result<Vec<u8>, 
     requires few { ring.now.count ≤ 128 }
     ensures { (c : Setting) (p : ℕ) → IsRingOf c p ring.now → IfOk result (λ frame. frame.items ≡ frame_spelling (tagged c body.now)) }
 {
+    frame_with(alloc, &InTurn, ring, body)
+}
+
+/// As `frame_for`, where another one makes the tags.
+pub fn frame_with<T: Tagger>(
+    alloc: Global,
+    tagger: &T,
+    ring: &KeyRing,
+    body: &Body,
+) -> Result<Vec<u8>, AllocError>
+    requires spelled { IsBody body.now }
+    requires own { sender_of body.now ≡ ring.now.me }
+    requires few { ring.now.count ≤ 128 }
+    ensures { (c : Setting) (p : ℕ) → IsRingOf c p ring.now → IfOk result (λ frame. frame.items ≡ frame_spelling (tagged c body.now)) }
+{
     let bytes = bytes_of(alloc, body)?;
-    frame_of_body(alloc, &InTurn, ring, &bytes)
+    frame_of_body(alloc, tagger, ring, &bytes)
 }
 
 /// The frame of an own body that is spelled already, with a right tag for each of up to 128 validators.

@@ -7,5 +7,5 @@
 mod reading;
 mod writing;
 
-pub use reading::{memory_or, read_ring};
+pub use reading::{memory_or, read_ring, read_rings};
 pub use writing::write_keys;

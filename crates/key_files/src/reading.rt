@@ -1,6 +1,7 @@
 //! Reading a party's keys.
 
-ghost use Rattle.std.specs.Prelude.{◌≡◌, ◌⊎◌, IfOk};
+ghost use Rattle.std.specs.Prelude.{◌≡◌, ◌⊎◌, IfOk, Ok};
+ghost use Rattle.authenticators.specs.Keys.{ring_of};
 ghost use Rattle.node_settings.specs.declared.failure.Failure.TheVariants.{OutOfMemory};
 
 use authenticators::{KeyRing, Party, held_law};
@@ -22,7 +23,8 @@ pub fn memory_or(error: &io::Error, other: Failure) -> Failure
 
 /// The keys of a party, as the text of its key file tells them.
 fn ring_in(alloc: Global, text: &[u8], me: Party, validators: u16) -> Result<KeyRing, Failure>
-    ensures { IfOk result (λ ring. (ring.me ≡ me) × (ring.count ≡ validators)) }
+    ensures of_these { IfOk result (λ ring. (ring.me ≡ me) × (ring.count ≡ validators)) }
+    ensures told { IfOk result (λ ring. ring_of me validators text.now ≡ Ok ring) }
 {
     held_law();
     Ok(KeyRing::read(alloc, text, me, validators)?)
@@ -37,8 +39,25 @@ pub fn read_ring<R: Files + AllocGlobal>(
 ) -> Result<KeyRing, Failure>
     ensures { IfOk result (λ ring. (ring.me ≡ me) × (ring.count ≡ validators)) }
 {
-    match fs::read(rt, name) {
-        Ok(text) => ring_in(rt.alloc(), &text, me, validators),
-        Err(error) => Err(memory_or(&error, Failure::Keys(KeysTrouble::Unreadable))),
-    }
+    ring_in(rt.alloc(), &key_text(rt, name)?, me, validators)
+}
+
+/// The same keys twice: for a node, and for who examines frames before the node takes them.
+pub fn read_rings<R: Files + AllocGlobal>(
+    rt: &R,
+    name: &str,
+    me: Party,
+    validators: u16,
+) -> Result<(KeyRing, KeyRing), Failure>
+    ensures of_these { IfOk result (λ rings. (rings.0.me ≡ me) × (rings.0.count ≡ validators)) }
+    ensures same { IfOk result (λ rings. rings.1 ≡ rings.0) }
+{
+    let text = key_text(rt, name)?;
+    let ring = ring_in(rt.alloc(), &text, me, validators)?;
+    Ok((ring, ring_in(rt.alloc(), &text, me, validators)?))
+}
+
+/// The text of a key file.
+fn key_text<R: Files + AllocGlobal>(rt: &R, name: &str) -> Result<Vec<u8>, Failure> {
+    fs::read(rt, name).map_err(|error| memory_or(&error, Failure::Keys(KeysTrouble::Unreadable)))
 }

@@ -1,5 +1,5 @@
 -- Calls keep a node's journal lawful, so each of its decisions has a certificate.
-use Rattle.std.proofs.Common.{◌≡◌, ℕ, zero, suc, ◌+◌, ◌*◌, ◌-◌, ◌^◌, ◌<◌, ◌≤◌, inl, inr, true, false, min, List, [], ◌∷◌, ◌++◌, length, reverse, Option, Some, None, option_map, refl, sym, ap, ◌∙◌, subst, arith, append-nil, length-append, eqb-true, ltb-true, leb-true}
+use Rattle.std.proofs.Common.{◌≡◌, ℕ, zero, suc, ◌+◌, ◌*◌, ◌^◌, ◌<◌, ◌≤◌, inl, inr, true, false, List, [], ◌∷◌, ◌++◌, length, reverse, Option, Some, None, option_map, refl, sym, ap, ◌∙◌, subst, arith, append-nil, length-append, eqb-true, ltb-true, leb-true}
 use Rattle.std.specs.Prelude.{unwrap_or, nat_lt, nat_le, ◌==◌, ◌&&◌}
 use Rattle.std.proofs.lemmas.Bool.{and_parts}
 use Rattle.std.proofs.lemmas.List.{length-map, reverse-reverse}
@@ -14,17 +14,16 @@ use Rattle.protocol.specs.Refusals.{context}
 use Rattle.protocol.specs.Restart.{opened, delivered_of, height_of}
 use Rattle.protocol.specs.Arrivals.{firing}
 use Rattle.protocol.specs.Effects.{bundles_in}
-use Rattle.protocol.specs.History.{Input, Settle, Given, Due, first, firsts, taken, after, replay}
+use Rattle.protocol.specs.History.{Input, Settle, Given, Due, first, firsts, taken, replay}
 use Rattle.protocol.proofs.Arrivals.{come_cases, try_cases}
 use Rattle.protocol.proofs.Order.{enabled_named}
 use Rattle.vote_journal.specs.Order.{may_follow}
 use Rattle.vote_journal.specs.Laws.{EachFollows, EachMade, IsLawful}
-use Rattle.vote_journal.proofs.Following.{fired_lawful, taken_lawful, opened_lawful}
+use Rattle.vote_journal.proofs.Following.{fired_lawful, taken_lawful}
 use Rattle.vote_journal.proofs.Kept.{lawful_opened}
 use Rattle.vote_journal.proofs.Stops.{whole_lawful}
 use Rattle.node_core.specs.Core.{Core, Stands, setting, setting_of, delivered_in}
-use Rattle.locked_node.specs.History.{Replayed}
-use Rattle.locked_node.specs.Locked.{Locked, IsLocked, count_of}
+use Rattle.locked_node.specs.Locked.{Locked, IsLocked}
 use Rattle.locked_node.specs.Certified.{IsCertified, AreCertified, WasOpened, IsKnown, CertificatesLaw, CountLaw}
 use Rattle.locked_node.proofs.Feeds.{delivered_append}
 

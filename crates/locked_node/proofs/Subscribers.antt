@@ -11,7 +11,7 @@ use Rattle.subscriber_ring.specs.Order.{items_of}
 use Rattle.subscriber_ring.specs.Rule.{BeginsWith}
 use Rattle.locked_node.specs.declared.feeding.Fed.{Fed}
 use Rattle.locked_node.specs.Feeding.{left_at, IsFed, AreFed}
-use Rattle.locked_node.specs.Subscribers.{WasTaken, SubscribersLaw}
+use Rattle.locked_node.specs.Subscribers.{SubscribersLaw}
 use Rattle.locked_node.proofs.Feeds.{none_before}
 
 fed_in : (d : List Bundle) (fs : List Fed) (f : Fed) → AreFed d fs → f ∈ fs → IsFed d f

@@ -7,6 +7,8 @@ use Rattle.protocol.specs.declared.refusal.Refusal.TheVariants.{Halted, OutOfMem
 use Rattle.node_core.specs.Core.{Core, Stands, IsSame, setting_of}
 use Rattle.locked_node.specs.declared.event.Event.{Event}
 use Rattle.locked_node.specs.declared.event.Event.TheVariants as events
+use Rattle.locked_node.specs.declared.event.Request.{Request}
+use Rattle.locked_node.specs.declared.event.Request.TheVariants as requests
 use Rattle.locked_node.specs.declared.event.Told.{Told}
 
 -- what a node is asked: to take an input in, or to release an ask, or its own messages once more
@@ -21,6 +23,10 @@ heard (events.Timeout t) = Took (Due t)
 heard events.Settle = Took Settle
 heard events.Ask = Asked
 heard events.Resend = Resent
+
+abbrev pub heard_by : Request → Heard
+heard_by (requests.Event event) = heard event
+heard_by (requests.Frame bytes) = Took (Given bytes)
 
 -- what was handed in, what was answered, and how often a rule fired by itself
 pub record Call : Type 0 where

@@ -1,5 +1,9 @@
 //! What a node is asked to do.
 
+ghost use Rattle.std.specs.Prelude.{◌≡◌};
+ghost use Rattle.locked_node.specs.History.{heard, heard_by};
+
+use frame_admission::Examined;
 use protocol::{Refusal, Timeout};
 
 /// What a node is asked to do.
@@ -23,4 +27,23 @@ pub(crate) struct Told<'a> {
     pub(crate) event: Event<'a>,
     pub(crate) answer: Result<(), Refusal>,
     pub(crate) fired: u64,
+}
+
+/// What a core is asked: what an event says, or to take in a frame that was examined.
+#[derive(Drop)]
+pub(crate) enum Request<'a> {
+    Event(Event<'a>),
+    Frame(Examined<'a>),
+}
+
+impl<'a> Request<'a> {
+    /// The event that it is.
+    pub(crate) fn event(&self) -> Event<'a>
+        ensures { heard result ≡ heard_by self.now }
+    {
+        match self {
+            Request::Event(event) => *event,
+            Request::Frame(examined) => Event::Frame(examined.frame()),
+        }
+    }
 }

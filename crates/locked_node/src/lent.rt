@@ -5,7 +5,7 @@ ghost use Rattle.std.specs.Bool.{Decides};
 ghost use Rattle.status_words.specs.Seen.{unseen, with_both, IsOf};
 ghost use Rattle.node_core.specs.Core.{Stands, delivered_in};
 ghost use Rattle.protocol.specs.State.{Node as ProtocolNode};
-ghost use Rattle.locked_node.specs.History.{heard, calls_after};
+ghost use Rattle.locked_node.specs.History.{heard, heard_by, calls_after};
 ghost use Rattle.locked_node.specs.Calls.{Does};
 ghost use Rattle.locked_node.specs.Feeding.{AreOffered, HasFilled};
 ghost use Rattle.subscriber_ring.specs.Ends.{is_capacity};
@@ -14,7 +14,7 @@ ghost use Rattle.locked_node.specs.Locked.{IsLocked, count_of};
 ghost use Rattle.locked_node.specs.Meeting.{IsSegment};
 
 use crate::calls::ask_core;
-use crate::event::{Event, Told};
+use crate::event::{Event, Request, Told};
 use crate::feeding::{Fed, Stop, feed_all, fill_at};
 use crate::history::History;
 use crate::meeting::is_segment;
@@ -224,8 +224,24 @@ impl<S: Store + Drop, J: Node> State<S, J> {
         ensures same { self.new ≡ record self.old { core = self.new.core; calls = self.new.calls } }
         ensures locked { IsLocked self.new }
     {
+        self.step_by(tagger, Request::Event(event))
+    }
+
+    /// Asks the core, and notes it in the history.
+    pub(crate) fn step_by<'a, T: Tagger + Outlet>(
+        &mut self,
+        tagger: &T,
+        request: Request<'a>,
+    ) -> Stepped<'a>
+        ensures event { result.event ≡ heard_by request.entry }
+        ensures does { Does (heard_by request.entry) result.answer self.old.core self.new.core }
+        ensures calls { self.new.calls ≡ calls_after (heard_by request.entry) result.answer self.new.core.fired self.old.calls }
+        ensures same { self.new ≡ record self.old { core = self.new.core; calls = self.new.calls } }
+        ensures locked { IsLocked self.new }
+    {
         let before = self.core.decisions().len();
-        let answer = ask_core(&mut self.core, tagger, event);
+        let event = request.event();
+        let answer = ask_core(&mut self.core, tagger, request);
         let told = Told {
             event,
             answer,

@@ -6,16 +6,17 @@ ghost use Rattle.status_words.specs.Ends.{opened_table, opened_words};
 ghost use Rattle.protocol.specs.State.{Node as ProtocolNode};
 ghost use Rattle.protocol.specs.History.{Settle, Given, Due};
 ghost use Rattle.node_core.specs.Core.{Stands};
-ghost use Rattle.locked_node.specs.History.{heard, Took, Asked, Resent};
+ghost use Rattle.locked_node.specs.History.{heard, heard_by, Took, Asked, Resent};
 ghost use Rattle.locked_node.specs.Locked.{count_of};
 ghost use Rattle.locked_node.specs.Subscribing.{IsSubscribeFault};
 ghost use Rattle.subscriber_ring.specs.Ends.{is_capacity};
 
-use crate::event::Event;
+use crate::event::{Event, Request};
 use crate::lent::{Done, Gauges, Met, State};
 use crate::place::count_from;
 use crate::subscription::{SubscribeFault, Subscription};
-use frame_admission::{InTurn, Tagger};
+use authenticators::KeyRing;
+use frame_admission::{Examined, InTurn, Tagger};
 use node_core::{NodeCore, Outlet};
 use protocol::Timeout;
 use status_words::{Node, Opened, Seat, Status, Words};
@@ -24,9 +25,11 @@ use std::sync::{Mutex, MutexGuard, Wait};
 use subscriber_ring::Delivered;
 use vote_journal::Store;
 
-/// One node, shared by threads. Its status is read without its lock.
+/// One node, shared by threads. Without its lock its status is read, and frames are examined by its keys.
 #[derive(Drop)]
 pub struct LockedNode<S: Store + Drop, J: Node> {
+    alloc: Global,
+    keys: KeyRing,
     words: Words<J>,
     state: Mutex<State<S, J>>,
 }
@@ -59,14 +62,17 @@ pub struct Released {
 }
 
 impl<S: Store + Drop, J: Node> LockedNode<S, J> {
-    /// The node of a core and its words, by a name that the caller picks. It takes no memory.
-    pub fn new(alloc: Global, opened: Opened, core: NodeCore<S>) -> LockedNode<S, J>
+    /// The node of a core and its words, by a name that the caller picks. Frames are examined by these keys, which should be the core's
+    /// own: by any others nothing is spared. It takes no memory.
+    pub fn new(alloc: Global, opened: Opened, core: NodeCore<S>, keys: KeyRing) -> LockedNode<S, J>
         requires named { opened_table opened ≡ J.table }
         requires words { opened_words opened ≡ opened_at core.machine.state.height (count_of core) }
         requires stands { (n : ProtocolNode) × Stands n core }
     {
         let (words, publisher) = opened.named::<J>();
         LockedNode {
+            alloc,
+            keys,
             words,
             state: Mutex::new(State::new(alloc, core, publisher)),
         }
@@ -85,7 +91,15 @@ impl<S: Store + Drop, J: Node> LockedNode<S, J> {
         ensures seen { seat.new ≡ with_both seat.old result.height result.delivered }
         ensures later { (seat.old.height ≤ result.height) × (seat.old.delivered ≤ result.delivered) }
     {
-        self.act(rt, seat, Event::Frame(frame))
+        let examined = self.examine(frame);
+        self.hold(rt).take_in(rt, &InTurn, seat, examined)
+    }
+
+    /// Reads a frame, and finds what can be found of it by keys alone. It waits for nobody.
+    pub fn examine<'a>(&self, frame: &'a [u8]) -> Examined<'a>
+        ensures { result ≡ frame.now }
+    {
+        Examined::new(self.alloc, &self.keys, frame)
     }
 
     /// Fires a timeout that is due.
@@ -216,8 +230,37 @@ impl<S: Store + Drop, J: Node> HeldNode<'_, S, J> {
         ensures seen { seat.new ≡ with_both seat.old result.height result.delivered }
         ensures later { (seat.old.height ≤ result.height) × (seat.old.delivered ≤ result.delivered) }
     {
+        self.request(rt, tagger, seat, Request::Event(event))
+    }
+
+    /// Hands in a frame that was examined, as `call` does an event.
+    pub fn take_in<'a, T: Tagger + Outlet, R: Wait>(
+        &mut self,
+        rt: &R,
+        tagger: &T,
+        seat: &mut Seat<J>,
+        examined: Examined<'a>,
+    ) -> Done<'a>
+        ensures event { result.event ≡ Took (Given examined.entry) }
+        ensures seen { seat.new ≡ with_both seat.old result.height result.delivered }
+        ensures later { (seat.old.height ≤ result.height) × (seat.old.delivered ≤ result.delivered) }
+    {
+        self.request(rt, tagger, seat, Request::Frame(examined))
+    }
+
+    fn request<'a, T: Tagger + Outlet, R: Wait>(
+        &mut self,
+        rt: &R,
+        tagger: &T,
+        seat: &mut Seat<J>,
+        request: Request<'a>,
+    ) -> Done<'a>
+        ensures event { result.event ≡ heard_by request.entry }
+        ensures seen { seat.new ≡ with_both seat.old result.height result.delivered }
+        ensures later { (seat.old.height ≤ result.height) × (seat.old.delivered ≤ result.delivered) }
+    {
         let state = &mut *self.state;
-        let stepped = state.step_with(tagger, event);
+        let stepped = state.step_by(tagger, request);
         let offered = state.offer_all(rt, stepped);
         state.publish(self.words, offered, seat)
     }

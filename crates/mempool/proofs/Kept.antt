@@ -1,7 +1,7 @@
 -- What holds of each waiting transaction: of a new one too it stays so, and it holds of what is picked.
-use Rattle.std.proofs.Common.{◌≡◌, ℕ, zero, suc, ◌<◌, None, is_none, ap, ◌++◌, inl, inr, true, false, All, List, [], ◌∷◌, length, map, take, refl, sym, subst, arith}
+use Rattle.std.proofs.Common.{◌≡◌, ℕ, zero, suc, ◌<◌, None, is_none, ap, inl, inr, true, false, All, List, [], ◌∷◌, length, map, take, refl, sym, subst, arith}
 use Rattle.std.specs.List.{AllByRecursion}
-use Rattle.std.proofs.lemmas.Bool.{leb-true, leb-false, ltb-false, and_parts, cases_Bool, not-false}
+use Rattle.std.proofs.lemmas.Bool.{leb-true, leb-false, and_parts, cases_Bool, not-false}
 use Rattle.std.proofs.lemmas.List.Elements.{All-from_recursion, recursion_from_All}
 use Rattle.transactions.specs.Grammar.{IsTx, IsValue}
 use Rattle.protocol.specs.Values.{Tx, Item, item, fits, keeps_limits}

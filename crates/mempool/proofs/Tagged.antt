@@ -1,5 +1,5 @@
 -- The tag of a transaction, under the key that the ring has of its client.
-use Rattle.std.proofs.Common.{◌≡◌, ℕ, Bool, true, false, cond, List, Some, None, refl, sym, ◌∙◌}
+use Rattle.std.proofs.Common.{◌≡◌, ℕ, Bool, true, false, cond, ◌&&◌, List, Some, None, refl, sym, ◌∙◌}
 use Rattle.authenticators.specs.Ring.{Ring, incoming}
 use Rattle.transactions.specs.Grammar.{tx_body_spelling}
 use Rattle.protocol.specs.Tags.{Setting, Validator, Client, is_right, right, tx_is_right}
@@ -28,3 +28,12 @@ no_key false key e = refl
 pub untagged_by_unknown : (c : Setting) (p : ℕ) (ring : Ring) (t : Tx) → IsRingOf c p ring → incoming ring (Client t.client) ≡ None → tx_is_right c p t ≡ false
 unfolding tx_is_right
 untagged_by_unknown c p ring t is none = rw (no_key (c.clients t.client) (c.key (Client t.client) p) (sym none ∙ is.from_clients t.client)) refl
+
+both : (a b : Bool) → (a && b) ≡ true → a ≡ true
+both true b e = refl
+both false b e = absurd (cc)
+
+-- the client of a transaction with a right tag is known
+pub known_by_right : (c : Setting) (p : ℕ) (t : Tx) → tx_is_right c p t ≡ true → c.clients t.client ≡ true
+unfolding tx_is_right
+known_by_right c p t is = both (c.clients t.client) (right c p (Client t.client) (tx_body_spelling t) t.tags) is

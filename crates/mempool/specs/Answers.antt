@@ -1,5 +1,5 @@
 -- What submitting a transaction answers.
-use Rattle.std.specs.Prelude.{◌≡◌, Option, None, Some, Result, Ok, Err}
+use Rattle.std.specs.Prelude.{◌≡◌, Option, None, Result, Ok, Err}
 use Rattle.protocol.specs.Refusals.{TxRefusal}
 use Rattle.protocol.specs.Answers.{IsCause, submit_cause}
 use Rattle.protocol.specs.declared.refusal.SubmitFault.{SubmitFault}

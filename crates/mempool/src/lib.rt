@@ -34,7 +34,7 @@ use seeking::{is_same, numbered};
 use std::alloc::{AllocError, Global};
 use std::collections::VecDeque;
 use std::marker::Model;
-use tag::{check_tag, has_right_tag};
+use tag::{check_found, check_tag, has_right_tag};
 use transactions::{Op, Shared, Tx, Value, copy_all};
 use turns::Turns;
 
@@ -112,6 +112,24 @@ impl Mempool {
         Ok(())
     }
 
+    /// As `submit`, where the caller says whether the client is known and the tag right, which isn't found once more.
+    pub fn submit_found(
+        &mut self,
+        tx: Tx,
+        is_right: bool,
+        ring: &KeyRing,
+        frontier: &Frontier,
+    ) -> Result<(), SubmitFault>
+        requires { (c : Setting) (p : ℕ) → IsRingOf c p ring.now → is_right ≡ tx_is_right c p tx }
+        ensures answer { (c : Setting) (p : ℕ) (d : List Item) → IsRingOf c p ring.now → IsFrontierOf d frontier.now
+            → IsAnswer (first_cause (tx_causes c p d self.old tx)) result }
+        ensures ok { OnOk result (self.new ≡ queued tx self.old) }
+        ensures err { OnErr result (self.new ≡ self.old) }
+    {
+        self.check_found(&tx, is_right, ring, frontier)?;
+        Ok(self.keep(tx)?)
+    }
+
     /// The value to propose: one transaction of each queue in turn, again and again, as far as a
     /// value's limits go, which are 256 transactions and 500,000 bytes. The queues stay.
     ///
@@ -184,6 +202,24 @@ impl Mempool {
             alloc: self.alloc,
             queues,
         })
+    }
+
+    /// As `check`, where the caller says whether the client is known and the tag right.
+    fn check_found(
+        &self,
+        tx: &Tx,
+        is_right: bool,
+        ring: &KeyRing,
+        frontier: &Frontier,
+    ) -> Result<(), SubmitFault>
+        requires { (c : Setting) (p : ℕ) → IsRingOf c p ring.now → is_right ≡ tx_is_right c p tx.now }
+        ensures { (c : Setting) (p : ℕ) (d : List Item) → IsRingOf c p ring.now → IsFrontierOf d frontier.now
+            → IsVerdict (first_cause (tx_causes c p d self.now tx.now)) result }
+    {
+        match check_found(tx, is_right, ring) {
+            Ok(()) => self.check_turn(tx, frontier),
+            Err(fault) => Err(fault),
+        }
     }
 
     /// The causes against a transaction that depend on what else its client sent.

@@ -36,6 +36,25 @@ pub fn check_tag(tx: &Tx, ring: &KeyRing) -> Result<(), SubmitFault>
     Ok(())
 }
 
+/// As `check_tag`, where the caller says whether the client is known and the tag right.
+pub fn check_found(tx: &Tx, is_right: bool, ring: &KeyRing) -> Result<(), SubmitFault>
+    requires { (c : Setting) (p : ℕ) → IsRingOf c p ring.now → is_right ≡ tx_is_right c p tx.now }
+    ensures { (c : Setting) (p : ℕ) → IsRingOf c p ring.now → (d : List Item) (queues : List Queue)
+        → IsVerdict (first_cause (take 3 (tx_causes c p d queues tx.now))) result }
+{
+    let too_long = is_long(&tx.op);
+    if too_long {
+        return Err(SubmitFault::TooLong);
+    }
+    if is_right {
+        return Ok(());
+    }
+    match ring.incoming(Party::Client(tx.client)) {
+        Some(_) => Err(SubmitFault::BadTag),
+        None => Err(SubmitFault::UnknownClient),
+    }
+}
+
 /// Whether the client of a transaction, whose length is within its limit, is known and the ring's own tag is right.
 pub fn has_right_tag(tx: &Tx, ring: &KeyRing) -> bool
     requires short { is_long tx.now.op ≡ false }

@@ -11,14 +11,12 @@ use Rattle.protocol.specs.Rules.{holds, saved, released_by}
 use Rattle.protocol.specs.Order.{enabled}
 use Rattle.protocol.specs.Queues.{pick}
 use Rattle.protocol.specs.Refusals.{answer}
-use Rattle.protocol.specs.Arrivals.{Outcome, nothing, firing, arrival, received}
+use Rattle.protocol.specs.Arrivals.{Outcome, firing, arrival, received}
 use Rattle.protocol.specs.World.{Cut, InFiring, tried, cut_record, is_bundles}
 use Rattle.protocol.specs.History.{Input, Given, taken, firsts}
 use Rattle.vote_journal.specs.Order.{may_follow}
 use Rattle.vote_journal.specs.Laws.{EachFollows}
-use Rattle.vote_journal.specs.Saving.{IsBeforeOrAfter, LeavesBeforeOrAfter, IsSaveFault, WhereSaved}
-use Rattle.vote_journal.specs.declared.fault.JournalFault.{JournalFault}
-use Rattle.vote_journal.specs.declared.fault.JournalFault.TheVariants as journal
+use Rattle.vote_journal.specs.Saving.{IsBeforeOrAfter, LeavesBeforeOrAfter, WhereSaved}
 use Rattle.vote_journal.proofs.Stopping.{newest}
 use Rattle.round_machine.specs.Naming.{rule_of}
 use Rattle.round_machine.specs.declared.rule.Rule.{Rule as Name}

@@ -1,24 +1,22 @@
 -- A node that comes back over its own journal is sound, and stands for the restart of its records.
-use Rattle.std.proofs.Common.{◌≡◌, ℕ, zero, suc, ◌<◌, ◌≤◌, List, [], ◌∷◌, All, Bool, None, map, reverse, length, get_or, inl, inr, refl, sym, ap, subst, ◌∙◌, arith}
+use Rattle.std.proofs.Common.{◌≡◌, ℕ, ◌<◌, ◌≤◌, List, [], Bool, None, map, reverse, length, get_or, refl, sym, ap, subst, ◌∙◌, arith}
 use Rattle.std.proofs.lemmas.List.{reverse-reverse}
 use Rattle.std.proofs.lemmas.List.Elements.{All-map}
-use Rattle.transactions.specs.Grammar.{IsValue}
 use Rattle.authenticators.specs.Ring.{Ring, IsWhole}
 use Rattle.protocol.specs.Tags.{Validator}
-use Rattle.protocol.specs.Messages.{◌∈◌, Act, Proposing, Prevoting, Precommitting, Body, Bundle, Record, Own, body_of}
+use Rattle.protocol.specs.Messages.{Act, Body, Bundle, Record, Own, body_of}
 use Rattle.protocol.specs.Records.{act_of}
 use Rattle.protocol.specs.Refusals.{context}
 use Rattle.protocol.specs.Restart.{own_since, restart, opened}
 use Rattle.protocol.specs.declared.records.OwnMessage.{OwnMessage}
 use Rattle.protocol.specs.Effects.{bundles_in}
 use Rattle.round_states.specs.Machine.{Machine, Agrees}
-use Rattle.round_states.specs.Replaying.{HasProposedValue}
 use Rattle.height_catchup.specs.Kept.{IsInPlace}
 use Rattle.height_catchup.proofs.Places.{in_place}
-use Rattle.vote_journal.specs.Grammar.{IsDecision, IsRecord}
+use Rattle.vote_journal.specs.Grammar.{IsRecord}
 use Rattle.vote_journal.specs.Layout.{IsWhole as IsWholeJournal}
 use Rattle.vote_journal.specs.Laws.{IsLawful}
-use Rattle.vote_journal.specs.Kept.{said, journal_of, IsToldBy, AreReplayable}
+use Rattle.vote_journal.specs.Kept.{journal_of, IsToldBy, AreReplayable}
 use Rattle.vote_journal.proofs.Kept.{told, lawful_opened, kept_holds}
 use Rattle.vote_journal.specs.Order.{AreLawful}
 use Rattle.vote_journal.proofs.Layouts.{lawful_records}

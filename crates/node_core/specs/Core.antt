@@ -1,5 +1,5 @@
 -- What callers see of a node's core, and which node of the definitions it stands for.
-use Rattle.std.specs.Prelude.{◌≡◌, ℕ, ◌<◌, ◌≤◌, Bool, true, false, cond, List, [], All, flat_map, length, reverse, Option, Some, None, is_some}
+use Rattle.std.specs.Prelude.{◌≡◌, ℕ, ◌<◌, ◌≤◌, true, false, cond, List, [], All, flat_map, length, reverse, Option, Some, None, is_some}
 use Rattle.transactions.specs.Grammar.{IsTx, AreTags}
 use Rattle.messages.specs.Grammar.{IsBody, IsBundle}
 use Rattle.messages.specs.Framing.{frame_spelling}

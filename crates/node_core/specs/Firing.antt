@@ -1,5 +1,5 @@
 -- What a firing is made of.
-use Rattle.std.specs.Prelude.{◌≡◌, ℕ, ◌<◌, ◌^◌, Bool, true, false, List, [], ◌∷◌, ◌++◌, length, map, option_to_list, Option, Some, None, IfSome}
+use Rattle.std.specs.Prelude.{◌≡◌, ℕ, Bool, true, false, List, [], ◌∷◌, ◌++◌, map, option_to_list, Option, Some, None, IfSome}
 use Rattle.messages.specs.Grammar.{IsBody}
 use Rattle.transactions.specs.Grammar.{IsValue}
 use Rattle.protocol.specs.Messages.{Body, Bundle, Record, Own, Decided, body_of}

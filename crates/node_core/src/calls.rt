@@ -15,7 +15,7 @@ ghost use Rattle.node_core.specs.Calls.{IsDone, IsBroken, LeavesBy, IsTaken, IsU
 
 use crate::node::NodeCore;
 use crate::outlet::Outlet;
-use frame_admission::{InTurn, Tagger, admit, frame_for};
+use frame_admission::{Examined, InTurn, Tagger, frame_for};
 use messages::{Ask, Body, FrameReader};
 use protocol::{Refusal, Timeout};
 use round_machine::{Rule, holds_timeout, timeout_refusal};
@@ -48,9 +48,27 @@ impl<S: Store + Drop> NodeCore<S> {
         ensures journal { TellsJournal result self.old.journal self.new.journal }
         ensures quiet { OnOk result (enabled self.new.machine.powers self.new.machine.state ≡ None) }
     {
+        let examined = Examined::new(self.alloc, &self.ring, frame);
+        self.handle_examined(tagger, examined)
+    }
+
+    /// As `handle_with` of a frame that was examined: what was found of it under keys of this node isn't found once more. The keys may be
+    /// any: where they aren't the node's, it finds all by itself.
+    pub fn handle_examined<T: Tagger + Outlet>(
+        &mut self,
+        tagger: &T,
+        examined: Examined<'_>,
+    ) -> Result<(), Refusal>
+        ensures answer { (n : Node) → Stands n self.old → Answers self.old.journal.failed (answer (setting_of self.old) self.old.machine.me n examined.entry) result }
+        ensures done { (n : Node) → Stands n self.old → IsDone n (Given examined.entry) result self.old self.new }
+        ensures broken { result ≡ Err Refusal.JournalFailed → (n : Node) → Stands n self.old → IsBroken n (Given examined.entry) self.old self.new }
+        ensures refused { IfErr result (λ r. (r ≡ Refusal.OutOfMemory) ⊎ (r ≡ Refusal.JournalFailed) ⊎ IsUnchanged self.old self.new) }
+        ensures journal { TellsJournal result self.old.journal self.new.journal }
+        ensures quiet { OnOk result (enabled self.new.machine.powers self.new.machine.state ≡ None) }
+    {
         self.begin()?;
-        let message = admit(self.alloc, &self.ring, frame)?;
-        self.take(message)?;
+        let let_in = examined.let_in(&self.ring)?;
+        self.take(tagger, let_in)?;
         self.fire_all(tagger)
     }
 

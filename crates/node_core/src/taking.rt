@@ -1,10 +1,11 @@
 //! What comes is taken in, or refused.
 
-ghost use Rattle.std.specs.Prelude.{◌≡◌, ◌++◌, ◌∷◌, ◌||◌, [], true, false, None, Err, IfOk, IfErr, IfSome, OnOk, OnErr, is_some, map, nat_lt, option_to_list};
+ghost use Rattle.std.specs.Prelude.{◌≡◌, ℕ, Bool, List, ◌++◌, ◌∷◌, ◌||◌, [], true, false, None, Err, IfOk, IfErr, IfSome, OnOk, OnErr, is_some, map, nat_lt, option_to_list};
 ghost use Rattle.transactions.specs.Grammar.{IsTxBody, IsValue, AreTags};
 ghost use Rattle.messages.specs.Grammar.{IsBundle, body_spelling};
-ghost use Rattle.messages.specs.Framing.{IsMessage};
-ghost use Rattle.protocol.specs.Tags.{Validator, right};
+ghost use Rattle.protocol.specs.Values.{id as id_of};
+ghost use Rattle.protocol.specs.Tags.{Setting, Validator, right, tx_is_right};
+ghost use Rattle.protocol.specs.Rings.{IsRingOf};
 ghost use Rattle.protocol.specs.Messages.{OfProposal, OfVote, OfAsk};
 ghost use Rattle.protocol.specs.State.{Node, DecideByBundle};
 ghost use Rattle.protocol.specs.Rules.{holds, keeping};
@@ -12,6 +13,8 @@ ghost use Rattle.protocol.specs.Queues.{queued};
 ghost use Rattle.protocol.specs.Arrivals.{kept_message, replies, bundles_of, received, firing};
 ghost use Rattle.protocol.specs.Refusals.{first_cause, answering, NotQueued, tx_causes, proposal_causes, vote_causes, ask_causes, bundle_causes};
 ghost use Rattle.frame_admission.specs.Gate.{gate_causes, state_causes};
+ghost use Rattle.frame_admission.specs.Examined.{IsLawful, found_of};
+ghost use Rattle.frame_admission.specs.declared.examined.Found.TheVariants as founds;
 ghost use Rattle.round_machine.specs.Bundling.{Came};
 ghost use Rattle.node_core.specs.Core.{Stands, setting_of, context_of, frame_by};
 ghost use Rattle.protocol.specs.Answers.{IsAnswer};
@@ -20,50 +23,59 @@ ghost use Rattle.node_core.specs.Calls.{IsReceived, Leaves, IsRefused, IsUnfired
 use crate::carrying::Spelled;
 use crate::firing::{make_room, note, push_one};
 use crate::node::NodeCore;
-use frame_admission::{InTurn, frame_for};
+use frame_admission::{Found, InTurn, LetIn, Tagger, frame_with};
 use height_catchup::{certified, judge};
 use messages::{Ask, Body, Bundle, Message, Proposal, Vote};
 use protocol::{MOST_HEIGHT, Refusal};
 use round_machine::plan_by_bundle;
 use state_journal::{Fired, carry_out};
 use std::alloc::AllocError;
-use transactions::{Duplicate, Seq, Tx};
+use transactions::{Duplicate, Id, Seq, Tx};
 use vote_journal::Store;
 
 impl<S: Store + Drop> NodeCore<S> {
-    /// Takes an admitted message in, or tells the first cause against it.
-    pub(crate) fn take(&mut self, message: Message) -> Result<(), Refusal>
-        requires spelled { IsMessage message }
-        requires admitted { first_cause (gate_causes (setting_of self.old) self.old.machine.me message.body message.tags) ≡ None }
+    /// Takes in a message that was let in, or tells the first cause against it.
+    pub(crate) fn take<T: Tagger>(&mut self, tagger: &T, let_in: LetIn) -> Result<(), Refusal>
+        requires lawful { IsLawful let_in }
+        requires admitted { first_cause (gate_causes (setting_of self.old) self.old.machine.me let_in.message.body let_in.message.tags) ≡ None }
+        requires found { (c : Setting) (p : ℕ) → IsRingOf c p self.old.ring → let_in.found ≡ found_of c p let_in.message let_in.message.body }
         requires running { self.old.journal.failed ≡ false }
-        ensures answer { (n : Node) → Stands n self.old → IsAnswer (first_cause (state_causes (setting_of self.old) self.old.machine.me n message message.body)) result }
-        ensures ok { OnOk result ((n : Node) → Stands n self.old → IsReceived n message self.old self.new) }
-        ensures broken { result ≡ Err Refusal.JournalFailed → (n : Node) → Stands n self.old → Leaves self.old.machine.powers self.old.machine.me n.journal (option_to_list (received (setting_of self.old) self.old.machine.me n message message.body).wrote) self.new.journal }
+        ensures answer { (n : Node) → Stands n self.old → IsAnswer (first_cause (state_causes (setting_of self.old) self.old.machine.me n let_in.message let_in.message.body)) result }
+        ensures ok { OnOk result ((n : Node) → Stands n self.old → IsReceived n let_in.message self.old self.new) }
+        ensures broken { result ≡ Err Refusal.JournalFailed → (n : Node) → Stands n self.old → Leaves self.old.machine.powers self.old.machine.me n.journal (option_to_list (received (setting_of self.old) self.old.machine.me n let_in.message let_in.message.body).wrote) self.new.journal }
         ensures fired { self.new.fired ≡ self.old.fired }
         ensures journal { TellsJournal result self.old.journal self.new.journal }
         ensures err { IfErr result (λ r. IsRefused r self.old self.new) }
     {
-        let Message { body, tags } = message;
+        let LetIn {
+            message: Message { body, tags },
+            found,
+        } = let_in;
         match body {
-            Body::Tx(tx) => self.take_tx(tx, tags),
-            Body::Proposal(proposal) => self.take_proposal(proposal),
+            Body::Tx(tx) => self.take_tx(tx, tags, is_right(found)),
+            Body::Proposal(proposal) => self.take_proposal(proposal, id(found)),
             Body::Vote(vote) => self.take_vote(vote, tags),
-            Body::Ask(ask) => self.take_ask(ask),
+            Body::Ask(ask) => self.take_ask(tagger, ask),
             Body::Bundle(bundle) => self.take_bundle(bundle),
         }
     }
 
     /// A transaction is queued, with the message's tags.
-    fn take_tx(&mut self, tx: Tx, tags: Seq<[u8; 32]>) -> Result<(), Refusal>
+    fn take_tx(&mut self, tx: Tx, tags: Seq<[u8; 32]>, is_right: bool) -> Result<(), Refusal>
         requires body { IsTxBody tx }
         requires tags { AreTags tags }
+        requires right { (c : Setting) (p : ℕ) → IsRingOf c p self.old.ring → is_right ≡ tx_is_right c p (record tx { tags = tags }) }
         ensures answer { (n : Node) → Stands n self.old → IsAnswer (first_cause (answering NotQueued (tx_causes (setting_of self.old) self.old.machine.me n.state.delivered n.queues (record tx { tags = tags })))) result }
         ensures ok { OnOk result (self.new ≡ record self.old { queues = queued (record tx { tags = tags }) self.old.queues }) }
         ensures journal { TellsJournal result self.old.journal self.new.journal }
         ensures err { OnErr result (self.new ≡ self.old) }
     {
         let tx = Tx { tags, ..tx };
-        Ok(self.mempool.submit(tx, &self.ring, self.state.frontier())?)
+        let frontier = self.state.frontier();
+        Ok(
+            self.mempool
+                .submit_found(tx, is_right, &self.ring, frontier)?,
+        )
     }
 
     /// A vote is kept, with its tags.
@@ -81,8 +93,9 @@ impl<S: Store + Drop> NodeCore<S> {
     }
 
     /// A proposal is kept, with the answer whether its transactions' own tags are right.
-    fn take_proposal(&mut self, proposal: Proposal) -> Result<(), Refusal>
-        requires { IsValue proposal.value }
+    fn take_proposal(&mut self, proposal: Proposal, id: Id) -> Result<(), Refusal>
+        requires fits { IsValue proposal.value }
+        requires id { id ≡ id_of proposal.value }
         ensures answer { IsAnswer (first_cause (proposal_causes self.old.machine.powers self.old.machine.me self.old.machine.state proposal)) result }
         ensures ok { OnOk result (self.new.machine.state ≡ keeping self.old.machine.state (OfProposal proposal)) }
         ensures beside { IsBeside self.old self.new }
@@ -91,7 +104,7 @@ impl<S: Store + Drop> NodeCore<S> {
     {
         self.state.check_proposal(&proposal)?;
         let genuine = self.is_genuine(&proposal);
-        self.state.take_proposal(proposal, genuine)?;
+        self.state.take_proposal(proposal, id, genuine)?;
         Ok(())
     }
 
@@ -107,14 +120,14 @@ impl<S: Store + Drop> NodeCore<S> {
     }
 
     /// An ask for a height below the own one is answered by its decision.
-    fn take_ask(&mut self, ask: Ask) -> Result<(), Refusal>
+    fn take_ask<T: Tagger>(&mut self, tagger: &T, ask: Ask) -> Result<(), Refusal>
         ensures answer { IsAnswer (first_cause (ask_causes self.old.machine.state ask)) result }
         ensures ok { OnOk result ((n : Node) → Stands n self.old → self.new ≡ record self.old { outgoing = self.old.outgoing ++ map (frame_by self.old) (replies n (OfAsk ask)) }) }
         ensures fired { self.new.fired ≡ self.old.fired }
         ensures journal { TellsJournal result self.old.journal self.new.journal }
         ensures err { OnErr result (self.new ≡ self.old) }
     {
-        match self.frame_of_decision(ask.height)? {
+        match self.frame_of_decision(tagger, ask.height)? {
             None => Err(Refusal::OtherHeight),
             Some(frame) => {
                 self.outgoing.reserve(1)?;
@@ -125,7 +138,11 @@ impl<S: Store + Drop> NodeCore<S> {
     }
 
     /// The frame of the decision of a height below the own one.
-    fn frame_of_decision(&self, height: u64) -> Result<Option<Vec<u8>>, AllocError>
+    fn frame_of_decision<T: Tagger>(
+        &self,
+        tagger: &T,
+        height: u64,
+    ) -> Result<Option<Vec<u8>>, AllocError>
         ensures below { IfOk result (λ frame. is_some frame ≡ nat_lt height self.now.machine.state.height) }
         ensures frame { IfOk result (λ frame. IfSome frame (λ f. (n : Node) → Stands n self.now → map (frame_by self.now) (bundles_of height n.journal) ≡ f.items ∷ [])) }
     {
@@ -135,7 +152,7 @@ impl<S: Store + Drop> NodeCore<S> {
             None => Ok(None),
             Some(bundle) => {
                 let body = Body::Bundle(bundle.copy(self.alloc)?);
-                Ok(Some(frame_for(self.alloc, &self.ring, &body)?))
+                Ok(Some(frame_with(self.alloc, tagger, &self.ring, &body)?))
             }
         }
     }
@@ -196,5 +213,27 @@ impl<S: Store + Drop> NodeCore<S> {
             &mut self.said,
         );
         Ok(())
+    }
+}
+
+/// Whether a transaction's tag is right, as it was found.
+fn is_right(found: Found) -> bool
+    ensures { (right : Bool) → found ≡ founds.Tx right → result ≡ right }
+{
+    match found {
+        Found::Tx(is_right) => is_right,
+        Found::Proposal(_) | Found::Nothing => false,
+    }
+}
+
+/// The id of a proposal's value, as it was found.
+fn id(found: Found) -> Id
+    requires { (x : List ℕ) × (found ≡ founds.Proposal x) }
+    ensures { (x : List ℕ) → found ≡ founds.Proposal x → result ≡ x }
+{
+    match found {
+        Found::Proposal(id) => id,
+        Found::Tx(_) => unreachable!(),
+        Found::Nothing => unreachable!(),
     }
 }

@@ -18,7 +18,7 @@ use crate::telling::{listen, tell_until_end};
 use authenticators::{KeyRing, Party};
 use counted_links::{CountedLinks, OpenLinks};
 use journal_file::FileStore;
-use key_files::{memory_or, read_ring};
+use key_files::{memory_or, read_rings};
 use leveled_runtime::Leveled;
 use locked_node::{LockedNode, Subscription, words_for};
 use log::{Log, info, warn};
@@ -86,7 +86,7 @@ pub(crate) fn run<
         level: settings.level,
     };
     let meters = Meters::new();
-    let core = validator_of(rt, &settings, &meters)?;
+    let (core, keys) = validator_of(rt, &settings, &meters)?;
     info!(&logged;
         "validator {} is at height {}, with {} decisions in its journal",
         settings.me,
@@ -99,7 +99,7 @@ pub(crate) fn run<
     };
     let service = service_of(&logged, &settings, &meters)?;
     serve_core::<MeteredStore<'_, FileStore, R>, Brand, W, Leveled<'_, R>>(
-        &logged, core, opened, service, out,
+        &logged, core, keys, opened, service, out,
     )
 }
 
@@ -114,24 +114,25 @@ fn warn_of_turns<R: Log>(rt: &R, powers: &Powers) {
     }
 }
 
-/// The validator of these settings, which comes back over the journal in its file. The syncs of the file are counted.
+/// The validator of these settings, which comes back over the journal in its file, and its keys. The syncs of the file are counted.
 fn validator_of<'a, R: Files<File = File> + Clock + AllocGlobal>(
     rt: &'a R,
     settings: &RunSettings<'_>,
     meters: &'a Meters,
-) -> Result<NodeCore<MeteredStore<'a, FileStore, R>>, Failure>
+) -> Result<(NodeCore<MeteredStore<'a, FileStore, R>>, KeyRing), Failure>
     requires { IsLawfulRun settings.now }
-    ensures { IfOk result (λ core. IsOpenedInFile settings.now.powers settings.now.me core) }
+    ensures { IfOk result (λ opened. IsOpenedInFile settings.now.powers settings.now.me opened.0) }
 {
     let alloc = rt.alloc();
     let Ok(powers) = settings.powers.copy(alloc) else {
         return Err(Failure::OutOfMemory);
     };
     let me = settings.me;
-    let ring = read_ring(rt, settings.keys, Party::Validator(me), powers.count())?;
+    let (ring, keys) = read_rings(rt, settings.keys, Party::Validator(me), powers.count())?;
     let file = FileStore::open(rt, settings.journal).map_err(unopened)?;
     let store = MeteredStore::new(file, meters, rt);
-    open_metered(alloc, Config { me, powers }, ring, store)
+    let core = open_metered(alloc, Config { me, powers }, ring, store)?;
+    Ok((core, keys))
 }
 
 /// The validator that comes back over the journal in a file whose syncs are counted.
@@ -231,13 +232,20 @@ fn serve_core<
         + Net<Stream = TcpStream, Listener = TcpListener>
         + AllocGlobal
         + Sync,
->(rt: &R, core: NodeCore<S>, opened: Opened, service: Service<'_, R>, out: W) -> Result<u8, Failure>
+>(
+    rt: &R,
+    core: NodeCore<S>,
+    keys: KeyRing,
+    opened: Opened,
+    service: Service<'_, R>,
+    out: W,
+) -> Result<u8, Failure>
     requires named { opened_table opened ≡ J.table }
     requires words { opened_words opened ≡ opened_at core.machine.state.height (count_of core) }
     requires stands { (n : ProtocolNode) × Stands n core }
     ensures { IfOk result (λ status. status ≡ 0) }
 {
-    let node = LockedNode::<S, J>::new(rt.alloc(), opened, core);
+    let node = LockedNode::<S, J>::new(rt.alloc(), opened, core, keys);
     let delivered = node.status(&mut node.seat(rt)).delivered;
     let span = Span {
         taken: service.from.min(delivered),

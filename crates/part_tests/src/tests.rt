@@ -1,6 +1,7 @@
 //! What a node keeps of transactions and decisions, and what it lets in.
 
 mod bundles;
+mod examined;
 mod frames;
 mod queues;
 mod sessions;

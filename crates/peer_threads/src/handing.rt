@@ -5,6 +5,7 @@ use crate::beside::Beside;
 use crate::shared::{Ending, Shared};
 use bytes::Bytes;
 use edge_frames::LinkId;
+use frame_admission::Examined;
 use locked_node::{Done, Event, HeldNode};
 use log::Log;
 use messages::{FrameReader, WholeFrames};
@@ -53,7 +54,7 @@ impl<S: Store + Drop, J: Node, C: Clock> Shared<'_, S, J, C> {
         let count = count_together(frames.whole_frames());
         if count > 0 {
             let mut answers = Answers::new();
-            self.hand_in_together(rt, seat, frames.whole_frames(), count, &mut answers);
+            self.hand_in_together(rt, seat, frames, count, &mut answers);
             self.count_refusals(&answers);
             self.note_all(rt, link, frames, &answers);
             if answers.tell_halt() {
@@ -86,22 +87,40 @@ impl<S: Store + Drop, J: Node, C: Clock> Shared<'_, S, J, C> {
         !is_for_node
     }
 
+    /// Examines so many frames, before the node's lock is taken. Where there is no memory for them, the list is empty.
+    fn examine<'e>(&self, mut frames: WholeFrames<'e>, count: usize) -> Vec<Examined<'e>> {
+        let Ok(mut examined) = Vec::with_capacity(self.alloc, count) else {
+            return Vec::new(self.alloc);
+        };
+        for _ in 0..count {
+            let Some(frame) = frames.next_whole() else {
+                break;
+            };
+            if examined.push(self.node.examine(frame)).is_err() {
+                break;
+            }
+        }
+        examined
+    }
+
     /// Hands in so many frames, one behind the other, and queues what the node released for them, while the node's lock is held.
     fn hand_in_together<R: Threads + Wait + time::Clock + Log + Sync>(
         &self,
         rt: &R,
         seat: &mut Seat<J>,
-        mut frames: WholeFrames<'_>,
+        frames: &FrameReader,
         count: usize,
         answers: &mut Answers,
     ) {
+        let examined = self.examine(frames.whole_frames(), count);
+        if examined.is_empty() {
+            self.hand_in_first(rt, seat, frames.whole_frames(), answers);
+            return;
+        }
         let beside = Beside::new(rt, self);
         let mut node = self.node.hold(rt);
-        for _ in 0..count {
-            let Some(frame) = frames.next_whole() else {
-                break;
-            };
-            answers.add(&node.call(rt, &beside, seat, Event::Frame(frame)));
+        for frame in examined {
+            answers.add(&node.take_in(rt, &beside, seat, frame));
         }
         if let Some(height) = answers.height_of_released() {
             self.queue_released(rt, &mut node, height);
@@ -118,6 +137,36 @@ impl<S: Store + Drop, J: Node, C: Clock> Shared<'_, S, J, C> {
         let beside = Beside::new(rt, self);
         let mut node = self.node.hold(rt);
         let done = node.call(rt, &beside, seat, event);
+        if may_release(done.answer()) {
+            self.queue_released(rt, &mut node, done.status().height);
+        }
+        done
+    }
+
+    /// Hands in the first of these frames.
+    fn hand_in_first<R: Threads + Wait + time::Clock + Log + Sync>(
+        &self,
+        rt: &R,
+        seat: &mut Seat<J>,
+        mut frames: WholeFrames<'_>,
+        answers: &mut Answers,
+    ) {
+        if let Some(frame) = frames.next_whole() {
+            answers.add(&self.hand_in(rt, seat, frame));
+        }
+    }
+
+    /// Hands in a frame, and queues what the node released, while its lock is held.
+    fn hand_in<'e, R: Threads + Wait + time::Clock + Log + Sync>(
+        &self,
+        rt: &R,
+        seat: &mut Seat<J>,
+        frame: &'e [u8],
+    ) -> Done<'e> {
+        let examined = self.node.examine(frame);
+        let beside = Beside::new(rt, self);
+        let mut node = self.node.hold(rt);
+        let done = node.take_in(rt, &beside, seat, examined);
         if may_release(done.answer()) {
             self.queue_released(rt, &mut node, done.status().height);
         }
@@ -169,7 +218,7 @@ impl<S: Store + Drop, J: Node, C: Clock> Shared<'_, S, J, C> {
         link: LinkId,
         frame: &Bytes,
     ) {
-        let done = self.call(rt, seat, Event::Frame(frame));
+        let done = self.hand_in(rt, seat, frame);
         let (answer, status) = (done.answer(), done.status());
         self.heed(rt, answer);
         let now = self.clock.now_ms(rt);

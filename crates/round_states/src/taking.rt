@@ -20,11 +20,11 @@ use crate::state::{KeptProposal, State};
 use messages::{Precommit, Proposal, Step, Vote};
 use protocol::{MOST_ROUNDS, ROUNDS_AHEAD, Refusal, Stamp};
 use std::alloc::{AllocError, Global};
-use transactions::{Duplicate, Id, Seq, value_id};
+use transactions::{Duplicate, Id, Seq};
 use vote_tally::Tally;
 
 impl State {
-    /// The first cause against keeping a proposal, found before anything of it is hashed.
+    /// The first cause against keeping a proposal.
     ///
     /// It takes no memory.
     pub fn check_proposal(&self, proposal: &Proposal) -> Result<(), Refusal>
@@ -55,12 +55,17 @@ impl State {
         Ok(())
     }
 
-    /// Keeps a proposal of a known sender. `genuine` says whether the own tags of its transactions are right:
-    /// nobody asks of one with a valid round. The id of its value and whether it may be delivered next are
+    /// Keeps a proposal of a known sender. `id` is its value's, and `genuine` says whether the own tags of its
+    /// transactions are right: nobody asks of one with a valid round. Whether it may be delivered next is
     /// found here, once. What there was room for is forgotten, also where it is refused.
-    #[tactic(auto, unfolding(protocol::specs::Values::id))]
-    pub fn take_proposal(&mut self, proposal: Proposal, genuine: bool) -> Result<(), Refusal>
-        requires { IsValue proposal.value }
+    pub fn take_proposal(
+        &mut self,
+        proposal: Proposal,
+        id: Id,
+        genuine: bool,
+    ) -> Result<(), Refusal>
+        requires fits { IsValue proposal.value }
+        requires id { id ≡ name_of proposal.value }
         ensures answer { IsAnswer (first_cause (proposal_causes self.old.powers self.old.me self.old.state proposal)) result }
         ensures ok { OnOk result (self.new ≡ with_proposal self.old proposal genuine) }
         ensures agrees { (g : Context) → Agrees g self.old → IsTold g proposal genuine → Agrees g self.new }
@@ -68,7 +73,6 @@ impl State {
     {
         self.forget_room();
         self.check_proposal(&proposal)?;
-        let id = value_id(self.alloc, &proposal.value).map_err(|_| Refusal::OutOfMemory)?;
         self.keep_proposal(proposal, id, genuine)?;
         Ok(())
     }

@@ -148,6 +148,7 @@ fn vote_in(body: Option<Body>) -> Option<Vote> {
 }
 
 /// Why a fresh proposal is refused, if it is: after its height, its round, its sender and its value's number.
+#[tactic(auto, unfolding(protocol::specs::Values::id))]
 fn propose(
     rt: &impl Abort,
     alloc: Global,
@@ -161,7 +162,8 @@ fn propose(
         valid_round: None,
         value: value_of(rt, alloc, number),
     };
-    state.take_proposal(arrived, true).err()
+    let id = value_id(alloc, &arrived.value).expect(rt, "it has a spelling");
+    state.take_proposal(arrived, id, true).err()
 }
 
 /// Why a vote of validator 1 for nil is refused, if it is.

@@ -115,10 +115,14 @@ impl Validator {
     }
 
     /// Takes a proposal in.
+    #[tactic(auto, unfolding(protocol::specs::Values::id))]
     fn hear(&mut self, proposal: Proposal) -> Result<(), Refusal>
         requires { IsValue proposal.value }
     {
-        self.state.take_proposal(proposal, self.genuine)
+        let Ok(id) = value_id(self.alloc, &proposal.value) else {
+            return Err(Refusal::OutOfMemory);
+        };
+        self.state.take_proposal(proposal, id, self.genuine)
     }
 
     /// Takes a vote in, with one tag.

@@ -50,7 +50,7 @@ pub(crate) fn four(alloc: Global) -> Result<Powers, BenchFault>
 }
 
 /// Its keys.
-fn ring(alloc: Global, clients: u16) -> Result<KeyRing, BenchFault>
+pub(crate) fn ring(alloc: Global, clients: u16) -> Result<KeyRing, BenchFault>
     ensures { IfOk result (λ ring. (ring.me ≡ Validator 3) × (ring.count ≡ 4)) }
 {
     let text = key_file(alloc, clients)?;

@@ -1,7 +1,6 @@
-use Rattle.std.proofs.Common.{◌≡◌, ℕ, ◌+◌, ◌≤◌, length, take, arith, true, false, refl, sym, ◌∙◌, ap, subst}
+use Rattle.std.proofs.Common.{◌+◌, ◌≤◌, length, arith, refl, sym, ◌∙◌, subst}
 use Rattle.std.proofs.lemmas.List.{take_all}
 use Rattle.protocol.specs.declared.standing.Standing.{Standing}
-use Rattle.protocol.specs.Values.{item, fits}
 use Rattle.mempool.proofs.Standings.{GoesOn, one_more, stops, all_go_on}
 use Rattle.mempool.proofs.count_going_on.Goals as goal
 

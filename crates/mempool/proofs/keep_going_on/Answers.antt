@@ -1,7 +1,6 @@
-use Rattle.std.proofs.Common.{rules, ◌≡◌, List, filter, take, refl, sym, ◌∙◌, ap}
+use Rattle.std.proofs.Common.{rules, ◌≡◌, filter, take, sym, ◌∙◌, ap}
 use Rattle.std.proofs.lemmas.Fn.{filter_same}
-use Rattle.protocol.specs.Values.{Tx}
-use Rattle.protocol.specs.Queues.{is_above, going_on, still_waiting}
+use Rattle.protocol.specs.Queues.{is_above, going_on}
 use Rattle.mempool.proofs.keep_going_on.Goals as goal
 
 pub returns : goal.returns

@@ -25,12 +25,12 @@ v0 v1 0101010101010101010101010101010101010101010101010101010101010101\n\
 c7 v1 7171717171717171717171717171717171717171717171717171717171717171\n";
 
 /// Validator 1 proposes the empty value at height 0 and round 1.
-const PROPOSAL: [u8; 21] = [
+pub(super) const PROPOSAL: [u8; 21] = [
     0x10, 0, 0, 0, 0, 0, 0, 0, 0, 0, 0, 0, 1, 0, 1, 0, 0, 0, 0, 0, 0,
 ];
 
 /// Validator 1 prevotes nil at height 0 and round 0.
-const PREVOTE: [u8; 16] = [0x11, 0, 0, 0, 0, 0, 0, 0, 0, 0, 0, 0, 0, 0, 1, 0];
+pub(super) const PREVOTE: [u8; 16] = [0x11, 0, 0, 0, 0, 0, 0, 0, 0, 0, 0, 0, 0, 0, 1, 0];
 
 /// Validator 1 asks for height 5.
 const ASK: [u8; 11] = [0x13, 0, 0, 0, 0, 0, 0, 0, 5, 0, 1];
@@ -44,7 +44,7 @@ const BUNDLE: [u8; 50] = [
 ];
 
 /// The tags of the prevote, for validator 0 and validator 1.
-const PREVOTE_TAGS: [[u8; 32]; 2] = [
+pub(super) const PREVOTE_TAGS: [[u8; 32]; 2] = [
     [
         0x69, 0x10, 0xdc, 0xba, 0xba, 0xbd, 0xb9, 0xa3, 0xb2, 0x83, 0x9a, 0x92, 0x4a, 0xf5, 0x2b,
         0x93, 0xe2, 0x7e, 0xe1, 0x7d, 0xaf, 0xbc, 0x57, 0x8a, 0xee, 0x6a, 0x91, 0x4e, 0x12, 0x60,
@@ -72,21 +72,21 @@ const PRECOMMIT_TAGS: [[u8; 32]; 2] = [
 ];
 
 /// A body of each kind but a transaction.
-const VECTORS: [&[u8]; 4] = [&PROPOSAL, &PREVOTE, &ASK, &BUNDLE];
+pub(super) const VECTORS: [&[u8]; 4] = [&PROPOSAL, &PREVOTE, &ASK, &BUNDLE];
 
 /// Client 7's transactions 1, for the byte `a`, and 2, a close.
-const ONE_BYTE: [u8; 15] = [1, 0, 7, 0, 0, 0, 0, 0, 0, 0, 1, 0, 0, 1, b'a'];
+pub(super) const ONE_BYTE: [u8; 15] = [1, 0, 7, 0, 0, 0, 0, 0, 0, 0, 1, 0, 0, 1, b'a'];
 
-const CLOSE: [u8; 12] = [1, 0, 7, 0, 0, 0, 0, 0, 0, 0, 2, 1];
+pub(super) const CLOSE: [u8; 12] = [1, 0, 7, 0, 0, 0, 0, 0, 0, 0, 2, 1];
 
 /// The keys of validator 0.
-fn first<R: Abort + AllocGlobal>(rt: &R) -> KeyRing {
+pub(super) fn first<R: Abort + AllocGlobal>(rt: &R) -> KeyRing {
     let ring = KeyRing::read(rt.alloc(), FIRST_KEYS.as_bytes(), Party::Validator(0), 2);
     ring.expect(rt, "these are keys")
 }
 
 /// The keys of validator 1.
-fn second<R: Abort + AllocGlobal>(rt: &R) -> KeyRing {
+pub(super) fn second<R: Abort + AllocGlobal>(rt: &R) -> KeyRing {
     let ring = KeyRing::read(rt.alloc(), SECOND_KEYS.as_bytes(), Party::Validator(1), 2);
     ring.expect(rt, "these are keys")
 }
@@ -101,7 +101,7 @@ fn joined<R: Abort + AllocGlobal>(rt: &R, parts: &[&[u8]]) -> Vec<u8> {
 }
 
 /// Ends the test where other bytes were found than are wanted.
-fn assert_bytes<R: Abort>(rt: &R, found: &[u8], wanted: &[u8]) {
+pub(super) fn assert_bytes<R: Abort>(rt: &R, found: &[u8], wanted: &[u8]) {
     assert!(rt; found == wanted);
 }
 
@@ -127,7 +127,7 @@ fn frame_by<R: Abort + AllocGlobal>(rt: &R, ring: &KeyRing, spelled: &[u8]) -> V
 }
 
 /// The frame that validator 1 lets out of the body that is spelled so.
-fn frame_from_second<R: Abort + AllocGlobal>(rt: &R, spelled: &[u8]) -> Vec<u8> {
+pub(super) fn frame_from_second<R: Abort + AllocGlobal>(rt: &R, spelled: &[u8]) -> Vec<u8> {
     frame_by(rt, &second(rt), spelled)
 }
 

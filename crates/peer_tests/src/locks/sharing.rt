@@ -10,7 +10,7 @@ ghost use Rattle.locked_node.specs.Locked.{count_of};
 use super::frames::{bundle, close, next_session, own_bodies, proposal, vote};
 use super::leaving::Shown;
 use super::taking::{assert_first, next_of};
-use super::{MEMORY, assert_same, core_of};
+use super::{MEMORY, assert_same, core_of, ring_of};
 use locked_node::{Event, LockedNode, SubscribeFault, Subscription, words_for};
 use messages::{Step as VoteStep, spell_body};
 use node_core::NodeCore;
@@ -135,7 +135,7 @@ fn with_status<J: Node, R: Abort + Wait>(
     requires words { opened_words opened ≡ opened_at core.machine.state.height (count_of core) }
     requires stands { (n : ProtocolNode) × Stands n core }
 {
-    let node = LockedNode::<MemoryStore, J>::new(alloc, opened, core);
+    let node = LockedNode::<MemoryStore, J>::new(alloc, opened, core, ring_of(rt, alloc));
     follows_with_a_ring(rt, alloc, &node);
 }
 
@@ -295,7 +295,7 @@ fn with_rings<J: Node, R: Abort + Wait>(
     requires words { opened_words opened ≡ opened_at core.machine.state.height (count_of core) }
     requires stands { (n : ProtocolNode) × Stands n core }
 {
-    let node = LockedNode::<MemoryStore, J>::new(alloc, opened, core);
+    let node = LockedNode::<MemoryStore, J>::new(alloc, opened, core, ring_of(rt, alloc));
     delivers_five(rt, alloc, &node);
     fills_from_the_beginning(rt, &node);
     fills_from_within(rt, &node);

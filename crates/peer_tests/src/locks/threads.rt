@@ -9,7 +9,7 @@ ghost use Rattle.locked_node.specs.Locked.{count_of};
 
 use super::frames::bundle;
 use super::sharing::subscribe;
-use super::{MEMORY, assert_same, core_of};
+use super::{MEMORY, assert_same, core_of, ring_of};
 use locked_node::{LockedNode, Subscription, words_for};
 use node_core::NodeCore;
 use status_words::{Node, Opened, Status};
@@ -136,7 +136,7 @@ fn with_threads<J: Node + Send + Sync, R: Abort + Threads + Wait + Sync>(
     requires words { opened_words opened ≡ opened_at core.machine.state.height (count_of core) }
     requires stands { (n : ProtocolNode) × Stands n core }
 {
-    let node = LockedNode::<MemoryStore, J>::new(alloc, opened, core);
+    let node = LockedNode::<MemoryStore, J>::new(alloc, opened, core, ring_of(rt, alloc));
     shares(rt, alloc, &node);
 }
 
@@ -224,7 +224,7 @@ fn with_eight_threads<J: Node + Send + Sync, R: Abort + Threads + Wait + Sync>(
     requires words { opened_words opened ≡ opened_at core.machine.state.height (count_of core) }
     requires stands { (n : ProtocolNode) × Stands n core }
 {
-    let node = LockedNode::<MemoryStore, J>::new(alloc, opened, core);
+    let node = LockedNode::<MemoryStore, J>::new(alloc, opened, core, ring_of(rt, alloc));
     shares_among_eight(rt, alloc, &node);
 }
 

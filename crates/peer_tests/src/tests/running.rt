@@ -7,7 +7,7 @@ ghost use Rattle.protocol.specs.State.{Node as ProtocolNode};
 ghost use Rattle.node_core.specs.Core.{Stands};
 ghost use Rattle.locked_node.specs.Locked.{count_of};
 
-use super::core_of;
+use super::{core_of, ring_of};
 use locked_node::{LockedNode, words_for};
 use log::Log;
 use node_core::NodeCore;
@@ -179,7 +179,7 @@ fn named<J: Node + Send + Sync, R: Abort + Threads + Wait + Clock + Log + Sync>(
     requires words { opened_words opened ≡ opened_at core.machine.state.height (count_of core) }
     requires stands { (n : ProtocolNode) × Stands n core }
 {
-    let node = LockedNode::<MemoryStore, J>::new(alloc, opened, core);
+    let node = LockedNode::<MemoryStore, J>::new(alloc, opened, core, ring_of(rt, alloc));
     serve_peers(rt, alloc, &node, peers, course)
 }
 

@@ -9,7 +9,8 @@ ghost use Rattle.locked_node.specs.Locked.{count_of};
 
 use crate::fault::BenchFault;
 use crate::lock::frames::CLIENTS;
-use crate::node::new_core;
+use crate::node::{new_core, ring};
+use authenticators::KeyRing;
 use locked_node::{LockedNode, words_for};
 use node_core::NodeCore;
 use status_words::{Node, Opened};
@@ -65,7 +66,8 @@ impl<'a> Load<'a> {
     ) -> Result<Duration, BenchFault> {
         let core = new_core(self.alloc, CLIENTS)?;
         let opened = words_for(self.alloc, &core)?;
-        self.named::<Brand, _>(rt, opened, core)
+        let keys = ring(self.alloc, CLIENTS)?;
+        self.named::<Brand, _>(rt, opened, core, keys)
     }
 
     fn named<J: Node + Send + Sync, R: Clock + Threads + Wait + Sync>(
@@ -73,12 +75,13 @@ impl<'a> Load<'a> {
         rt: &R,
         opened: Opened,
         core: NodeCore<MemoryStore>,
+        keys: KeyRing,
     ) -> Result<Duration, BenchFault>
         requires named { opened_table opened ≡ J.table }
         requires words { opened_words opened ≡ opened_at core.machine.state.height (count_of core) }
         requires stands { (n : ProtocolNode) × Stands n core }
     {
-        let node = LockedNode::<MemoryStore, J>::new(self.alloc, opened, core);
+        let node = LockedNode::<MemoryStore, J>::new(self.alloc, opened, core, keys);
         self.on_node(rt, &node)
     }
 

@@ -1,4 +1,4 @@
-use Rattle.std.proofs.Common.{◌≡◌, ◌<◌, ℕ, length, arith, refl, sym, ◌∙◌, ap}
+use Rattle.std.proofs.Common.{◌<◌, length, arith, ◌∙◌, ap}
 use Rattle.std.proofs.lemmas.List.{length-map}
 use Rattle.indexmap.proofs.CallerLemmas.{index_map_len-with_value_at}
 use Rattle.protocol.specs.declared.standing.Standing.{Standing}

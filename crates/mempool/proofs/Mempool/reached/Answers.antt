@@ -1,6 +1,6 @@
-use Rattle.std.proofs.Common.{◌≡◌, ℕ, List, map, Some, sym, ◌∙◌, ap, subst}
+use Rattle.std.proofs.Common.{List, map, sym, ◌∙◌, ap}
 use Rattle.protocol.specs.Values.{Tx, item, left_after}
-use Rattle.protocol.specs.Queues.{standing_of, waiting_of}
+use Rattle.protocol.specs.Queues.{standing_of}
 use Rattle.mempool.proofs.Standings.{left_of_found}
 use Rattle.mempool.proofs.Mempool.reached.Goals as goal
 

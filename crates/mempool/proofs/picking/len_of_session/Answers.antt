@@ -1,5 +1,4 @@
-use Rattle.std.proofs.Common.{◌≡◌, ◌≤◌, ℕ, zero, suc, length, refl, sym, arith}
-use Rattle.transactions.specs.Grammar.{session_spelling}
+use Rattle.std.proofs.Common.{sym, arith}
 use Rattle.mempool.proofs.Sizes.{session_len}
 use Rattle.mempool.proofs.picking.len_of_session.Goals as goal
 

@@ -8,10 +8,10 @@ use Rattle.node_core.proofs.Known.{known}
 use Rattle.node_core.proofs.Asks.{bundle_at}
 use Rattle.node_core.proofs.node.NodeCore.frame_of_decision.Goals as goal
 
-pub returns-in_ok-frame_for-in-Some-clause-frame : goal.returns-in_ok-frame_for-in-Some-clause-frame
-returns-in_ok-frame_for-in-Some-clause-frame g c =
+pub returns-in_ok-frame_with-in-Some-clause-frame : goal.returns-in_ok-frame_with-in-Some-clause-frame
+returns-in_ok-frame_with-in-Some-clause-frame g c =
     let core : Core = seen c.self.inside in
-    let frame = c.in_ok-frame_for-in-Some.ensures (setting_of core) core.machine.me (known core c.self.invariant) in
+    let frame = c.in_ok-frame_with-in-Some.ensures (setting_of core) core.machine.me (known core c.self.invariant) in
     let copied = c.in_ok-copy-in-Some.ensures in
     rw (← c.self.view_is) (λ n s.
     let placed = subst (λ (bs : List Bundle). IsInPlace bs) s.decisions c.len.ensures.placed in

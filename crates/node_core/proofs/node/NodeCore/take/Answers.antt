@@ -1,9 +1,13 @@
-use Rattle.std.proofs.Common.{◌≡◌, None, ap, subst}
+use Rattle.std.proofs.Common.{◌≡◌, ℕ, List, None, ap, subst}
 use Rattle.std.specs.Prelude.{is_none}
 use Rattle.std.proofs.lemmas.Bool.{not-false}
-use Rattle.protocol.specs.Messages.{Body, OfVote}
+use Rattle.protocol.specs.Values.{id}
+use Rattle.protocol.specs.Messages.{Body, Proposal, OfProposal, OfVote}
 use Rattle.protocol.proofs.Arrivals.{none_stand}
 use Rattle.frame_admission.specs.Gate.{gate_causes}
+use Rattle.frame_admission.specs.Examined.{IsFoundOf, found_of}
+use Rattle.frame_admission.specs.declared.examined.Found.{Found}
+use Rattle.frame_admission.specs.declared.examined.Found.TheVariants as founds
 use Rattle.protocol.specs.State.{State}
 use Rattle.protocol.specs.Refusals.{first_cause, proposal_causes}
 use Rattle.node_core.specs.Core.{setting, setting_of}
@@ -30,11 +34,28 @@ returns-in-Vote-clause-err g c = result_refused c.take_vote.result _ _ c.take_vo
 pub returns-in-Ask-clause-err : goal.returns-in-Ask-clause-err
 returns-in-Ask-clause-err g c = result_refused c.take_ask.result _ _ c.take_ask.ensures.err
 
+-- what was found of a transaction or a proposal is so
+proposal_found : (q : Proposal) (found : Found) → IsFoundOf (OfProposal q) found → found ≡ founds.Proposal (id q.value)
+proposal_found q (founds.Proposal x) is = ap (λ (y : List ℕ). founds.Proposal y) is
+proposal_found q (founds.Tx right) is = absurd is
+proposal_found q founds.Nothing is = absurd is
+
+pub take_tx-requires-clause-right : goal.take_tx-requires-clause-right
+take_tx-requires-clause-right g c = λ s p h.
+    c.is_right.ensures _ (subst (λ (b : Body). c.args.let_in.found ≡ found_of s p c.args.let_in.message b) c.in-Tx.is (c.requires.found s p h))
+
+pub id-requires : goal.id-requires
+id-requires g c = (id c.in-Proposal.proposal.value, proposal_found c.in-Proposal.proposal c.args.let_in.found (subst (λ (b : Body). IsFoundOf b c.args.let_in.found) c.in-Proposal.is c.requires.lawful.found))
+
+pub take_proposal-requires-clause-id : goal.take_proposal-requires-clause-id
+take_proposal-requires-clause-id g c =
+    c.id.ensures (id c.in-Proposal.proposal.value) (proposal_found c.in-Proposal.proposal c.args.let_in.found (subst (λ (b : Body). IsFoundOf b c.args.let_in.found) c.in-Proposal.is c.requires.lawful.found))
+
 pub take_vote-requires-clause-right : goal.take_vote-requires-clause-right
 take_vote-requires-clause-right g c =
     let old = c.args.self.now in
-    let none = subst (λ (b : Body). first_cause (gate_causes (setting_of old) old.machine.me b c.args.message.tags) ≡ None) c.in-Vote.is c.requires.admitted in
-    not-false _ (none_stand (gate_causes (setting_of old) old.machine.me (OfVote c.in-Vote.vote) c.args.message.tags) (ap is_none none)).1.0
+    let none = subst (λ (b : Body). first_cause (gate_causes (setting_of old) old.machine.me b c.args.let_in.message.tags) ≡ None) c.in-Vote.is c.requires.admitted in
+    not-false _ (none_stand (gate_causes (setting_of old) old.machine.me (OfVote c.in-Vote.vote) c.args.let_in.message.tags) (ap is_none none)).1.0
 
 -- ---- what is not a bundle saves nothing
 

@@ -1,5 +1,0 @@
-use Rattle.std.proofs.Common.{◌∙◌}
-use Rattle.frame_admission.proofs.own_frames.frame_for.Goals as goal
-
-pub returns : goal.returns
-returns c = λ s p h. c.frame_of_body.ensures s p c.args.body.now h c.requires.own (c.deref.ensures.value ∙ c.in_ok-bytes.ensures.spelled)
