@@ -8,7 +8,7 @@ use list_client::{Connection, Sender, frame_of, item_of};
 use std::net::TcpStream;
 use std::rt::{Env, Files};
 use std::{env, fs};
-use transactions::{Op, Seq};
+use transactions::{Data, Op};
 
 const USAGE: &str =
     "usage: client_example KEYS CLIENT[.SESSION] VALIDATORS ADDRESS NUMBER TEXT, with a validator's list as input";
@@ -23,7 +23,7 @@ fn main(rt: HostRuntime) -> Result<()> {
     let validators = validators.as_str().parse().context("the validators")?;
     let keys = keys_of(&rt, keys.as_str(), sender.client, validators).context("the keys")?;
 
-    let op = Op::Bytes(Seq::from_vec(text.as_bytes().to_vec(rt.alloc())?));
+    let op = Op::Bytes(Data::from_slice(rt.alloc(), text.as_bytes())?);
     let frame = frame_of(rt.alloc(), &keys, sender, number, op).context("the transaction")?;
     let stream = TcpStream::connect(&rt, address.as_str()).context("the validator")?;
     let reply = Connection::new(rt.alloc(), stream).ask(&frame)?;

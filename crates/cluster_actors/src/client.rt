@@ -6,7 +6,7 @@ use cluster_parts::Chance;
 use messages::read_reply;
 use std::alloc::{AllocError, Global};
 use std::collections::VecDeque;
-use transactions::{Item, Op, Seq, Tx};
+use transactions::{Data, Item, Op, Seq, Tx};
 
 /// How many transactions a client has sent at most that aren't delivered.
 const MOST_OPEN: usize = 8;
@@ -280,7 +280,7 @@ fn op_of(alloc: Global, chance: &mut Chance, is_close: bool) -> Result<Op, Alloc
         return Ok(Op::Close);
     }
     let count = chance.small(0, 40);
-    Ok(Op::Bytes(Seq::from_vec(chance.bytes(alloc, count)?)))
+    Ok(Op::Bytes(Data::from_vec(chance.bytes(alloc, count)?)))
 }
 
 /// For whom a transaction's tags are right: for this validator alone, or for all.

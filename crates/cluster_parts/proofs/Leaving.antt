@@ -1,9 +1,9 @@
 -- What a stop leaves after a call of a disk's store, it left before or the call began it.
-use Rattle.std.proofs.Common.{◌≡◌, ◌⊎◌, inl, inr, ℕ, ◌+◌, ◌-◌, ◌<◌, ◌≤◌, List, ◌++◌, length, take, min, refl, sym, ap, subst, ◌∙◌, arith}
+use Rattle.std.proofs.Common.{◌≡◌, ◌⊎◌, inl, inr, ℕ, ◌+◌, ◌-◌, ◌≤◌, List, ◌++◌, length, take, min, refl, sym, ap, ◌∙◌, arith}
 use Rattle.std.proofs.lemmas.List.{take-append-le, take_all, take-take, length-take}
 use Rattle.std.proofs.Math.Seq.{take-append-add}
 use native.Mathlib.Decide.{dec_le}
-use Rattle.vote_journal.specs.Store.{Adds, Begun, NoMore, Only, Shortened}
+use Rattle.vote_journal.specs.Store.{Adds, Begun, Just, NoMore, Only, Shortened}
 use Rattle.cluster_parts.specs.declared.disk.DiskStore.{DiskStore}
 use Rattle.cluster_parts.specs.Disk.{MayLeave}
 
@@ -56,6 +56,9 @@ sync_leaves old new e f c (inr h) = h.2 ∙ take_all h.0 new.bytes.items (omega 
 
 pub no_more : (old new : DiskStore) → new.bytes.items ≡ old.bytes.items → new.floor ≡ length old.bytes.items → NoMore (MayLeave old) (MayLeave new)
 no_more old new e f c left = inl (sync_leaves old new e f c left)
+
+pub found_stands : (new : DiskStore) → new.floor ≡ length new.bytes.items → Just new.bytes.items (MayLeave new)
+found_stands new f = (inl refl, sync_leaves new new refl f)
 
 pub stays : (old new : DiskStore) → new.bytes.items ≡ old.bytes.items → new.floor ≡ old.floor → NoMore (MayLeave old) (MayLeave new)
 stays old new e f c (inl h) = inl (h ∙ e)

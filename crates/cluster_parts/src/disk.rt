@@ -1,16 +1,17 @@
 //! A store whose synced bytes outlast a stop, and of whose other bytes a beginning may.
 
 ghost use Rattle.std.specs.Prelude.{◌≡◌, ◌≤◌, ◌++◌, ℕ, true, false, length, take, min, IfErr, OnOk, OnErr, IsErrOf};
-ghost use Rattle.vote_journal.specs.Store.{Adds, Begun, Counts, CountsDevice, Grew, NoMore, Only, Shortened};
+ghost use Rattle.vote_journal.specs.Store.{Adds, Begun, Counts, CountsDevice, Grew, Just, NoMore, Only, Shortened};
 ghost use Rattle.cluster_parts.specs.Disk.{MayLeave};
 
 use crate::drive::{Drive, Strike};
 use std::alloc::Global;
-use vote_journal::{DeviceFailed, Store, StoreFault};
+use vote_journal::{DeviceFailed, Sink, Store, StoreFault};
 
 /// Bytes on a simulated disk.
 ///
-/// A stop leaves what is synced, and of what was appended behind it a beginning. A cut is lasting at once.
+/// A stop leaves what is synced, and of what was appended behind it a beginning. A cut is lasting at once, and so is all that
+/// was read.
 #[derive(Drop)]
 pub struct DiskStore {
     bytes: Vec<u8>,
@@ -155,6 +156,17 @@ impl DiskStore {
         Ok(())
     }
 
+    /// Makes all bytes lasting, as opening a file does before it is read.
+    #[tactic(auto, using(crate::proofs::Leaving::found_stands, crate::proofs::Leaving::sync_leaves, crate::proofs::Leaving::no_more))]
+    fn stand(&mut self)
+        ensures same { (self.new.bytes ≡ self.old.bytes) × (self.new.failures ≡ self.old.failures) }
+        ensures found { Just self.new.bytes.items (MayLeave self.new) }
+        ensures stop { NoMore (MayLeave self.old) (MayLeave self.new) }
+    {
+        let all = self.bytes.len();
+        self.floor = all;
+    }
+
     /// Counts a call that is no append, and returns whether it fails.
     fn fails(&self) -> bool {
         matches!(
@@ -175,10 +187,10 @@ impl Store for DiskStore {
         self.failures
     }
 
-    fn read(&mut self, alloc: Global) -> Result<Vec<u8>, StoreFault> {
-        self.bytes
-            .to_vec(alloc)
-            .map_err(|_| StoreFault::OutOfMemory)
+    fn read<T: Sink>(&mut self, _alloc: Global, sink: &mut T) -> Result<(), StoreFault> {
+        self.stand();
+        sink.take(&self.bytes);
+        Ok(())
     }
 
     fn append(&mut self, bytes: &[u8]) -> Result<(), StoreFault> {

@@ -9,7 +9,7 @@ use crate::same::assert_same;
 use messages::*;
 use std::alloc::Global;
 use std::process::Abort;
-use transactions::{Duplicate, Fault, Op, Seq, Shared, Tx, Value};
+use transactions::{Data, Duplicate, Fault, Op, Seq, Shared, Tx, Value};
 
 /// The body of client 7's transaction 1, which asks for the byte `a`.
 const ONE_BYTE: [u8; 15] = [1, 0, 7, 0, 0, 0, 0, 0, 0, 0, 1, 0, 0, 1, b'a'];
@@ -66,12 +66,9 @@ fn nines(rt: &impl Abort, alloc: Global, count: usize) -> Seq<[u8; 32]> {
 }
 
 /// So many times the byte `a`.
-fn letters(rt: &impl Abort, alloc: Global, count: usize) -> Seq<u8> {
-    let mut contents = Seq::new(alloc);
-    for _ in 0..count {
-        contents.push(b'a').expect(rt, "the letter has room");
-    }
-    contents
+fn letters(rt: &impl Abort, alloc: Global, count: usize) -> Data {
+    let letters = vec![in alloc; b'a'; count].expect(rt, "the letters have room");
+    Data::from_slice(alloc, &letters).expect(rt, "the letters have room")
 }
 
 /// A transaction of the last session, with so many bytes and tags.

@@ -55,7 +55,7 @@ fn sized<R: Abort + AllocGlobal>(rt: &R, bytes: usize, tags: usize) -> Tx {
         client: 1023,
         session: 0xffff_ffff,
         number: 0x1_0000_0000_0000,
-        op: Op::Bytes(Seq::from_vec(contents)),
+        op: Op::Bytes(Data::from_vec(contents)),
         tags: nines(rt, tags),
     }
 }

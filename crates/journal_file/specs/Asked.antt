@@ -10,7 +10,7 @@ abbrev pub event_of : List ℕ → List ℕ → Event
 event_of numbers bytes = (slice_index numbers 0, slice_index numbers 1, bytes)
 
 pub data Asked : Type 0 where
-  Found : List ℕ → Asked  -- it was read, and held these bytes
+  Found : List ℕ → Asked  -- it was read on, and held these bytes there
   Appended : List ℕ → Asked
   NotAppended : List ℕ → Asked  -- the system answered a failure
   Cut : ℕ → Asked  -- shortened to this length
@@ -29,7 +29,7 @@ asked event =
 -- the bytes that stand after these calls, the newest first
 abbrev pub stands : List Asked → List ℕ
 stands [] = []
-stands (Found bytes ∷ before) = bytes
+stands (Found bytes ∷ before) = stands before ++ bytes
 stands (Appended bytes ∷ before) = stands before ++ bytes
 stands (Cut len ∷ before) = take len (stands before)
 stands (call ∷ before) = stands before
@@ -37,7 +37,7 @@ stands (call ∷ before) = stands before
 -- What a stop may leave: of an append a beginning, of a cut more than was to be kept, and after a sync what stands alone.
 abbrev pub leaves : List Asked → List ℕ → Type 0
 leaves [] c = c ≡ []
-leaves (Found bytes ∷ before) c = c ≡ bytes
+leaves (Found bytes ∷ before) c = c ≡ stands before ++ bytes
 leaves (Appended bytes ∷ before) c = leaves before c ⊎ Begun (stands before) bytes c
 leaves (NotAppended bytes ∷ before) c = leaves before c ⊎ Begun (stands before) bytes c
 leaves (Cut len ∷ before) c = leaves before c ⊎ Shortened len (stands before) c

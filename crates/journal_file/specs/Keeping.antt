@@ -1,12 +1,12 @@
--- What a file store shows, by the bytes that it found and has not handed out, or by what its file was asked since.
-use Rattle.std.specs.Prelude.{◌≡◌, ℕ, List, Option, Some, None}
-use Rattle.std.specs.Global.{Vec}
+-- What a file store shows, by whether its file is read, and by what the file was asked.
+use Rattle.std.specs.Prelude.{ℕ, Bool, true, false, List, []}
 use Rattle.journal_file.specs.Asked.{Event, stands, leaves, all_asked}
 
-abbrev pub kept : Option (Vec ℕ) → List Event → List ℕ
-kept None events = stands (all_asked events)
-kept (Some found) events = found.items
+-- Of a file that isn't read to its end nothing is said: a stop may leave anything.
+abbrev pub kept : Bool → List Event → List ℕ
+kept false events = []
+kept true events = stands (all_asked events)
 
-abbrev pub may_be_left : Option (Vec ℕ) → List Event → List ℕ → Type 0
-may_be_left None events c = leaves (all_asked events) c
-may_be_left (Some found) events c = c ≡ found.items
+abbrev pub may_be_left : Bool → List Event → List ℕ → Type 0
+may_be_left false events c = Unit {0}
+may_be_left true events c = leaves (all_asked events) c

@@ -1,7 +1,8 @@
 //! A store over a file.
 
-ghost use Rattle.std.specs.Prelude.{◌≡◌, IfOk, IsSome, None};
-ghost use Rattle.vote_journal.specs.Store.{NoMore, Grew};
+ghost use Rattle.std.specs.Prelude.{◌≡◌, ◌++◌, ℕ, List, true, false, IfOk, OnOk};
+ghost use Rattle.vote_journal.specs.Store.{Grew, Just};
+ghost use Rattle.journal_file.specs.Asked.{stands, leaves, all_asked};
 ghost use Rattle.journal_file.specs.Keeping.{kept, may_be_left};
 
 use crate::asked::{APPENDED, CUT, FOUND, NOT_APPENDED, NOT_CUT, Record, SYNCED};
@@ -12,7 +13,10 @@ use std::io::{ErrorKind, Read, Write};
 use std::path::Path;
 use std::rt::Files;
 use thiserror::Error;
-use vote_journal::{DeviceFailed, Store, StoreFault};
+use vote_journal::{DeviceFailed, Sink, Store, StoreFault};
+
+/// How many bytes are read at a time.
+const PIECE: usize = 1 << 18;
 
 /// Why a file was not opened.
 #[derive(Clone, Copy, Debug, Error)]
@@ -33,12 +37,13 @@ impl From<io::Error> for FileFault {
 
 /// The bytes of a file, which no other store has open meanwhile.
 ///
-/// The bytes that it held are read once. They are not kept, nor is what is appended. After a call that failed each
-/// further one fails too: what the file then holds is known only when it is opened anew.
+/// Its file is read once, a piece at a time, before anything else is done with it: until then each other call fails. No bytes
+/// are kept in memory. After a call that failed each further one fails too: what the file then holds is known only when it is
+/// opened anew.
 #[derive(Drop)]
 pub struct FileStore {
     file: File,
-    found: Option<Vec<u8>>,
+    is_read: bool,
     failures: u64,
     asked: Record,
 }
@@ -75,23 +80,18 @@ fn lock(file: &File) -> Result<(), FileFault> {
 }
 
 impl FileStore {
-    /// Opens the file at this path, or makes it, empty. It is synced before it is read, and its directory too, so that
-    /// what it is found to hold is what a stop leaves.
-    pub fn open<R: Files<File = File> + AllocGlobal>(
-        rt: &R,
-        path: &str,
-    ) -> Result<FileStore, FileFault>
-        ensures { IfOk result (λ store. IsSome store.found × (store.failures ≡ 0)) }
+    /// Opens the file at this path, or makes it, empty. It is synced, and its directory too, so that what it is found to hold
+    /// when it is read is what a stop leaves.
+    pub fn open<R: Files<File = File>>(rt: &R, path: &str) -> Result<FileStore, FileFault>
+        ensures { IfOk result (λ store. (store.is_read ≡ false) × (store.failures ≡ 0)) }
     {
-        let mut file = open_or_make(rt, path)?;
+        let file = open_or_make(rt, path)?;
         lock(&file)?;
         file.sync_all()?;
         sync_directory(rt, path)?;
-        let mut found = Vec::new(rt.alloc());
-        file.read_to_end(&mut found)?;
         Ok(FileStore {
             file,
-            found: Some(found),
+            is_read: false,
             failures: 0,
             asked: Record::new(),
         })
@@ -99,29 +99,56 @@ impl FileStore {
 
     /// Counts a failure.
     fn fail(&mut self)
-        ensures same { (self.new.found ≡ self.old.found) × (self.new.asked ≡ self.old.asked) }
+        ensures same { (self.new.is_read ≡ self.old.is_read) × (self.new.asked ≡ self.old.asked) }
         ensures more { Grew self.old.failures self.new.failures }
     {
         self.failures = self.failures.saturating_add(1);
     }
 
-    /// Lets go what was found and not read.
-    fn settle(&mut self)
-        ensures none { self.new.found ≡ None }
-        ensures same { kept None self.new.asked.events ≡ kept self.old.found self.old.asked.events }
-        ensures left { NoMore (may_be_left self.old.found self.old.asked.events) (may_be_left None self.new.asked.events) }
-        ensures failures { self.new.failures ≡ self.old.failures }
+    /// Whether the file is read, and no call failed.
+    fn is_usable(&self) -> bool
+        ensures { result ≡ true → self.now.is_read ≡ true }
     {
-        if let Some(found) = self.found.take() {
-            self.asked.note(&[FOUND, 0], &found);
+        self.is_read && self.failures == 0
+    }
+
+    /// Reads on in the file and gives what is there to a sink: whether its end isn't reached.
+    fn read_on<T: Sink>(&mut self, buffer: &mut [u8], sink: &mut T) -> io::Result<bool>
+        ensures given { (start : T) (before : List ℕ) → T.becomes start (before ++ stands (all_asked self.old.asked.events)) sink.old → T.becomes start (before ++ stands (all_asked self.new.asked.events)) sink.new }
+        ensures stands { Just (stands (all_asked self.old.asked.events)) (leaves (all_asked self.old.asked.events)) → Just (stands (all_asked self.new.asked.events)) (leaves (all_asked self.new.asked.events)) }
+        ensures same { (self.new.is_read ≡ self.old.is_read) × (self.new.failures ≡ self.old.failures) }
+    {
+        let count = match self.file.read(buffer) {
+            Ok(count) => count,
+            Err(error) if error.kind() == ErrorKind::Interrupted => return Ok(true),
+            Err(error) => return Err(error),
+        };
+        let piece = buffer.get(..count).unwrap_or(&[]);
+        self.asked.note(&[FOUND, 0], piece);
+        sink.take(piece);
+        Ok(count > 0)
+    }
+
+    /// Gives all bytes of the file to a sink, from its beginning.
+    fn read_all<T: Sink>(&mut self, buffer: &mut [u8], sink: &mut T) -> io::Result<()>
+        ensures given { OnOk result ((start : T) (before : List ℕ) → T.becomes start before sink.old → T.becomes start (before ++ stands (all_asked self.new.asked.events)) sink.new) }
+        ensures stands { Just (stands (all_asked self.new.asked.events)) (leaves (all_asked self.new.asked.events)) }
+        ensures same { (self.new.is_read ≡ self.old.is_read) × (self.new.failures ≡ self.old.failures) }
+    {
+        self.asked = Record::new();
+        for _ in 0..u64::MAX {
+            if !self.read_on(buffer, sink)? {
+                return Ok(());
+            }
         }
+        Err(ErrorKind::FileTooLarge.into())
     }
 }
 
 impl Store for FileStore {
-    ghost seen = { λ f. kept f.found f.asked.events };
+    ghost seen = { λ f. kept f.is_read f.asked.events };
 
-    ghost may_leave = { λ f c. may_be_left f.found f.asked.events c };
+    ghost may_leave = { λ f c. may_be_left f.is_read f.asked.events c };
 
     ghost failures = { λ f. f.failures };
 
@@ -129,13 +156,20 @@ impl Store for FileStore {
         self.failures
     }
 
-    fn read(&mut self, _alloc: Global) -> Result<Vec<u8>, StoreFault> {
-        match self.found.take() {
-            Some(found) => {
-                self.asked.note(&[FOUND, 0], &found);
-                Ok(found)
+    fn read<T: Sink>(&mut self, alloc: Global, sink: &mut T) -> Result<(), StoreFault> {
+        let Ok(mut buffer) = vec![in alloc; 0; PIECE] else {
+            return Err(StoreFault::OutOfMemory);
+        };
+        if self.is_read || self.failures > 0 {
+            self.fail();
+            return Err(StoreFault::Device);
+        }
+        match self.read_all(&mut buffer, sink) {
+            Ok(()) => {
+                self.is_read = true;
+                Ok(())
             }
-            None => {
+            Err(_) => {
                 self.fail();
                 Err(StoreFault::Device)
             }
@@ -143,8 +177,7 @@ impl Store for FileStore {
     }
 
     fn append(&mut self, bytes: &[u8]) -> Result<(), StoreFault> {
-        self.settle();
-        if self.failures == 0 && self.file.write_all(bytes).is_ok() {
+        if self.is_usable() && self.file.write_all(bytes).is_ok() {
             self.asked.note(&[APPENDED, 0], bytes);
             return Ok(());
         }
@@ -154,9 +187,8 @@ impl Store for FileStore {
     }
 
     fn cut(&mut self, len: usize) -> Result<(), DeviceFailed> {
-        self.settle();
         let wanted = len as u64;
-        if self.failures == 0 && self.file.set_len(wanted).is_ok() && self.file.sync_all().is_ok() {
+        if self.is_usable() && self.file.set_len(wanted).is_ok() && self.file.sync_all().is_ok() {
             self.asked.note(&[CUT, wanted], &[]);
             return Ok(());
         }
@@ -166,8 +198,7 @@ impl Store for FileStore {
     }
 
     fn sync(&mut self) -> Result<(), DeviceFailed> {
-        self.settle();
-        if self.failures == 0 && self.file.sync_data().is_ok() {
+        if self.is_usable() && self.file.sync_data().is_ok() {
             self.asked.note(&[SYNCED, 0], &[]);
             return Ok(());
         }

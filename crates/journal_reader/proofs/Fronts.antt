@@ -6,8 +6,9 @@ use Rattle.transactions.proofs.Formats.{length-number_bytes}
 use Rattle.vote_journal.specs.declared.fault.JournalFault.{JournalFault}
 use Rattle.vote_journal.specs.declared.fault.JournalFault.TheVariants.{Failed, OutOfMemory, BadRecord}
 use Rattle.vote_journal.specs.Grammar.{framed}
-use Rattle.vote_journal.specs.Layout.{IsContent}
-use Rattle.vote_journal.proofs.Layouts.{same_content, torn_is_short}
+use Rattle.vote_journal.specs.declared.scanning.Front.TheVariants as fronts
+use Rattle.vote_journal.specs.Layout.{IsContent, IsFront}
+use Rattle.vote_journal.proofs.Layouts.{bad_front, same_content, torn_is_short}
 use Rattle.journal_reader.specs.declared.entry.Entry.{Entry}
 use Rattle.journal_reader.specs.Entries.{IsEntryOf, IsEntryRead, IsNoEntry}
 use Rattle.journal_reader.specs.Held.{Held, passed, owner_after, IsFound, IsNext}
@@ -29,6 +30,11 @@ no_next held content after BadRecord h e read = (
   ),
   refl,
 )
+
+pub bad_next : (held : Held) → IsFront held.rest fronts.Bad → IsNext held (Err BadRecord) held
+bad_next held front =
+    let bad = bad_front held.rest front.0 front.1 in
+    ((bad.0, λ content after h e. absurd (bad.1 content after h e)), refl)
 
 pub found_next : (held : Held) (content after : List ℕ) (entry : Entry) → IsContent content → held.rest ≡ framed content ++ after → IsEntryOf held.owner content entry
     → IsFound held (record { offset = held.offset; len = 4 + length content; entry = entry }) (passed (4 + length content) (record held { owner = owner_after held.owner entry }))

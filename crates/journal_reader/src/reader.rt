@@ -144,7 +144,7 @@ impl JournalReader {
     ///
     /// Faults: `BadRecord` (3) for a length of 0 or above 1,100,000, for what is no entry, and for a record of another
     /// validator than those before; `OutOfMemory` (2). Then nothing changes either.
-    #[tactic(auto, using(crate::proofs::Fronts::no_next, crate::proofs::Fronts::fits, crate::proofs::Fronts::found_next))]
+    #[tactic(auto, using(crate::proofs::Fronts::no_next, crate::proofs::Fronts::bad_next, crate::proofs::Fronts::fits, crate::proofs::Fronts::found_next))]
     pub fn next_entry(&mut self, alloc: Global) -> Result<Option<Found>, JournalFault>
         ensures { IsNext self.old result self.new }
     {

@@ -5,7 +5,7 @@ ghost use Rattle.std.specs.Prelude.{◌≡◌};
 use node_meters::Meters;
 use std::alloc::Global;
 use std::time::{Clock, Duration};
-use vote_journal::{DeviceFailed, Store, StoreFault};
+use vote_journal::{DeviceFailed, Sink, Store, StoreFault};
 
 /// A store whose syncs are counted, with the time that they take.
 #[derive(Drop)]
@@ -48,8 +48,8 @@ impl<S: Store, R: Clock> Store for MeteredStore<'_, S, R> {
         self.store.failures()
     }
 
-    fn read(&mut self, alloc: Global) -> Result<Vec<u8>, StoreFault> {
-        self.store.read(alloc)
+    fn read<T: Sink>(&mut self, alloc: Global, sink: &mut T) -> Result<(), StoreFault> {
+        self.store.read(alloc, sink)
     }
 
     fn append(&mut self, bytes: &[u8]) -> Result<(), StoreFault> {

@@ -7,7 +7,7 @@ ghost use Rattle.protocol.specs.Restart.{opened as opened_over};
 ghost use Rattle.vote_journal.specs.Layout.{IsWhole};
 ghost use Rattle.node_core.specs.Core.{Stands};
 ghost use Rattle.node_core.specs.Opening.{IsRead};
-ghost use Rattle.node_program.specs.Opening.{IsOpenedOver};
+ghost use Rattle.node_program.specs.Opening.{IsOpenedAsRead};
 
 use authenticators::KeyRing;
 use journal_file::FileFault;
@@ -36,7 +36,7 @@ pub(crate) fn open_core<S: Store + Drop>(
     requires owner { ring.me ≡ Validator config.me }
     requires count { ring.count ≡ length config.powers }
     requires me { config.me < length config.powers }
-    ensures opened { IfOk result (λ core. IsOpenedOver config.powers config.me (S.may_leave store) core) }
+    ensures opened { IfOk result (λ core. IsOpenedAsRead S.seen S.may_leave config.powers config.me store core) }
     ensures same { IfOk result (λ core. (core.machine.powers ≡ config.powers) × (core.machine.me ≡ config.me) × (core.ring ≡ ring)) }
 {
     match Journal::open(alloc, store, config.me, &config.powers) {

@@ -1,6 +1,6 @@
 //! `tmnode run`.
 
-ghost use Rattle.std.specs.Prelude.{◌≡◌, ◌<◌, ◌≤◌, IfOk, IsSome, length};
+ghost use Rattle.std.specs.Prelude.{◌≡◌, ◌<◌, ◌≤◌, IfOk, length};
 ghost use Rattle.protocol.specs.Tags.{Validator};
 ghost use Rattle.status_words.specs.Seen.{opened as opened_at};
 ghost use Rattle.status_words.specs.Ends.{opened_table, opened_words};
@@ -145,8 +145,7 @@ fn open_metered<'a, R: Clock>(
     requires owner { ring.me ≡ Validator config.me }
     requires count { ring.count ≡ length config.powers }
     requires me { config.me < length config.powers }
-    requires unasked { IsSome store.store.found }
-    ensures { IfOk result (λ core. IsOpenedInFile config.powers config.me core) }
+    ensures opened { IfOk result (λ core. IsOpenedInFile config.powers config.me core) }
 {
     open_core(alloc, config, ring, store)
 }

@@ -12,7 +12,7 @@ use hex::FromHexError;
 use powers::Powers;
 use protocol::MOST_DATA;
 use std::alloc::{AllocError, Global};
-use transactions::Seq;
+use transactions::Data;
 
 /// The words between the commas of a list.
 pub fn words_of(alloc: Global, list: &str) -> Result<Vec<&str>, AllocError>
@@ -58,13 +58,13 @@ fn decoded(alloc: Global, digits: &str) -> Result<Vec<u8>, SettingsFault>
 
 /// The bytes that hexadecimal digits of either case are, at most 1,024.
 #[tactic(auto, unfolding(crate::specs::Words::bytes_of))]
-pub fn bytes_of(alloc: Global, digits: &str) -> Result<Seq<u8>, SettingsFault>
+pub fn bytes_of(alloc: Global, digits: &str) -> Result<Data, SettingsFault>
     ensures asked { Gives (λ bytes. bytes) result (bytes_of digits.now) }
     ensures lawful { IfOk result (λ bytes. length bytes ≤ 1024) }
 {
     let bytes = decoded(alloc, digits)?;
     if bytes.len() <= MOST_DATA {
-        Ok(Seq::from_vec(bytes))
+        Ok(Data::from_vec(bytes))
     } else {
         Err(SettingsFault::Usage)
     }

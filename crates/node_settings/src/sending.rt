@@ -13,7 +13,7 @@ use crate::options::{is_flagged, number, number_or, validators_of, word, word_of
 use clap::ArgMatches;
 use protocol::{LAST_CLIENT, LAST_NUMBER};
 use std::alloc::Global;
-use transactions::{Op, Seq};
+use transactions::{Data, Op};
 
 /// Who sends.
 #[derive(Clone, Copy)]
@@ -143,7 +143,7 @@ pub fn line_op(alloc: Global, line: &str) -> Result<Op, SettingsFault>
     if line == "close" {
         Ok(Op::Close)
     } else if line == "-" {
-        Ok(Op::Bytes(Seq::new(alloc)))
+        Ok(Op::Bytes(Data::new()))
     } else if line.is_empty() {
         Err(SettingsFault::Usage)
     } else {

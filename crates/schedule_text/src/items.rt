@@ -10,7 +10,7 @@ use crate::numbers::{list_in, number_in, number_in_u16, number_in_u32};
 use crate::words::words_between;
 use protocol::MOST_DATA;
 use std::alloc::Global;
-use transactions::{Item, Op, Seq};
+use transactions::{Data, Item, Op, Seq};
 use world_parties::{Parties, Tagged};
 
 /// The greatest number of letters in a name.
@@ -130,19 +130,19 @@ pub(crate) fn sent_in(alloc: Global, word: &[u8]) -> Result<Op, LineFault> {
     if word.len() > 2 * MOST_DATA {
         return Err(LineFault::BadLine);
     }
-    Ok(Op::Bytes(bytes_in(alloc, word)?))
+    Ok(Op::Bytes(Data::from_vec(bytes_in(alloc, word)?)))
 }
 
 /// The bytes that the word is: two digits for each, or `-` for none.
-pub(crate) fn bytes_in(alloc: Global, word: &[u8]) -> Result<Seq<u8>, LineFault> {
+pub(crate) fn bytes_in(alloc: Global, word: &[u8]) -> Result<Vec<u8>, LineFault> {
     if word == b"-".as_slice() {
-        return Ok(Seq::new(alloc));
+        return Ok(Vec::new(alloc));
     }
     if word.is_empty() || !word.iter().all(|byte| is_digit(*byte)) {
         return Err(LineFault::BadLine);
     }
     match hex::decode(alloc, word) {
-        Ok(bytes) => Ok(Seq::from_vec(bytes)),
+        Ok(bytes) => Ok(bytes),
         Err(hex::FromHexError::OutOfMemory) => Err(LineFault::OutOfMemory),
         Err(_) => Err(LineFault::BadLine),
     }

@@ -209,7 +209,8 @@ impl Forms<'_> {
             return Err(LineFault::BadLine);
         };
         let receiver = self.receiver(receiver).ok_or(LineFault::BadLine)?;
-        Ok(Event::Frame(receiver, bytes_in(self.alloc, bytes)?))
+        let frame = Seq::from_vec(bytes_in(self.alloc, bytes)?);
+        Ok(Event::Frame(receiver, frame))
     }
 
     /// `send C BYTES`

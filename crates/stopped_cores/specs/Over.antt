@@ -1,5 +1,5 @@
 -- Cores over stores of any kind, which stops and failures cut off, and which are opened again.
-use Rattle.std.specs.Prelude.{◌≡◌, ◌⊎◌, ℕ, false, Option, None, List, [], ◌∷◌, ◌++◌, reverse}
+use Rattle.std.specs.Prelude.{◌≡◌, ◌≢◌, ◌⊎◌, ℕ, false, Option, None, List, [], ◌∷◌, ◌++◌, reverse}
 use Rattle.authenticators.specs.Ring.{Ring}
 use Rattle.protocol.specs.Tags.{Setting}
 use Rattle.protocol.specs.Messages.{Record}
@@ -7,7 +7,9 @@ use Rattle.protocol.specs.Rings.{IsRingOf}
 use Rattle.protocol.specs.Restart.{opened}
 use Rattle.protocol.specs.World.{Cut}
 use Rattle.vote_journal.specs.Store.{Only}
-use Rattle.vote_journal.specs.History.{Opened, Does}
+use Rattle.vote_journal.specs.History.{Opened, Left, Does, WasRead}
+use Rattle.vote_journal.specs.declared.fault.JournalFault.{JournalFault}
+use Rattle.vote_journal.specs.declared.fault.JournalFault.TheVariants.{BadRecord}
 use Rattle.node_core.specs.Core.{Core, MayLeave, Stands}
 use Rattle.node_core.specs.Calls.{IsLeftBy}
 use Rattle.world_schedule.specs.Calls.{Call, Reopened, node_after}
@@ -48,3 +50,19 @@ module _ {S : Type 0} (seen : S → List ℕ) (may_leave : S → List ℕ → Ty
     pub own : IsOwn c p core
     pub stands : Stands (opened p (reverse records)) core
     pub serves : core.journal.failed ≡ false
+
+  -- The store was read, and if that is what a core of the validator's left, so this core is one of the validator's.
+  pub record IsBackAsRead (powers : List ℕ) (me : ℕ) (ring : Ring) (old : S) (core : Core) : Type 0 where
+    pub read : S
+    pub was : WasRead seen may_leave powers me old read
+    pub back : (c : Setting) (p : ℕ) → IsSeat c p powers me ring → (calls : List Call) (cut : Option Cut) → IsLeftAfter c p calls cut read → IsBack c p calls cut core
+
+  -- The store was read, and if that is what a core of the validator's left, so is the store that was handed back, and nothing called it no journal.
+  pub record IsLeftAsRead (powers : List ℕ) (me : ℕ) (ring : Ring) (fault : JournalFault) (old new : S) : Type 0 where
+    pub read : S
+    pub was : WasRead seen may_leave powers me old read
+    pub left : (c : Setting) (p : ℕ) → IsSeat c p powers me ring → (calls : List Call) (cut : Option Cut) → IsLeftAfter c p calls cut read → IsLeftAfter c p calls cut new × (fault ≢ BadRecord)
+
+  -- No core was opened: before all was read, and a stop leaves nothing more; or behind that.
+  abbrev pub IsRefusedAsRead : List ℕ → ℕ → Ring → JournalFault → S → S → Type 0
+  IsRefusedAsRead powers me ring fault old new = ((fault ≢ BadRecord) × Does seen may_leave powers me Left old new) ⊎ IsLeftAsRead powers me ring fault old new

@@ -5,7 +5,7 @@ ghost use Rattle.protocol.specs.Tags.{Setting, Validator};
 ghost use Rattle.protocol.specs.World.{Cut};
 ghost use Rattle.world_schedule.specs.Calls.{Call};
 ghost use Rattle.vote_journal.specs.Store.{Grew};
-ghost use Rattle.stopped_cores.specs.Over.{IsSeat, IsBack, IsClosed, IsLeftAfter};
+ghost use Rattle.stopped_cores.specs.Over.{IsSeat, IsBack, IsBackAsRead, IsClosed, IsLeftAfter, IsRefusedAsRead};
 
 use authenticators::KeyRing;
 use node_core::{Config, NodeCore};
@@ -35,6 +35,9 @@ pub fn begin_again<S: Store + Drop>(
     ensures back { (c : Setting) (p : ℕ) → IsSeat c p config.powers config.me ring → (calls : List Call) (cut : Option Cut) → IsLeftAfter S.seen S.may_leave c p calls cut store → IfOk result (IsBack c p calls cut) }
     ensures refused { (c : Setting) (p : ℕ) → IsSeat c p config.powers config.me ring → (calls : List Call) (cut : Option Cut) → IsLeftAfter S.seen S.may_leave c p calls cut store → IfErr result (λ u. IsLeftAfter S.seen S.may_leave c p calls cut u.store) }
     ensures whole { (c : Setting) (p : ℕ) → IsSeat c p config.powers config.me ring → (calls : List Call) (cut : Option Cut) → IsLeftAfter S.seen S.may_leave c p calls cut store → IfErr result (λ u. u.fault ≢ JournalFault.BadRecord) }
+    // So it is with the store as it was read, of which more may be known than before.
+    ensures read { IfOk result (λ core. IsBackAsRead S.seen S.may_leave config.powers config.me ring store core) }
+    ensures unread { IfErr result (λ u. IsRefusedAsRead S.seen S.may_leave config.powers config.me ring u.fault store u.store) }
     ensures failed { IfErr result (λ u. u.fault ≡ JournalFault.Failed → Grew (S.failures store) (S.failures u.store)) }
 {
     match Journal::open(alloc, store, config.me, &config.powers) {

@@ -4,7 +4,7 @@ use crate::fault::BenchFault;
 use authenticators::hmac;
 use messages::{Body, frame_of, spell_body};
 use std::alloc::Global;
-use transactions::{Op, Seq, Tx};
+use transactions::{Data, Op, Seq, Tx};
 
 /// The key of every pair.
 pub(crate) const KEY: [u8; 32] = [0x11; 32];
@@ -46,5 +46,5 @@ pub(crate) fn tx(alloc: Global, client: u16, number: u64) -> Result<Tx, BenchFau
 
 /// 64 bytes.
 pub(crate) fn op(alloc: Global) -> Result<Op, BenchFault> {
-    Ok(Op::Bytes(Seq::from_vec(vec![in alloc; 7u8; 64]?)))
+    Ok(Op::Bytes(Data::from_vec(vec![in alloc; 7u8; 64]?)))
 }

@@ -1,5 +1,6 @@
-pub mod Fields
-pub mod Grammar
-pub mod Reading
 pub mod Checking
 pub mod Equality
+pub mod Fields
+pub mod Grammar
+pub mod Held
+pub mod Reading

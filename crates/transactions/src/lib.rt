@@ -14,6 +14,7 @@
 //! Each thing has one spelling at most, and bytes spell one thing at most.
 #![tactic(auto)]
 
+mod data;
 mod fault;
 pub mod fields;
 mod limits;
@@ -23,6 +24,7 @@ mod sequence;
 mod tx;
 mod writing;
 
+pub use data::Data;
 pub use fault::Fault;
 pub use limits::{
     LAST_CLIENT, LAST_NUMBER, LONGEST_TX_BODY, MOST_DATA, MOST_TAGS, MOST_TXS, MOST_VALUE_BYTES,

@@ -11,6 +11,7 @@ ghost use Rattle.transactions.specs.declared.tx.Value.{Value};
 ghost use Rattle.transactions.specs.Grammar.{SpellsTx, SpellsValue};
 ghost use Rattle.transactions.specs.Reading.{data_at, client_at, session_at, tx_number_at, tx_kind_at, op_at, tx_body_at, tx_fields_at, tag_count_at, tags_at, tx_at, is_within, value_at, tx_of, value_of};
 
+use crate::data::Data;
 use crate::fault::Fault;
 use crate::fields::{array_at, slice_at, u8_at, u16_at, u32_at, u64_at};
 use crate::limits::{LAST_CLIENT, LAST_NUMBER, MOST_DATA, MOST_TAGS, MOST_TXS, MOST_VALUE_BYTES};
@@ -19,7 +20,7 @@ use crate::tx::{Op, Tx, Value};
 use std::alloc::Global;
 
 #[tactic(auto, unfolding(crate::specs::Reading::data_at, crate::specs::Fields::limited))]
-fn data_of(alloc: Global, bytes: &[u8]) -> Result<(Seq<u8>, &[u8]), Fault>
+fn data_of(alloc: Global, bytes: &[u8]) -> Result<(Data, &[u8]), Fault>
     ensures exact { Gives (λ x. (x.0, x.1.now)) result (data_at bytes.now) }
     ensures told { Tells result (data_at bytes.now) }
 {
@@ -28,7 +29,7 @@ fn data_of(alloc: Global, bytes: &[u8]) -> Result<(Seq<u8>, &[u8]), Fault>
         return Err(Fault::TooLong);
     }
     let (contents, rest) = slice_at(rest, len as usize)?;
-    Ok((Seq::from_vec(Vec::from_slice(alloc, contents)?), rest))
+    Ok((Data::from_slice(alloc, contents)?, rest))
 }
 
 #[tactic(auto, unfolding(crate::specs::Reading::op_at, crate::specs::Reading::op_after))]

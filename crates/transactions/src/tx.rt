@@ -3,6 +3,7 @@
 ghost use Rattle.std.specs.Prelude.{◌≡◌, IfOk};
 ghost use Rattle.transactions.specs.Equality.{value_eq};
 
+use crate::data::Data;
 use crate::sequence::{Duplicate, Seq, Shared};
 use std::alloc::{AllocError, Global};
 
@@ -13,7 +14,7 @@ pub type Id = [u8; 32];
 #[derive(Debug, PartialEq, Eq, Drop)]
 pub enum Op {
     /// At most 1,024 bytes, whose meaning is the client's.
-    Bytes(Seq<u8>),
+    Bytes(Data),
     /// The last transaction of a client's session: only a later session follows it.
     Close,
 }

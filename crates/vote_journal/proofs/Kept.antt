@@ -19,12 +19,9 @@ use Rattle.protocol.specs.Arrivals.{bundles_of}
 use Rattle.protocol.specs.Effects.{bundles_in}
 use Rattle.protocol.specs.declared.records.OwnMessage.{OwnMessage}
 use Rattle.protocol.specs.declared.records.Record.TheVariants as records
-use Rattle.vote_journal.specs.Grammar.{Entry, entries_spelling, IsDecision, IsRecord}
-use Rattle.vote_journal.specs.Order.{may_follow, AreLawful, records_in, AreInOrder, Remembers}
-use Rattle.vote_journal.specs.declared.keeping.Kept.{Kept}
-use Rattle.vote_journal.specs.declared.standing.Standing.{Standing}
+use Rattle.vote_journal.specs.Grammar.{IsDecision, IsRecord}
+use Rattle.vote_journal.specs.Order.{may_follow, AreLawful}
 use Rattle.vote_journal.specs.Kept.{said, own_in, Keeps, journal_of, IsToldBy, AreReplayable, KeptLaw}
-use Rattle.vote_journal.specs.Planning.{IsOf}
 use Rattle.vote_journal.specs.Laws.{EachFollows, EachMade, IsLawful}
 use Rattle.vote_journal.proofs.Following.{opened_lawful}
 use Rattle.vote_journal.proofs.Layouts.{reverse_onto}
@@ -47,14 +44,6 @@ keeps_decision rs b decisions now_decisions own now_own d o k = record {
   decided = d ∙ ap (λ (x : List Bundle). x ++ b ∷ []) k.decided ∙ ap bundles_in (sym (newest rs (Decided b)));
   since = ap (map said) o ∙ ap own_in (sym (newest rs (Decided b)));
 }
-
--- what was read of bytes so far
-pub record Read (powers : List ℕ) (me : ℕ) (bytes : List ℕ) (kept : Kept) (standing : Standing) (rest : List ℕ) : Type 0 where
-  pub entries : List Entry
-  pub whole : bytes ≡ entries_spelling me entries ++ rest
-  pub lawful : AreInOrder powers me [] entries
-  pub remembers : Remembers (reverse entries) standing
-  pub keeps : IsOf (records_in entries) kept
 
 -- ---- lists, from either end
 

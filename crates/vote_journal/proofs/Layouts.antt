@@ -17,8 +17,8 @@ use Rattle.vote_journal.specs.declared.standing.Standing.{Standing}
 use Rattle.vote_journal.specs.declared.fault.JournalFault.{JournalFault}
 use Rattle.vote_journal.specs.declared.fault.JournalFault.TheVariants.{Failed, OutOfMemory, BadRecord}
 use Rattle.vote_journal.specs.Order.{may_follow, AreLawful, records_in, is_marked, has_early, may_stand, AreInOrder, IsTaken}
-use Rattle.vote_journal.specs.Layout.{IsContent, IsTorn, Splits}
-use Rattle.vote_journal.specs.Planning.{IsScan}
+use Rattle.vote_journal.specs.Layout.{IsContent, IsTorn}
+use Rattle.vote_journal.specs.Planning.{IsNotRead}
 use Rattle.vote_journal.proofs.RecordFormats.{same_entry}
 
 -- ---- the front of a framed content
@@ -193,12 +193,25 @@ bad_left : (powers : List ℕ) (me : ℕ) (before : List Entry) (left : List ℕ
 bad_left powers me before left [] rest bad e l t = bad.0 (subst IsTorn (sym e) t)
 bad_left powers me before left (r ∷ others) rest bad e l t = bad.1 (entry_content me r) (entries_spelling me others ++ rest) (fits_entry me r l.0) (e ∙ first_framed me r others rest)
 
--- what can't go on is no journal
+-- what follows stands behind the rest
+pub whole_more : (bytes front rest more : List ℕ) → bytes ≡ front ++ rest → bytes ++ more ≡ front ++ (rest ++ more)
+whole_more bytes front rest more e = ap (λ (x : List ℕ). x ++ more) e ∙ append_assoc front rest more
+
+front_number : (bytes more : List ℕ) → 4 ≤ length bytes → big_number 4 (bytes ++ more) ≡ big_number 4 bytes
+front_number [] more long = absurd (omega (arith, long))
+front_number (a ∷ []) more long = absurd (omega (arith, long))
+front_number (a ∷ b ∷ []) more long = absurd (omega (arith, long))
+front_number (a ∷ b ∷ c ∷ []) more long = absurd (omega (arith, long))
+front_number (a ∷ b ∷ c ∷ d ∷ rest) more long = refl
+
+-- what begins with a length that no record has is no journal, whatever follows
 pub scan_bad : (powers : List ℕ) (me : ℕ) (bytes : List ℕ) (done : List Entry) (left : List ℕ) → bytes ≡ entries_spelling me done ++ left → AreInOrder powers me [] done
-    → (IsTorn left → ⊥) × ((content after : List ℕ) → IsContent content → left ≡ framed content ++ after → ⊥) → (rs : List Record) → Splits powers me bytes rs → ⊥
-scan_bad powers me bytes done left whole lawful bad rs s =
-    let g = goes_on powers me [] done left s.entries s.rest lawful s.lawful s.torn (sym whole ∙ s.whole) in
-    bad_left powers me (reverse done ++ []) left g.others s.rest bad g.whole g.lawful s.torn
+    → 4 ≤ length left → (1 ≤ big_number 4 left → big_number 4 left ≤ 1100000 → ⊥) → IsNotRead powers me bytes BadRecord
+scan_bad powers me bytes done left whole lawful long outside = λ more rs s.
+    let number = front_number left more long in
+    let bad = bad_front (left ++ more) (omega (arith, long, length-append left more)) (λ low high. outside (omega (arith, number, low)) (omega (arith, number, high))) in
+    let g = goes_on powers me [] done (left ++ more) s.entries s.rest lawful s.lawful s.torn (sym (whole_more bytes (entries_spelling me done) left more whole) ∙ s.whole) in
+    bad_left powers me (reverse done ++ []) (left ++ more) g.others s.rest bad g.whole g.lawful s.torn
 
 refused_left : (powers : List ℕ) (me : ℕ) (before : List Entry) (left content after : List ℕ) (others : List Entry) (rest : List ℕ) → IsContent content → left ≡ framed content ++ after
     → ((e : Entry) → SpellsEntry me content e → may_stand powers before e ≡ true → ⊥) → left ≡ entries_spelling me others ++ rest → AreInOrder powers me before others → IsTorn rest → ⊥
@@ -207,15 +220,15 @@ refused_left powers me before left content after (r ∷ others) rest h front ref
     let c = same_content content after (entry_content me r) (entries_spelling me others ++ rest) h (fits_entry me r l.0) (sym front ∙ e ∙ first_framed me r others rest) in
     refused r (record { lawful = l.0; same = c.0 }) l.1
 
--- what is refused behind what was read is no journal
+-- what is refused behind what was read is no journal, whatever follows
 pub scan_refused : (powers : List ℕ) (me : ℕ) (bytes : List ℕ) (done : List Entry) (left content after : List ℕ) (standing : Standing) (e : JournalFault) → bytes ≡ entries_spelling me done ++ left → AreInOrder powers me [] done
-    → IsContent content → left ≡ framed content ++ after → IsTaken powers me (reverse done) content standing (Err e) → IsScan powers me bytes (Err e)
+    → IsContent content → left ≡ framed content ++ after → IsTaken powers me (reverse done) content standing (Err e) → IsNotRead powers me bytes e
 scan_refused powers me bytes done left content after standing Failed whole lawful h front taken = taken
 scan_refused powers me bytes done left content after standing OutOfMemory whole lawful h front taken = tt
-scan_refused powers me bytes done left content after standing BadRecord whole lawful h front taken = λ rs s.
-    let g = goes_on powers me [] done left s.entries s.rest lawful s.lawful s.torn (sym whole ∙ s.whole) in
+scan_refused powers me bytes done left content after standing BadRecord whole lawful h front taken = λ more rs s.
+    let g = goes_on powers me [] done (left ++ more) s.entries s.rest lawful s.lawful s.torn (sym (whole_more bytes (entries_spelling me done) left more whole) ∙ s.whole) in
     let l : AreInOrder powers me (reverse done) g.others = subst (λ (x : List Entry). AreInOrder powers me x g.others) (append-nil (reverse done)) g.lawful in
-    refused_left powers me (reverse done) left content after g.others s.rest h front taken g.whole l s.torn
+    refused_left powers me (reverse done) (left ++ more) content (after ++ more) g.others s.rest h (whole_more left (framed content) after more front) taken g.whole l s.torn
 
 -- ---- entries and their records
 

@@ -8,3 +8,5 @@ pub mod Following
 pub mod History
 pub mod Stopping
 pub mod Serving
+pub mod Pieces
+pub mod Rereading

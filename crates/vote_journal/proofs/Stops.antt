@@ -1,6 +1,6 @@
 -- What a stop leaves of a journal is a journal of the same records, or has the one more that was being saved.
 use Rattle.std.proofs.Common.{◌≡◌, ◌⊎◌, inl, inr, ℕ, zero, suc, ◌+◌, ◌-◌, ◌<◌, ◌≤◌, Bool, true, false, not, ◌||◌, List, [], ◌∷◌, ◌++◌, length, take, drop, reverse, refl, sym, ap, subst, ◌∙◌, arith, append_assoc, length-append}
-use Rattle.std.proofs.lemmas.List.{append-nil, append_cancel_left, take-append-le, take_at, drop_at, take-append-drop, length-take-le, take_all, take-take}
+use Rattle.std.proofs.lemmas.List.{append-nil, append_cancel_left, take-append-le, take_at, drop_at, length-take-le, take_all, take-take}
 use Rattle.std.proofs.Math.Seq.{take-append-add}
 use native.Mathlib.Decide.{dec_le}
 use Rattle.byteorder.specs.Endian.{big_number}
@@ -12,13 +12,13 @@ use Rattle.vote_journal.specs.Order.{may_follow, AreLawful, records_in, is_marke
 use Rattle.vote_journal.specs.Layout.{IsContent, IsTorn, IsBegunHeader, Splits, IsJournal, IsWhole}
 use Rattle.vote_journal.specs.Store.{Begun, Only, NoMore}
 use Rattle.vote_journal.specs.declared.opening.Plan.{Plan}
-use Rattle.vote_journal.specs.declared.scanning.Scan.{Scan}
+use Rattle.vote_journal.specs.declared.stages.Behind.{Behind}
 use Rattle.std.proofs.Common.{Ok, Err}
 use Rattle.vote_journal.specs.declared.fault.JournalFault.{JournalFault}
 use Rattle.vote_journal.specs.declared.fault.JournalFault.TheVariants.{Failed, OutOfMemory, BadRecord}
 use Rattle.vote_journal.specs.Saving.{KeepsRecords, BegunOpening, added}
 use Rattle.vote_journal.specs.Kept.{IsOpened}
-use Rattle.vote_journal.specs.Planning.{Scans, IsScan, PlanFor, IsPlan}
+use Rattle.vote_journal.specs.Planning.{IsNotRead, IsBehind, Comes, PlanFor, IsPlan}
 use Rattle.vote_journal.specs.Laws.{StopLaw}
 use Rattle.vote_journal.proofs.Layouts.{number_back, fits_entry, is_framed, same_entries, lawful_push, spelling_push, records_append, marked_append, marked_reverse, or_true, lawful_records, stands_behind}
 
@@ -340,25 +340,34 @@ other_header powers me bytes long differs rs (inl h) = omega (arith, long, short
 other_header powers me bytes long differs rs (inr h) = differs (ap (take 4) h.1 ∙ take_at header h.0 4 refl)
 
 -- behind a header stands what is told of what follows it
-pub behind_is : (powers : List ℕ) (me : ℕ) (bytes : List ℕ) → take 4 bytes ≡ header → (rs : List Record) → IsJournal powers me bytes rs → Splits powers me (drop 4 bytes) rs
-behind_is powers me bytes e rs (inl h) = absurd (omega (arith, short_header bytes h.0, ap length e, short_take bytes 4))
-behind_is powers me bytes e rs (inr h) = subst (λ (x : List ℕ). Splits powers me x rs) (sym (ap (drop 4) h.1 ∙ drop_at header h.0 4 refl)) h.2
+pub behind_is : (powers : List ℕ) (me : ℕ) (behind : List ℕ) (rs : List Record) → IsJournal powers me (header ++ behind) rs → Splits powers me behind rs
+behind_is powers me behind rs (inl h) = absurd (omega (arith, short_header (header ++ behind) h.0, length-append header behind))
+behind_is powers me behind rs (inr h) = subst (λ (x : List ℕ). Splits powers me x rs) (sym (append_cancel_left header behind h.0 h.1)) h.2
 
-pub plan_of_scan : (powers : List ℕ) (me : ℕ) (bytes : List ℕ) (scan : Scan) → take 4 bytes ≡ header → Scans powers me (drop 4 bytes) scan.kept scan.marked scan.torn
-    → IsPlan powers me bytes (Ok (record { kept = scan.kept; keep = length bytes - scan.torn; fresh = false; marked = scan.marked }))
-plan_of_scan powers me bytes scan e s =
-    let whole : bytes ≡ header ++ drop 4 bytes = sym (take-append-drop 4 bytes) ∙ ap (λ (x : List ℕ). x ++ drop 4 bytes) e in
-    let room : scan.torn ≤ length bytes = omega (arith, s.left, ap length whole, length-append header (drop 4 bytes), ap length s.splits.whole, length-append (entries_spelling me s.splits.entries) s.splits.rest) in
-    (s.rs, (drop 4 bytes, whole, s.splits, omega (arith, s.left, room), s.has_mark), s.keeps)
+-- so what can't be read there is no journal's
+pub not_behind : (powers : List ℕ) (me : ℕ) (bytes behind : List ℕ) (e : JournalFault) → bytes ≡ header ++ behind → IsNotRead powers me behind e → Comes powers me bytes (Err e)
+not_behind powers me bytes behind Failed is h = h
+not_behind powers me bytes behind OutOfMemory is h = tt
+not_behind powers me bytes behind BadRecord is h = λ more rs j.
+    h more rs (behind_is powers me (behind ++ more) rs (subst (λ (x : List ℕ). IsJournal powers me x rs) (ap (λ (x : List ℕ). x ++ more) is ∙ append_assoc header behind more) j))
 
-pub scan_err : (powers : List ℕ) (me : ℕ) (bytes : List ℕ) (e : JournalFault) → take 4 bytes ≡ header → IsScan powers me (drop 4 bytes) (Err e) → IsPlan powers me bytes (Err e)
-scan_err powers me bytes Failed h s = s
-scan_err powers me bytes OutOfMemory h s = tt
-scan_err powers me bytes BadRecord h s = λ rs j. s rs (behind_is powers me bytes h rs j)
+-- another header is none, whatever follows
+pub not_header : (powers : List ℕ) (me : ℕ) (bytes : List ℕ) → 4 ≤ length bytes → (take 4 bytes ≡ header → ⊥) → Comes powers me bytes (Err BadRecord)
+not_header powers me bytes long differs = λ more. other_header powers me (bytes ++ more) (omega (arith, long, length-append bytes more)) (λ e. differs (sym (take-append-le 4 bytes more long) ∙ e))
 
-pub scan_room : (powers : List ℕ) (me : ℕ) (bytes : List ℕ) (scan : Scan) → Scans powers me (drop 4 bytes) scan.kept scan.marked scan.torn → scan.torn ≤ length bytes
-scan_room powers me bytes scan s =
-    omega (arith, s.left, ap length s.splits.whole, length-append (entries_spelling me s.splits.entries) s.splits.rest, ap length (sym (take-append-drop 4 bytes)), length-append (take 4 bytes) (drop 4 bytes))
+-- of a header, and of what was read behind it
+pub plan_behind : (powers : List ℕ) (me : ℕ) (bytes behind : List ℕ) (b : Behind) → bytes ≡ header ++ behind → IsBehind powers me behind b
+    → IsPlan powers me bytes (Ok (record { kept = b.kept; keep = b.read; torn = length b.left.items; fresh = false; marked = b.standing.marked }))
+plan_behind powers me bytes behind b e h =
+    let r = h.2 in
+    let s : Splits powers me behind (records_in r.entries) = record { entries = r.entries; records = refl; rest = b.left.items; whole = r.whole; lawful = r.lawful; torn = h.0 } in
+    (records_in r.entries, (behind, e, s, omega (arith, h.1, ap length e), sym (marked_reverse r.entries) ∙ sym r.remembers.marked), r.keeps)
+
+-- what is no journal whatever follows is none by itself
+pub plan_err : (powers : List ℕ) (me : ℕ) (bytes : List ℕ) (e : JournalFault) → Comes powers me bytes (Err e) → IsPlan powers me bytes (Err e)
+plan_err powers me bytes Failed h = h
+plan_err powers me bytes OutOfMemory h = tt
+plan_err powers me bytes BadRecord h = λ rs j. h [] rs (subst (λ (x : List ℕ). IsJournal powers me x rs) (sym (append-nil bytes)) j)
 
 -- ---- two appends, one behind the other
 

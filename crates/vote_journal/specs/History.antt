@@ -1,12 +1,12 @@
 -- What happens to a journal on a store from its first opening on, stops among it.
-use Rattle.std.specs.Prelude.{◌≡◌, ◌⊎◌, ℕ, Bool, true, false, Option, Some, None, List, [], ◌∷◌, ◌++◌, map, reverse, Result, Ok, Err}
+use Rattle.std.specs.Prelude.{◌≡◌, ◌≢◌, ◌⊎◌, ℕ, Bool, true, false, Option, Some, None, List, [], ◌∷◌, ◌++◌, map, reverse, Result, Ok, Err}
 use Rattle.protocol.specs.Messages.{Record}
 use Rattle.vote_journal.specs.declared.fault.JournalFault.{JournalFault}
 use Rattle.vote_journal.specs.declared.fault.JournalFault.TheVariants.{Failed, OutOfMemory, BadRecord}
 use Rattle.vote_journal.specs.Grammar.{IsRecord}
 use Rattle.vote_journal.specs.Order.{may_follow}
 use Rattle.vote_journal.specs.Layout.{IsWhole}
-use Rattle.vote_journal.specs.Store.{Only, NoMore}
+use Rattle.vote_journal.specs.Store.{Just, Only, NoMore}
 use Rattle.vote_journal.specs.Saving.{LeavesBeforeOrAfter, IsFoundIn, HasNoJournal, KeepsEach, WhereSaved}
 
 -- A call and how it ended. A stop within a call is that call failing half done, whatever it would have answered.
@@ -79,6 +79,21 @@ module _ {S : Type 0} (seen : S → List ℕ) (may_leave : S → List ℕ → Ty
   Does (NotSaved r) old new = (seen new ≡ seen old) × NoMore (may_leave old) (may_leave new)
   Does (Broken r) old new = WhereSaved me (seen old) r (λ powers rs. LeavesBeforeOrAfter powers me (may_leave new) rs r)
   Does Left old new = NoMore (may_leave old) (may_leave new)
+
+  -- Reading took nothing but what a stop might have left, and a stop then leaves just that.
+  pub record WasRead (old read : S) : Type 0 where
+    pub before : Does Left old read
+    pub stands : Just (seen read) (may_leave read)
+
+  -- The store was read, and the call did this to what was read.
+  pub record AsRead (call : Call) (old new : S) : Type 0 where
+    pub read : S
+    pub was : WasRead old read
+    pub does : Does call read new
+
+  -- An opening was refused: before all was read, and a stop leaves nothing more; or what was read was not opened.
+  abbrev pub RefusesAsRead : JournalFault → S → S → Type 0
+  RefusesAsRead fault old new = ((fault ≢ BadRecord) × Does Left old new) ⊎ AsRead (NotOpened fault) old new
 
   -- what a call wants of its caller
   abbrev pub IsAsked : List Record → List Call → Call → Type 0

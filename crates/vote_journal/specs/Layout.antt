@@ -42,8 +42,8 @@ pub record IsWhole (powers : List ℕ) (me : ℕ) (bytes : List ℕ) (rs : List 
 
 -- ---- what the reader finds
 
--- the record at the front, or that there is less than one, or that there can't be one
+-- the record at the front, or that there is less than one, or a length that no record has
 abbrev pub IsFront : List ℕ → Front → Type 0
 IsFront bytes fronts.Torn = IsTorn bytes
-IsFront bytes fronts.Bad = (IsTorn bytes → ⊥) × ((content after : List ℕ) → IsContent content → bytes ≡ framed content ++ after → ⊥)
+IsFront bytes fronts.Bad = (4 ≤ length bytes) × (1 ≤ big_number 4 bytes → big_number 4 bytes ≤ 1100000 → ⊥)
 IsFront bytes (fronts.Whole content after) = IsContent content.now × (bytes ≡ framed content.now ++ after.now)

@@ -8,6 +8,10 @@ use Rattle.vote_journal.specs.declared.store.DeviceFailed.{DeviceFailed}
 abbrev pub Only : List ℕ → (List ℕ → Type 0) → Type 0
 Only bytes outcomes = (c : List ℕ) → outcomes c → c ≡ bytes
 
+-- a stop leaves just this
+abbrev pub Just : List ℕ → (List ℕ → Type 0) → Type 0
+Just bytes outcomes = outcomes bytes × Only bytes outcomes
+
 -- a stop leaves nothing that it might not have left before
 abbrev pub NoMore : (List ℕ → Type 0) → (List ℕ → Type 0) → Type 0
 NoMore old new = (c : List ℕ) → new c → old c

@@ -1,5 +1,9 @@
 //! Why a journal can't be opened, or a record can't be saved.
 
+ghost use Rattle.std.specs.Prelude.{◌≡◌};
+ghost use Rattle.vote_journal.specs.declared.fault.JournalFault.TheVariants.{OutOfMemory};
+
+use std::alloc::AllocError;
 use thiserror::Error;
 
 /// Why a journal can't be opened, or a record can't be saved.
@@ -14,4 +18,12 @@ pub enum JournalFault {
     /// 3: the bytes are no journal of this validator, cut short or not. It comes in opening alone.
     #[error("the bytes are no journal of this validator")]
     BadRecord = 3,
+}
+
+impl From<AllocError> for JournalFault {
+    ghost from_gives = { λ _ e. e ≡ OutOfMemory };
+
+    fn from(_e: AllocError) -> JournalFault {
+        JournalFault::OutOfMemory
+    }
 }

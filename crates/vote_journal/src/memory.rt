@@ -4,7 +4,7 @@ ghost use Rattle.std.specs.Prelude.{◌≡◌, ◌==◌, ◌≤◌, ◌+◌, ◌
 ghost use Rattle.vote_journal.specs.Store.{Adds, Begun, Counts, CountsDevice, Grew, NoMore, Only, Shortened};
 ghost use Rattle.vote_journal.specs.Memory.{HasFailed, HasServed, IsJust};
 
-use crate::store::{DeviceFailed, Store, StoreFault};
+use crate::store::{DeviceFailed, Sink, Store, StoreFault};
 use std::alloc::Global;
 
 /// Bytes in memory, where each call takes effect at once and a stop leaves what stands.
@@ -101,10 +101,9 @@ impl Store for MemoryStore {
         self.failures
     }
 
-    fn read(&mut self, alloc: Global) -> Result<Vec<u8>, StoreFault> {
-        self.bytes
-            .to_vec(alloc)
-            .map_err(|_| StoreFault::OutOfMemory)
+    fn read<T: Sink>(&mut self, _alloc: Global, sink: &mut T) -> Result<(), StoreFault> {
+        sink.take(&self.bytes);
+        Ok(())
     }
 
     fn append(&mut self, bytes: &[u8]) -> Result<(), StoreFault>

@@ -1,30 +1,26 @@
 //! Opening a journal that a stop may have cut short.
 
-ghost use Rattle.std.specs.Prelude.{◌≡◌, ◌<◌, ◌≤◌, ◌-◌, ◌++◌, ℕ, List, [], length, take, OnOk, IfOk, IfErr, IsErrOf, false};
-ghost use Rattle.std.specs.Str.{bytes_eq};
+ghost use Rattle.std.specs.Prelude.{◌≡◌, ◌<◌, ◌≤◌, ◌+◌, ◌++◌, ℕ, List, [], length, take, OnOk, IfOk, IfErr, IsErrOf, false};
 ghost use Rattle.protocol.specs.Messages.{Record as AnyRecord};
 ghost use Rattle.vote_journal.specs.Grammar.{header, mark};
 ghost use Rattle.vote_journal.specs.Layout.{IsWhole};
-ghost use Rattle.vote_journal.specs.Store.{Only, Adds, Begun, Shortened, Grew, Counts, FailsBy};
+ghost use Rattle.vote_journal.specs.Store.{Just, Only, NoMore, Adds, Begun, Shortened, Grew, Counts, FailsBy};
 ghost use Rattle.vote_journal.specs.Saving.{added, if_wanted, BegunOpening, HasNoJournal, KeepsEach};
 ghost use Rattle.vote_journal.specs.Kept.{Keeps, IsOpened};
-ghost use Rattle.vote_journal.specs.Planning.{IsPlan};
-ghost use Rattle.vote_journal.specs.History.{Opened as HasOpened, NotOpened as WasNotOpened, Does};
+ghost use Rattle.vote_journal.specs.Planning.{Comes, IsPlan};
+ghost use Rattle.vote_journal.specs.History.{Opened as HasOpened, AsRead, RefusesAsRead};
 
 use crate::fault::JournalFault;
 use crate::journal::Journal;
 use crate::keeping::Kept;
 use crate::memory::MemoryStore;
-use crate::scanning::{Scan, read_records};
+use crate::stages::{Behind, HEADER, Reading, Stage, same_bytes};
 use crate::store::{Store, StoreFault};
 use crate::striking::{Strikes, StrikingStore};
 use messages::Bundle;
 use powers::Powers;
 use protocol::OwnMessage;
 use std::alloc::{AllocError, Global};
-
-/// What a journal begins with: the ASCII text TMJ1.
-const HEADER: [u8; 4] = [0x54, 0x4d, 0x4a, 0x31];
 
 /// The record that marks the form with sessions: its length, its kind, and the number of the form.
 const MARK: [u8; 9] = [0, 0, 0, 5, 4, 0, 0, 0, 2];
@@ -51,6 +47,8 @@ pub struct NotOpened<S: Drop> {
 struct Plan {
     kept: Kept,
     keep: usize,
+    /// How many bytes stand behind those that are kept.
+    torn: usize,
     fresh: bool,
     marked: bool,
 }
@@ -62,6 +60,7 @@ impl Plan {
         let Plan {
             kept,
             keep: _,
+            torn: _,
             fresh: _,
             marked: _,
         } = self;
@@ -78,72 +77,69 @@ fn front(alloc: Global) -> Result<Vec<u8>, AllocError>
     Ok(bytes)
 }
 
-fn same_bytes(a: &[u8], b: &[u8]) -> bool
-    ensures { result ≡ bytes_eq a.now b.now }
-{
-    a == b
-}
-
 /// Of fewer bytes than a header has.
 fn short_plan(alloc: Global, bytes: &[u8]) -> Result<Plan, JournalFault>
-    requires { length bytes.now < 4 }
-    ensures { (powers : List ℕ) (me : ℕ) → IsPlan powers me bytes.now result }
+    ensures plan { length bytes.now < 4 → (powers : List ℕ) (me : ℕ) → IsPlan powers me bytes.now result }
+    ensures all { IfOk result (λ p. p.keep + p.torn ≡ length bytes.now) }
 {
-    let (begun, _) = HEADER.split_at(bytes.len());
+    let begun = HEADER.get(..bytes.len()).unwrap_or(&[]);
     if !same_bytes(bytes, begun) {
         return Err(JournalFault::BadRecord);
     }
     Ok(Plan {
         kept: Kept::new(alloc),
         keep: 0,
+        torn: bytes.len(),
         fresh: true,
         marked: false,
     })
 }
 
-fn plan_of(alloc: Global, me: u16, powers: &Powers, bytes: &[u8]) -> Result<Plan, JournalFault>
-    ensures { IsPlan powers.now me bytes.now result }
+/// Of a store's bytes, which are read.
+fn plan_of(alloc: Global, stage: Result<Stage, JournalFault>) -> Result<Plan, JournalFault>
+    ensures plan { (powers : List ℕ) (me : ℕ) (bytes : List ℕ) → Comes powers me bytes stage → IsPlan powers me bytes result }
+    ensures all { (powers : List ℕ) (me : ℕ) (bytes : List ℕ) → Comes powers me bytes stage → IfOk result (λ p. p.keep + p.torn ≡ length bytes) }
 {
-    if bytes.len() < HEADER.len() {
-        return short_plan(alloc, bytes);
+    match stage {
+        Ok(Stage::Front(bytes)) => short_plan(alloc, &bytes),
+        Ok(Stage::Records(behind)) => Ok(plan_behind(behind)),
+        Err(fault) => Err(fault),
     }
-    let (front, behind) = bytes.split_at(HEADER.len());
-    if !same_bytes(front, &HEADER) {
-        return Err(JournalFault::BadRecord);
-    }
-    let scan = read_records(alloc, me, powers, behind)?;
-    Ok(plan_after(bytes.len(), scan))
 }
 
-/// Of so many bytes, of which this was read.
-fn plan_after(len: usize, scan: Scan) -> Plan
-    requires { scan.torn ≤ len }
-    ensures { result ≡ record { kept = scan.kept; keep = len - scan.torn; fresh = false; marked = scan.marked } }
+/// Of a header, and of what was read behind it.
+fn plan_behind(behind: Behind) -> Plan
+    ensures { result ≡ record { kept = behind.kept; keep = behind.read; torn = length behind.left.items; fresh = false; marked = behind.standing.marked } }
 {
-    let Scan { kept, marked, torn } = scan;
+    let Behind {
+        standing,
+        kept,
+        read,
+        left,
+    } = behind;
     Plan {
         kept,
-        keep: len - torn,
+        keep: read,
+        torn: left.len(),
         fresh: false,
-        marked,
+        marked: standing.is_marked(),
     }
 }
 
 /// Keeps the first bytes, adds a header and a mark where each is missing, and syncs.
 fn settle<S: Store>(
     store: &mut S,
-    len: usize,
     keep: usize,
+    torn: usize,
     fresh: bool,
     marked: bool,
 ) -> Result<(), StoreFault>
-    requires len { len ≡ length (S.seen store.old) }
-    requires keep { keep ≤ len }
+    requires { keep + torn ≡ length (S.seen store.old) }
     ensures done { OnOk result ((S.seen store.new ≡ take keep (S.seen store.old) ++ added fresh marked) × Only (S.seen store.new) (S.may_leave store.new)) }
     ensures stop { Adds (BegunOpening keep fresh marked (S.seen store.old)) (S.may_leave store.old) (S.may_leave store.new) }
     ensures failed { FailsBy result (Grew (S.failures store.old) (S.failures store.new)) (Unit {0}) }
 {
-    if keep < len {
+    if torn > 0 {
         shorten(store, keep)?;
     }
     add_front(store, fresh, marked)?;
@@ -187,25 +183,39 @@ fn shorten<S: Store>(store: &mut S, keep: usize) -> Result<(), StoreFault>
     }
 }
 
+/// Reads all bytes of a store.
+fn read_all<S: Store>(
+    alloc: Global,
+    store: &mut S,
+    me: u16,
+    powers: &Powers,
+) -> Result<Result<Stage, JournalFault>, StoreFault>
+    ensures read { IfOk result (λ stage. Comes powers.now me (S.seen store.new) stage × Just (S.seen store.new) (S.may_leave store.new)) }
+    ensures stop { NoMore (S.may_leave store.old) (S.may_leave store.new) }
+    ensures cause { Counts result (S.failures store.old) (S.failures store.new) }
+{
+    let mut reading = Reading::new(alloc, me, powers);
+    store.read(alloc, &mut reading)?;
+    Ok(reading.into_stage())
+}
+
 fn prepare<S: Store>(
     alloc: Global,
     store: &mut S,
     me: u16,
     powers: &Powers,
 ) -> Result<Kept, JournalFault>
-    ensures opened { IfOk result (λ kept. IsOpened powers.now me (S.may_leave store.old) (S.seen store.new) kept.decisions.items kept.own.items) }
-    ensures synced { OnOk result (Only (S.seen store.new) (S.may_leave store.new)) }
-    ensures stop { KeepsEach powers.now me (S.may_leave store.old) (S.may_leave store.new) }
-    ensures bad { IsErrOf result JournalFault.BadRecord → HasNoJournal powers.now me (S.may_leave store.old) }
+    ensures opened { IfOk result (λ kept. (rs : List AnyRecord) × AsRead S.seen S.may_leave powers.now me (HasOpened rs) store.old store.new × Keeps rs kept.decisions.items kept.own.items) }
+    ensures refused { IfErr result (λ fault. RefusesAsRead S.seen S.may_leave powers.now me fault store.old store.new) }
     ensures failed { IsErrOf result JournalFault.Failed → Grew (S.failures store.old) (S.failures store.new) }
 {
-    let bytes = match store.read(alloc) {
-        Ok(bytes) => bytes,
+    let stage = match read_all(alloc, store, me, powers) {
+        Ok(stage) => stage,
         Err(StoreFault::Device) => return Err(JournalFault::Failed),
         Err(StoreFault::OutOfMemory) => return Err(JournalFault::OutOfMemory),
     };
-    let plan = plan_of(alloc, me, powers, &bytes)?;
-    match settle(store, bytes.len(), plan.keep, plan.fresh, plan.marked) {
+    let plan = plan_of(alloc, stage)?;
+    match settle(store, plan.keep, plan.torn, plan.fresh, plan.marked) {
         Ok(()) => Ok(plan.into_kept()),
         Err(StoreFault::Device) => Err(JournalFault::Failed),
         Err(StoreFault::OutOfMemory) => Err(JournalFault::OutOfMemory),
@@ -237,9 +247,9 @@ impl<S: Store + Drop> Journal<S> {
         ensures stop { IfErr result (λ e. KeepsEach powers.now me (S.may_leave store) (S.may_leave e.store)) }
         ensures bad { IfErr result (λ e. e.fault ≡ JournalFault.BadRecord → HasNoJournal powers.now me (S.may_leave store)) }
         ensures failed { IfErr result (λ e. e.fault ≡ JournalFault.Failed → Grew (S.failures store) (S.failures e.store)) }
-        // Of these the laws on journals speak.
-        ensures does { IfOk result (λ o. (rs : List AnyRecord) × Does S.seen S.may_leave powers.now me (HasOpened rs) store o.journal.store × Keeps rs o.decisions.items o.own.items) }
-        ensures refused { IfErr result (λ e. Does S.seen S.may_leave powers.now me (WasNotOpened e.fault) store e.store) }
+        // Of these the laws on journals speak. They are of the store as it was read, of which more may be known than before.
+        ensures does { IfOk result (λ o. (rs : List AnyRecord) × AsRead S.seen S.may_leave powers.now me (HasOpened rs) store o.journal.store × Keeps rs o.decisions.items o.own.items) }
+        ensures refused { IfErr result (λ e. RefusesAsRead S.seen S.may_leave powers.now me e.fault store e.store) }
     {
         match prepare(alloc, &mut store, me, powers) {
             Ok(Kept { decisions, own }) => Ok(Opened {

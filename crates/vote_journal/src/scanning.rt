@@ -1,8 +1,8 @@
 //! The records of a journal, one after the other.
 
-ghost use Rattle.std.specs.Prelude.{◌≡◌, ◌&&◌, nat_le};
+ghost use Rattle.std.specs.Prelude.{◌≡◌, ◌&&◌, ℕ, List, nat_le};
 ghost use Rattle.vote_journal.specs.Layout.{IsFront};
-ghost use Rattle.vote_journal.specs.Planning.{IsScan};
+ghost use Rattle.vote_journal.specs.Planning.{IsScan, Read};
 
 use crate::fault::JournalFault;
 use crate::keeping::Kept;
@@ -25,13 +25,12 @@ pub enum Front<'a> {
     Whole(&'a [u8], &'a [u8]),
 }
 
-/// What was read behind a header.
+/// What was read of bytes behind a header.
 #[derive(Drop)]
 pub(crate) struct Scan {
+    pub(crate) standing: Standing,
     pub(crate) kept: Kept,
-    /// Whether the mark of the form with sessions stands among the records.
-    pub(crate) marked: bool,
-    /// How many bytes of a record that was cut short follow them.
+    /// How many bytes of a record that isn't whole follow.
     pub(crate) torn: usize,
 }
 
@@ -61,7 +60,7 @@ pub fn front_of(bytes: &[u8]) -> Front<'_>
     Front::Whole(content, after)
 }
 
-/// What is kept of the records of validator `me` behind a header, and what else was found.
+/// Reads the whole records of validator `me` at the front of bytes, behind those of which this is remembered and kept.
 ///
 /// Faults: `BadRecord` (3) for a length of 0 or above 1,100,000, for what is no record of the validator, and for a record
 /// that may not follow those before it; `OutOfMemory` (2).
@@ -69,19 +68,21 @@ pub(crate) fn read_records(
     alloc: Global,
     me: u16,
     powers: &Powers,
+    before: Standing,
+    kept_before: Kept,
     bytes: &[u8],
 ) -> Result<Scan, JournalFault>
-    ensures { IsScan powers.now me bytes.now result }
+    ensures { (all : List ℕ) → Read powers.now me all kept_before before bytes.now → IsScan powers.now me all bytes.now result }
 {
-    let mut standing = Standing::new(alloc);
-    let mut kept = Kept::new(alloc);
+    let mut standing = before;
+    let mut kept = kept_before;
     let mut rest = bytes;
     loop {
         match front_of(rest) {
             Front::Torn => {
                 return Ok(Scan {
+                    standing,
                     kept,
-                    marked: standing.is_marked(),
                     torn: rest.len(),
                 });
             }

@@ -1,7 +1,7 @@
 //! What a journal is kept on.
 
-ghost use Rattle.std.specs.Prelude.{◌≡◌, ◌≤◌, ◌++◌, ℕ, List, length, take, IfOk, OnOk, IsErrOf};
-ghost use Rattle.vote_journal.specs.Store.{Only, NoMore, Adds, Begun, Shortened, Counts, CountsDevice};
+ghost use Rattle.std.specs.Prelude.{◌≡◌, ◌≤◌, ◌++◌, ℕ, List, length, take, OnOk, IsErrOf};
+ghost use Rattle.vote_journal.specs.Store.{Just, Only, NoMore, Adds, Begun, Shortened, Counts, CountsDevice};
 
 use std::alloc::Global;
 use thiserror::Error;
@@ -22,6 +22,16 @@ pub enum StoreFault {
     OutOfMemory,
 }
 
+/// Who takes in the bytes that a store gives, piece by piece.
+pub trait Sink {
+    /// The one becomes the other by taking these bytes in.
+    ghost becomes: { Self → List ℕ → Self → Type 0 };
+
+    /// Takes the next bytes in.
+    fn take(&mut self, piece: &[u8])
+        ensures { (start : Self) (before : List ℕ) → becomes start before self.old → becomes start (before ++ piece.now) self.new };
+}
+
 /// Bytes that outlast a stop once they are synced.
 ///
 /// Its contracts speak of what a stop could leave, at each moment between two calls. A stop within a call is the stop
@@ -40,9 +50,11 @@ pub trait Store {
     fn failures(&self) -> u64
         ensures { result ≡ failures self.now };
 
-    /// All bytes, which are some that a stop could have left. Memory is taken for them.
-    fn read(&mut self, alloc: Global) -> Result<Vec<u8>, StoreFault>
-        ensures bytes { IfOk result (λ v. (seen self.new ≡ v.items) × may_leave self.old v.items) }
+    /// Gives all bytes to a sink, in order, as pieces of any lengths: they are some that a stop could have left, and what a
+    /// stop leaves now. Memory is taken for one piece at most. Where it fails, the sink may have some of them.
+    fn read<T: Sink>(&mut self, alloc: Global, sink: &mut T) -> Result<(), StoreFault>
+        ensures given { OnOk result ((start : T) (before : List ℕ) → T.becomes start before sink.old → T.becomes start (before ++ seen self.new) sink.new) }
+        ensures found { OnOk result (Just (seen self.new) (may_leave self.new)) }
         ensures stop { NoMore (may_leave self.old) (may_leave self.new) }
         ensures cause { Counts result (failures self.old) (failures self.new) };
 

@@ -6,7 +6,7 @@ ghost use Rattle.vote_journal.specs.Store.{Adds, Begun, Counts, CountsDevice, No
 ghost use Rattle.vote_journal.specs.Striking.{struck_at, IsCountable, SameBut};
 
 use crate::memory::MemoryStore;
-use crate::store::{DeviceFailed, Store, StoreFault};
+use crate::store::{DeviceFailed, Sink, Store, StoreFault};
 use std::alloc::{AllocError, Global};
 use std::cell::RefCell;
 use std::collections::BTreeMap;
@@ -125,8 +125,8 @@ impl Store for StrikingStore {
         self.store.failures()
     }
 
-    fn read(&mut self, alloc: Global) -> Result<Vec<u8>, StoreFault> {
-        self.store.read(alloc)
+    fn read<T: Sink>(&mut self, alloc: Global, sink: &mut T) -> Result<(), StoreFault> {
+        self.store.read(alloc, sink)
     }
 
     // What is not struck the store inside does.

@@ -8,7 +8,7 @@ use std::alloc::Global;
 use std::io;
 use std::io::{Read, Write};
 use std::test::Fail;
-use transactions::{Fault, Op, Seq};
+use transactions::{Data, Fault, Op};
 
 /// The keys of client 7 with two validators: of ones, and of twos.
 const KEYS: &str =
@@ -81,7 +81,7 @@ fn close_has_a_tag_for_each(rt: HostRuntime) {
 
 #[test]
 fn later_session_stands_in_the_frame(rt: HostRuntime) -> Result<(), Fail> {
-    let op = Op::Bytes(Seq::from_vec(b"b".to_vec(rt.alloc())?));
+    let op = Op::Bytes(Data::from_slice(rt.alloc(), b"b")?);
     let frame = frame(rt.alloc(), 1, 1, op);
     assert_same(
         &rt,

@@ -6,7 +6,7 @@ use super::assert_same;
 use proposal_validity::{Frontier, frontier_law, valid_law};
 use std::alloc::Global;
 use std::process::Abort;
-use transactions::{Op, Seq, Shared, Tx, Value, spell_value};
+use transactions::{Data, Op, Seq, Shared, Tx, Value, spell_value};
 
 /// A transaction's client, its session, its number, and whether it closes the session.
 pub(crate) type Place = (u16, u32, u64, bool);
@@ -16,8 +16,7 @@ fn op_of(rt: &impl Abort, alloc: Global, closes: bool) -> Op {
     if closes {
         return Op::Close;
     }
-    let bytes = b"ab".to_vec(alloc).expect(rt, "no memory");
-    Op::Bytes(Seq::from_vec(bytes))
+    Op::Bytes(Data::from_slice(alloc, b"ab").expect(rt, "no memory"))
 }
 
 /// A transaction at this place, which closes or asks for two bytes.

@@ -7,9 +7,9 @@ use super::{
 use std::process::Abort;
 use transactions::fields::{array_at, slice_at, u8_at, u16_at, u32_at, u64_at};
 use transactions::{
-    Duplicate, Fault, Item, Op, Seq, Shared, copy_all, len_of_tags, len_of_tx_body, len_of_value,
-    put_tags, put_tx_body, put_u16, put_u32, put_u64, put_value, same_value, tags_of, tx_fields_of,
-    value_front,
+    Data, Duplicate, Fault, Item, Op, Seq, Shared, copy_all, len_of_tags, len_of_tx_body,
+    len_of_value, put_tags, put_tx_body, put_u16, put_u32, put_u64, put_value, same_value, tags_of,
+    tx_fields_of, value_front,
 };
 
 /// The numbers of one, two, four and eight bytes at the front.
@@ -171,6 +171,30 @@ fn shared_lists(rt: HostRuntime) {
     let again = list.copy(rt.alloc()).expect(&rt, "the count fits");
     assert!(rt; list == again);
     assert_bytes(&rt, again.as_slice(), &[1, 2, 3]);
+}
+
+/// These bytes are held as they are, however they came, and so are their copies.
+fn assert_held<R: Abort + AllocGlobal>(rt: &R, bytes: &[u8]) {
+    let held = Data::from_slice(rt.alloc(), bytes).expect(rt, "they have room");
+    assert_same(rt, &held.len(), &bytes.len());
+    assert_bytes(rt, held.as_slice(), bytes);
+    let copy = held.copy(rt.alloc()).expect(rt, "the copy has room");
+    assert_bytes(rt, copy.as_slice(), bytes);
+    let vector = bytes.to_vec(rt.alloc()).expect(rt, "they have room");
+    assert!(rt; Data::from_vec(vector) == held);
+    assert!(rt; copy == held);
+}
+
+#[test]
+fn short_and_long_data(rt: HostRuntime) {
+    let letters = vec![in rt.alloc(); b'a'; 1024].expect(&rt, "they have room");
+    for len in [0, 1, 63, 64, 65, 1024] {
+        assert_held(&rt, letters.get(..len).expect(&rt, "there are as many"));
+    }
+    let none = Data::from_slice(rt.alloc(), &[]).expect(&rt, "it takes no memory");
+    assert!(rt; Data::new() == none);
+    let zero = Data::from_slice(rt.alloc(), &[0]).expect(&rt, "it takes no memory");
+    assert!(rt; zero != none);
 }
 
 /// Copies of elements are these elements.

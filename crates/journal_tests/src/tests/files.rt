@@ -9,7 +9,7 @@ use powers::Powers;
 use protocol::{Act, OwnMessage, Record};
 use std::fs::{self, File, Files};
 use std::process::Abort;
-use vote_journal::{Journal, Store};
+use vote_journal::{Journal, Sink, Store, StoreFault};
 
 const FOLDER: &str = "journal_file_test";
 
@@ -18,6 +18,10 @@ const PATH: &str = "journal_file_test/journal";
 const OTHER_FOLDER: &str = "journal_file_refusals";
 
 const OTHER_PATH: &str = "journal_file_refusals/journal";
+
+const LONG_FOLDER: &str = "journal_file_pieces";
+
+const LONG_PATH: &str = "journal_file_pieces/journal";
 
 /// The header, the mark and the records of validator 2's prevotes for nil in rounds 0 and 1.
 const BYTES: [u8; 55] = [
@@ -150,12 +154,51 @@ fn is_busy<R: Abort + AllocGlobal + Files<File = File>>(rt: &R, path: &str) -> b
     matches!(FileStore::open(rt, path), Err(FileFault::Busy))
 }
 
+/// All that a store gives.
+#[derive(Drop)]
+struct Given {
+    bytes: Vec<u8>,
+    is_whole: bool,
+}
+
+impl Sink for Given {
+    ghost becomes = { λ _ _ _. Unit {0} };
+
+    fn take(&mut self, piece: &[u8]) {
+        self.is_whole &= self.bytes.extend_from_slice(piece).is_ok();
+    }
+}
+
+/// All that a store gives.
+fn given_by<R: Abort + AllocGlobal>(rt: &R, store: &mut FileStore) -> Result<Vec<u8>, StoreFault> {
+    let mut given = Given {
+        bytes: Vec::new(rt.alloc()),
+        is_whole: true,
+    };
+    store.read(rt.alloc(), &mut given)?;
+    assert!(rt; given.is_whole);
+    Ok(given.bytes)
+}
+
+/// A store of which the file wasn't read does nothing.
+fn assert_unread<R: Abort + AllocGlobal + Files<File = File>>(rt: &R, path: &str) {
+    let mut store = store_at(rt, path);
+    assert!(rt; store.append(b"c").is_err());
+    assert!(rt; given_by(rt, &mut store).is_err());
+    assert_same(rt, &store.failures(), &2);
+}
+
 /// A store that was written gives nothing it holds any more, and from that failed call on does nothing.
 fn assert_shut<R: Abort + AllocGlobal + Files<File = File>>(rt: &R, store: &mut FileStore) {
+    assert_bytes(
+        rt,
+        &given_by(rt, store).expect(rt, "the store is read"),
+        b"",
+    );
     assert!(rt; store.append(b"ab").is_ok());
     assert!(rt; store.sync().is_ok());
     assert_same(rt, &store.failures(), &0);
-    assert!(rt; store.read(rt.alloc()).is_err());
+    assert!(rt; given_by(rt, store).is_err());
     assert_same(rt, &store.failures(), &1);
     assert!(rt; store.append(b"c").is_err());
     assert!(rt; store.cut(0).is_err());
@@ -174,7 +217,7 @@ fn assert_read_once<R: Abort + AllocGlobal + Files<File = File>>(rt: &R, path: &
 /// A store reads these bytes.
 fn assert_read<R: Abort + AllocGlobal + Files<File = File>>(rt: &R, path: &str, bytes: &[u8]) {
     let mut store = store_at(rt, path);
-    let found = store.read(rt.alloc()).expect(rt, "the store is read");
+    let found = given_by(rt, &mut store).expect(rt, "the store is read");
     assert_bytes(rt, &found, bytes);
 }
 
@@ -201,5 +244,25 @@ fn refusals(rt: HostRuntime) {
     assert_same(&rt, &is_unusable(&rt, OTHER_FOLDER), &true);
     assert_read_once(&rt, OTHER_PATH);
     assert_read(&rt, OTHER_PATH, b"ab");
+    assert_unread(&rt, OTHER_PATH);
+    assert_read(&rt, OTHER_PATH, b"ab");
     end(&rt, OTHER_FOLDER);
+}
+
+#[test]
+fn files_of_several_pieces(rt: HostRuntime) {
+    begin(&rt, LONG_FOLDER);
+    let mut bytes = vec![in rt.alloc(); 7; 600_000].expect(&rt, "the bytes have room");
+    bytes.push(8).expect(&rt, "the byte has room");
+    let mut store = store_at(&rt, LONG_PATH);
+    assert_bytes(
+        &rt,
+        &given_by(&rt, &mut store).expect(&rt, "the store is read"),
+        b"",
+    );
+    assert!(rt; store.append(&bytes).is_ok());
+    assert!(rt; store.sync().is_ok());
+    drop(store);
+    assert_read(&rt, LONG_PATH, &bytes);
+    end(&rt, LONG_FOLDER);
 }

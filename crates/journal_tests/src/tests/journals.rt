@@ -7,7 +7,7 @@ use messages::{Bundle, Precommit};
 use powers::Powers;
 use protocol::{Act, OwnMessage, Record};
 use std::process::Abort;
-use transactions::{Named, Op, Seq, Shared, Tx, Value, value_id};
+use transactions::{Data, Named, Op, Seq, Shared, Tx, Value, value_id};
 use vote_journal::{Journal, MemoryStore, NotOpened, Opened, read_record, spell_record};
 
 pub(super) const HEADER: [u8; 4] = *b"TMJ1";
@@ -52,8 +52,8 @@ fn tx_of<R: Abort + AllocGlobal>(rt: &R, session: u32, number: u64, op: Op) -> T
 
 /// Client 7's transaction of this session and number, which asks for the byte `a`.
 fn one_byte<R: Abort + AllocGlobal>(rt: &R, session: u32, number: u64) -> Tx {
-    let contents = joined(rt, &[b"a"]);
-    tx_of(rt, session, number, Op::Bytes(Seq::from_vec(contents)))
+    let contents = Data::from_slice(rt.alloc(), b"a").expect(rt, "the byte has room");
+    tx_of(rt, session, number, Op::Bytes(contents))
 }
 
 /// The value of these transactions.

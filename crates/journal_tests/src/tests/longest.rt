@@ -5,7 +5,7 @@ use super::{assert_bytes, assert_same};
 use messages::{Bundle, Precommit};
 use protocol::Record;
 use std::process::Abort;
-use transactions::{Duplicate, Op, Seq, Tx, Value, value_id};
+use transactions::{Data, Duplicate, Op, Seq, Tx, Value, value_id};
 use vote_journal::{JournalFault, read_record, spell_record};
 
 /// Tags of nines.
@@ -24,7 +24,7 @@ fn tx_of<R: Abort + AllocGlobal>(rt: &R, count: usize, tags: usize) -> Tx {
         client: 1023,
         session: 0xffff_ffff,
         number: 1,
-        op: Op::Bytes(Seq::from_vec(contents)),
+        op: Op::Bytes(Data::from_vec(contents)),
         tags: nines(rt, tags),
     }
 }

@@ -5,7 +5,7 @@ use powers::Powers;
 use std::alloc::Global;
 use std::process::Abort;
 use std::slice;
-use transactions::{Op, Seq};
+use transactions::{Data, Op};
 use world_schedule::{Event, Failing, FaultNumber, Report, Told, What, World};
 
 /// Four validators, of whom these lie, and eight clients.
@@ -66,7 +66,7 @@ fn runs_after_a_fault(rt: HostRuntime) {
 
 fn refuses_a_long_item(rt: &impl Abort, alloc: Global, world: &mut World) {
     let zeros = vec![in alloc; 0; 1025].expect(rt, "the bytes have room");
-    let long = Op::Bytes(Seq::from_vec(zeros));
+    let long = Op::Bytes(Data::from_vec(zeros));
     let too_long = Some((2, FaultNumber::TooLong, 3));
     let events = [Event::Ask(1), Event::Send(7, long)];
     assert_same(rt, &fault_of(world, &events), &too_long);

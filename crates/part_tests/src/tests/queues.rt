@@ -9,7 +9,8 @@ use std::alloc::{AllocError, Global};
 use std::fmt::Write;
 use std::process::Abort;
 use transactions::{
-    Op, Seq, Shared, Tx, Value, len_of_tx_body, len_of_value, put_tx_body, read_value, spell_value,
+    Data, Op, Seq, Shared, Tx, Value, len_of_tx_body, len_of_value, put_tx_body, read_value,
+    spell_value,
 };
 
 /// The key of all that is sent.
@@ -225,13 +226,13 @@ impl Validator {
 /// An operation of this many bytes.
 pub(super) fn bytes<R: Abort + AllocGlobal>(rt: &R, len: usize) -> Op {
     let bytes = vec![in rt.alloc(); 7; len].expect(rt, "the bytes have room");
-    Op::Bytes(Seq::from_vec(bytes))
+    Op::Bytes(Data::from_vec(bytes))
 }
 
 /// An operation of this byte.
 pub(super) fn byte<R: Abort + AllocGlobal>(rt: &R, byte: u8) -> Op {
     let bytes = vec![in rt.alloc(); byte].expect(rt, "the byte has room");
-    Op::Bytes(Seq::from_vec(bytes))
+    Op::Bytes(Data::from_vec(bytes))
 }
 
 /// An operation of this many bytes, or a close.

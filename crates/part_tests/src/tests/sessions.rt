@@ -4,7 +4,7 @@ use super::assert_same;
 use super::queues::{Validator, byte, bytes, value_alone, value_of};
 use protocol::{Standing, SubmitFault};
 use std::process::Abort;
-use transactions::{Op, Seq, Tx, Value, spell_value};
+use transactions::{Data, Op, Tx, Value, spell_value};
 
 /// The tag of client 7's transaction of session 1 with number 1, the byte 62, by Python's module `hmac`.
 const TAG_OF_BYTES: [u8; 32] = [
@@ -430,7 +430,7 @@ fn the_next_follows_what_stands_for_the_own_close(rt: HostRuntime) {
 /// Client 8's two transactions wait.
 fn queue_two_of_another<R: Abort + AllocGlobal>(rt: &R, validator: &mut Validator) {
     for number in [1, 2] {
-        let op = Op::Bytes(Seq::new(validator.alloc));
+        let op = Op::Bytes(Data::new());
         let other = validator.tagged(rt, 8, 0, number, op);
         assert_same(rt, &validator.submit(other), &Ok(()));
     }

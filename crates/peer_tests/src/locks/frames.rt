@@ -8,7 +8,7 @@ use messages::{
 use std::alloc::Global;
 use std::process::Abort;
 use transactions::{
-    Id, Op, Seq, Shared, Tx, Value, len_of_tx_body, put_tx_body, read_value, value_id,
+    Data, Id, Op, Seq, Shared, Tx, Value, len_of_tx_body, put_tx_body, read_value, value_id,
 };
 
 /// A value's bytes: those of its one transaction, of client 7 with this number, and the tags for validators 0 to 3.
@@ -185,7 +185,7 @@ pub(super) fn close(rt: &impl Abort, alloc: Global) -> Vec<u8> {
 
 /// Validator 0's bundle, by which height 6 decides client 7's first transaction of the next session.
 pub(super) fn next_session(rt: &impl Abort, alloc: Global) -> Vec<u8> {
-    let contents = Seq::from_vec(b"b".to_vec(alloc).expect(rt, MEMORY));
+    let contents = Data::from_slice(alloc, b"b").expect(rt, MEMORY);
     let value = value_of(rt, alloc, 1, 1, Op::Bytes(contents));
     bundle_of(rt, alloc, 6, value)
 }

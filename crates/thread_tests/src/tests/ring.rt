@@ -11,7 +11,7 @@ use std::sync::Wait;
 use std::thread;
 use std::thread::Threads;
 use subscriber_ring::{Delivered, Feeder, OfferFault, RingFault, Subscription, ring};
-use transactions::{Item, Op, Seq};
+use transactions::{Data, Item, Op};
 
 /// What came of an offer, with the position of an item that was given back.
 #[derive(Clone, Copy, Debug, PartialEq, Eq)]
@@ -30,7 +30,7 @@ fn item_at(alloc: Global, position: u64) -> Result<Item, AllocError> {
         client: 7,
         session: 0,
         number: position,
-        op: Op::Bytes(Seq::from_vec(b"ab".to_vec(alloc)?)),
+        op: Op::Bytes(Data::from_slice(alloc, b"ab")?),
     })
 }
 

@@ -2,14 +2,14 @@
 
 use crate::fault::BenchFault;
 use crate::node::ME;
-use journal_file::FileStore;
 use messages::{Bundle, Precommit};
 use protocol::Record;
 use std::alloc::Global;
 use std::fs::File;
+use std::io::Write;
 use std::rt::Files;
-use transactions::{Op, Seq, Shared, Tx, Value, value_id};
-use vote_journal::{Store, spell_record};
+use transactions::{Data, Op, Seq, Shared, Tx, Value, value_id};
+use vote_journal::spell_record;
 
 /// How many transactions a decision has.
 const TXS: u64 = 256;
@@ -23,31 +23,31 @@ pub(crate) fn filled<R: Files<File = File> + AllocGlobal>(
     path: &str,
     count: u32,
 ) -> Result<String, BenchFault> {
-    let mut store = FileStore::open(rt, path)?;
-    told(rt.alloc(), &mut store, count)
+    let mut file = File::create(rt, path)?;
+    told(rt.alloc(), &mut file, count)
 }
 
 /// Writes the journal, and tells its bytes.
-fn told(alloc: Global, store: &mut FileStore, count: u32) -> Result<String, BenchFault> {
-    let written = fill(alloc, store, count)?;
+fn told(alloc: Global, file: &mut File, count: u32) -> Result<String, BenchFault> {
+    let written = fill(alloc, file, count)?;
     Ok(format!(in alloc; "{count} decisions, {written} bytes\n")?)
 }
 
-/// Appends the decisions of so many heights, and syncs.
-fn fill(alloc: Global, store: &mut FileStore, count: u32) -> Result<usize, BenchFault> {
-    store.append(FRONT)?;
+/// Writes the decisions of so many heights, and syncs.
+fn fill(alloc: Global, file: &mut File, count: u32) -> Result<usize, BenchFault> {
+    file.write_all(FRONT)?;
     let mut written = FRONT.len();
     for height in 0..count {
-        written = written.saturating_add(add(alloc, store, u64::from(height))?);
+        written = written.saturating_add(add(alloc, file, u64::from(height))?);
     }
-    store.sync()?;
+    file.sync_all()?;
     Ok(written)
 }
 
-/// Appends the decision of a height: how many bytes it takes.
-fn add(alloc: Global, store: &mut FileStore, height: u64) -> Result<usize, BenchFault> {
+/// Writes the decision of a height: how many bytes it takes.
+fn add(alloc: Global, file: &mut File, height: u64) -> Result<usize, BenchFault> {
     let bytes = spelled(alloc, height)?;
-    store.append(&bytes)?;
+    file.write_all(&bytes)?;
     Ok(bytes.len())
 }
 
@@ -89,7 +89,7 @@ fn tx(alloc: Global, number: u64) -> Result<Tx, BenchFault> {
         client: 7,
         session: 0,
         number,
-        op: Op::Bytes(Seq::from_vec(vec![in alloc; 7u8; 1024]?)),
+        op: Op::Bytes(Data::from_vec(vec![in alloc; 7u8; 1024]?)),
         tags: nines(alloc)?,
     })
 }

@@ -5,7 +5,7 @@ use node_meters::{Links, Meters, Sample, Syncs, Traffic};
 use protocol::{Refusal, Step, SubmitFault};
 use std::process::Abort;
 use std::test::Fail;
-use vote_journal::{MemoryStore, Store};
+use vote_journal::{MemoryStore, Sink, Store};
 
 /// Meters on which everything was counted.
 pub(super) fn meters() -> Meters {
@@ -74,6 +74,21 @@ fn assert_refusals(rt: &impl Abort, sample: &Sample) {
     assert!(rt; sum == 1 + 2 * 13 + 17);
 }
 
+/// All that a store gives.
+#[derive(Drop)]
+struct Given {
+    bytes: Vec<u8>,
+    is_whole: bool,
+}
+
+impl Sink for Given {
+    ghost becomes = { λ _ _ _. Unit {0} };
+
+    fn take(&mut self, piece: &[u8]) {
+        self.is_whole &= self.bytes.extend_from_slice(piece).is_ok();
+    }
+}
+
 #[test]
 fn syncs_are_counted(rt: HostRuntime) -> Result<(), Fail> {
     let meters = Meters::new();
@@ -84,8 +99,12 @@ fn syncs_are_counted(rt: HostRuntime) -> Result<(), Fail> {
     assert!(rt; store.sync().is_ok());
     assert!(rt; store.sync().is_err());
     assert!(rt; store.failures() == 1);
-    let bytes = store.read(rt.alloc())?;
-    assert!(rt; bytes.as_slice() == [1u8, 2].as_slice());
+    let mut given = Given {
+        bytes: Vec::new(rt.alloc()),
+        is_whole: true,
+    };
+    store.read(rt.alloc(), &mut given)?;
+    assert!(rt; given.is_whole && given.bytes.as_slice() == [1u8, 2].as_slice());
     assert!(rt; meters.sample().syncs.count == 2);
     Ok(())
 }

@@ -1,32 +1,19 @@
-use Rattle.std.proofs.Common.{◌≡◌, ℕ, List, take, true, Ok, Err, sym, subst, ◌∙◌}
-use Rattle.std.proofs.lemmas.Result.{err_from_is_err_and}
-use Rattle.std.proofs.lemmas.Slice.Eq.{bytes_eq-Decides}
-use Rattle.std.specs.Str.{bytes_eq}
-use Rattle.vote_journal.specs.Grammar.{header}
-use Rattle.vote_journal.specs.Planning.{IsScan}
-use Rattle.vote_journal.proofs.Stops.{plan_of_scan, scan_err, scan_room}
+use Rattle.std.proofs.Common.{◌≡◌, ℕ, List, length, Ok, arith, sym, ap, subst, ◌∙◌}
+use Rattle.vote_journal.specs.declared.opening.Plan.{Plan}
+use Rattle.vote_journal.specs.Planning.{Comes, IsPlan, IsStage}
+use Rattle.vote_journal.proofs.Stops.{plan_behind, plan_err}
 use Rattle.vote_journal.proofs.opening.plan_of.Goals as goal
 
-pub returns-then-bytes-lt4 : goal.returns-then-bytes-lt4
-returns-then-bytes-lt4 c = c.short_plan.ensures c.args.powers.now c.args.me
+pub returns-in-Ok-Front-clause-plan : goal.returns-in-Ok-Front-clause-plan
+returns-in-Ok-Front-clause-plan c = λ powers me bytes h.
+    let here = subst (IsStage powers me bytes) c.in-Ok-Front.field-0-is (subst (Comes powers me bytes) c.in-Ok-Front.is h) in
+    let same : c.deref.result.now ≡ bytes = c.deref.ensures.value ∙ here.0 in
+    subst (λ (x : List ℕ). IsPlan powers me x c.short_plan.result) same (c.short_plan.ensures.plan (omega (arith, here.1, ap length same)) powers me)
 
-pub returns-in_err-scan : goal.returns-in_err-scan
-returns-in_err-scan c =
-    let p = err_from_is_err_and c.from_residual.result c.from_residual.ensures.1 in
-    let same : bytes_eq c.split_at.result.0.now header ≡ true = cc in
-    let front : take 4 c.args.bytes.now ≡ header = sym c.split_at.ensures.front ∙ (bytes_eq-Decides c.split_at.result.0.now header).0 same in
-    rw (p.1, p.2) (scan_err c.args.powers.now c.args.me c.args.bytes.now c.in_err-scan.field-0.0 front (subst (λ (x : List ℕ). IsScan c.args.powers.now c.args.me x (Err c.in_err-scan.field-0.0)) c.split_at.ensures.back c.in_err-scan.ensures))
+pub returns-in-Ok-Records-clause-plan : goal.returns-in-Ok-Records-clause-plan
+returns-in-Ok-Records-clause-plan c = λ powers me bytes h.
+    let here = subst (IsStage powers me bytes) c.in-Ok-Records.field-0-is (subst (Comes powers me bytes) c.in-Ok-Records.is h) in
+    subst (λ (p : Plan). IsPlan powers me bytes (Ok p)) (sym c.plan_behind.ensures) (plan_behind powers me bytes here.0 c.in-Ok-Records.behind here.1 here.2)
 
-pub returns : goal.returns
-returns c =
-    let same : bytes_eq c.split_at.result.0.now header ≡ true = cc in
-    let front : take 4 c.args.bytes.now ≡ header = sym c.split_at.ensures.front ∙ (bytes_eq-Decides c.split_at.result.0.now header).0 same in
-    let scan = subst (λ (x : List ℕ). IsScan c.args.powers.now c.args.me x (Ok c.in_ok-scan.scan)) c.split_at.ensures.back c.in_ok-scan.ensures in
-    rw c.plan_after.ensures (plan_of_scan c.args.powers.now c.args.me c.args.bytes.now c.in_ok-scan.scan front scan)
-
-pub plan_after-requires : goal.plan_after-requires
-plan_after-requires c =
-    let same : bytes_eq c.split_at.result.0.now header ≡ true = cc in
-    let front : take 4 c.args.bytes.now ≡ header = sym c.split_at.ensures.front ∙ (bytes_eq-Decides c.split_at.result.0.now header).0 same in
-    let scan = subst (λ (x : List ℕ). IsScan c.args.powers.now c.args.me x (Ok c.in_ok-scan.scan)) c.split_at.ensures.back c.in_ok-scan.ensures in
-    scan_room c.args.powers.now c.args.me c.args.bytes.now c.in_ok-scan.scan scan
+pub returns-in-Err-clause-plan : goal.returns-in-Err-clause-plan
+returns-in-Err-clause-plan c = λ powers me bytes h. plan_err powers me bytes c.in-Err.fault (subst (Comes powers me bytes) c.in-Err.is h)

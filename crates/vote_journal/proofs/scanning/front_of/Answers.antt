@@ -3,7 +3,7 @@ use Rattle.std.proofs.lemmas.List.{length-take-le}
 use Rattle.byteorder.specs.Endian.{big_number}
 use Rattle.vote_journal.specs.Grammar.{framed}
 use Rattle.vote_journal.specs.Layout.{IsContent}
-use Rattle.vote_journal.proofs.Layouts.{bad_front, whole_front, lawful_length, outside_length}
+use Rattle.vote_journal.proofs.Layouts.{whole_front, lawful_length, outside_length}
 use Rattle.vote_journal.proofs.scanning.front_of.Goals as goal
 
 pub returns-then-not-is_lawful : goal.returns-then-not-is_lawful
@@ -11,7 +11,7 @@ returns-then-not-is_lawful c =
     let long : 4 ≤ length c.args.bytes.now = omega arith in
     let n : c.read_u32-len.result ≡ big_number 4 c.args.bytes.now = c.read_u32-len.ensures in
     let unlawful : leb 1 c.read_u32-len.result && leb c.read_u32-len.result 1100000 ≡ false = cc in
-    bad_front c.args.bytes.now long (λ low high. outside_length c.read_u32-len.result unlawful (omega arith) (omega arith))
+    (long, λ low high. outside_length c.read_u32-len.result unlawful (omega (arith, n, low)) (omega (arith, n, high)))
 
 pub returns : goal.returns
 returns c =

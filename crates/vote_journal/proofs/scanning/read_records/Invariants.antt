@@ -1,9 +1,10 @@
-use Rattle.std.proofs.Common.{length}
-use Rattle.vote_journal.proofs.Kept.{Read}
+use Rattle.std.proofs.Common.{List, ℕ, length}
+use Rattle.vote_journal.specs.Planning.{Read}
+use Rattle.vote_journal.proofs.Pieces.{ReadOn}
 use Rattle.vote_journal.proofs.scanning.read_records.Given as goal
 
-abbrev pub invariant-loop-kept : goal.invariant-loop-kept
-invariant-loop-kept l = Read l.powers l.me l.bytes l.kept l.standing l.rest
+abbrev pub invariant-loop-standing : goal.invariant-loop-standing
+invariant-loop-standing l = (all : List ℕ) → Read l.fn.powers l.fn.me all l.fn.kept_before l.fn.before l.fn.bytes → ReadOn l.fn.powers l.fn.me all l.fn.bytes l.kept l.standing l.rest
 
-abbrev pub decreases-loop-kept : goal.decreases-loop-kept
-decreases-loop-kept l = length l.rest
+abbrev pub decreases-loop-standing : goal.decreases-loop-standing
+decreases-loop-standing l = length l.rest

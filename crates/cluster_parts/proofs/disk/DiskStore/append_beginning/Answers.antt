@@ -1,4 +1,4 @@
-use Rattle.std.proofs.Common.{◌≡◌, ◌++◌, List, ℕ, ap, ◌∙◌, sym}
+use Rattle.std.proofs.Common.{◌++◌, List, ℕ, ap, ◌∙◌}
 use Rattle.cluster_parts.specs.declared.disk.DiskStore.{DiskStore}
 use Rattle.cluster_parts.proofs.Leaving.{beginning_leaves}
 use Rattle.cluster_parts.proofs.disk.DiskStore.append_beginning.Goals as goal
