@@ -4,7 +4,7 @@ ghost use Rattle.std.specs.Prelude.{IfOk, IfSome};
 ghost use Rattle.messages.specs.Replies.{IsReply};
 
 use bytes::Bytes;
-use cluster_checks::Heading;
+use cluster_checks::{EarlyWatch, Heading};
 use cluster_parts::DiskStore;
 use edge_frames::LinkId;
 use messages::{Reply, spell_reply};
@@ -72,6 +72,8 @@ pub struct Engine {
     pub node: NodeCore<DiskStore>,
     /// Its edge.
     pub core: PeerCore,
+    /// What its edge has to hand in again.
+    pub watch: EarlyWatch,
 }
 
 impl Engine {
@@ -93,6 +95,7 @@ impl Engine {
             Deed::Hear(link, frames) => self.hear(link, &frames, now, out),
             Deed::End(link) => {
                 self.core.ended(link);
+                self.watch.ended(link.0);
                 Ok(())
             }
             Deed::Dialed(validator, is_reached) => {
@@ -159,10 +162,11 @@ impl Engine {
             return Ok(None);
         }
         let answer = self.node.handle(frame);
-        out.outs
-            .push(Out::Answered(link, Heading::of_frame(frame), answer))?;
-        self.after(answer, now, out)?;
         let height = self.node.height();
+        let heading = Heading::of_frame(frame);
+        self.watch.answered(link.0, heading, answer, height)?;
+        out.outs.push(Out::Answered(link, heading, answer))?;
+        self.after(answer, now, out)?;
         Ok(self.core.answered(link, frame, answer, height, now))
     }
 
@@ -240,7 +244,10 @@ impl Engine {
                 self.after(answer, now, out)
             }
             Duty::Send(sending) => Ok(out.outs.push(Out::Send(sending))?),
-            Duty::Close(link, closing) => Ok(out.outs.push(Out::Close(link, closing))?),
+            Duty::Close(link, closing) => {
+                self.watch.ended(link.0);
+                Ok(out.outs.push(Out::Close(link, closing))?)
+            }
             // (who is behind a link is only logged)
             Duty::Meet(..) => Ok(()),
         }

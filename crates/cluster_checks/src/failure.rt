@@ -83,6 +83,14 @@ pub enum Failure {
         height: u64,
         highest: u64,
     },
+    /// A frame that came before its height wasn't handed in when that came.
+    #[error("validator {validator} forgets a {kind} that came too early on link {link} (height {height})")]
+    EarlyFrameLost {
+        validator: u16,
+        link: u32,
+        height: u64,
+        kind: &'static str,
+    },
     /// A correct validator doesn't run, long after faults ceased.
     #[error("validator {validator} doesn't run")]
     NotRunning {

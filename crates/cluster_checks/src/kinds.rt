@@ -76,7 +76,7 @@ impl fmt::Display for Kind {
 }
 
 /// The kind of a frame, and where its message is of a validator, of which height, round and sender.
-#[derive(Clone, Copy)]
+#[derive(Clone, Copy, PartialEq, Eq)]
 pub struct Heading {
     pub kind: Kind,
     pub height: u64,

@@ -5,6 +5,7 @@
 #![tactic(auto)]
 
 mod costs;
+mod early;
 mod event;
 mod failure;
 mod judge;
@@ -16,6 +17,7 @@ mod trouble;
 mod witness;
 
 pub use costs::{Costs, Load};
+pub use early::EarlyWatch;
 pub use event::Event;
 pub use failure::{Failed, Failure};
 pub use judge::{Judge, Progress};

@@ -176,6 +176,14 @@ impl World {
         }
         note_reached(&mut self.costs, &engine.node);
         let height = engine.node.height();
+        if let Some((link, heading)) = engine.watch.lost(height) {
+            return Err(Failure::EarlyFrameLost {
+                validator,
+                link,
+                height,
+                kind: heading.kind.name(),
+            });
+        }
         let mut progress = post.progress;
         if height <= progress.heights {
             return Ok(());

@@ -5,7 +5,7 @@ ghost use Rattle.world_parties.specs.Cast.{is_validator};
 
 use crate::world::World;
 use cluster_actors::{Deed, Engine, Post, Seat};
-use cluster_checks::{Event, Failure, Note, Progress};
+use cluster_checks::{EarlyWatch, Event, Failure, Note, Progress};
 use cluster_parts::{DiskStore, End};
 use node_core::{Config, NodeCore};
 use peer_core::{Manner, PeerCore};
@@ -76,6 +76,7 @@ fn take_node(post: &mut Post) -> Option<NodeCore<DiskStore>> {
                 alloc: _,
                 node,
                 core: _,
+                watch: _,
             } = Box::into_inner(engine);
             Some(node)
         }
@@ -194,6 +195,7 @@ impl World {
             alloc: self.alloc,
             node,
             core,
+            watch: EarlyWatch::new(self.alloc),
         };
         Ok(Box::new(self.alloc, engine)?)
     }

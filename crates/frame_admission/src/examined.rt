@@ -1,7 +1,6 @@
 //! What is found of a frame by keys alone, before a node's lock is taken.
 
 ghost use Rattle.std.specs.Prelude.{◌≡◌, ℕ, List, IfOk, IfSome};
-ghost use Rattle.std.specs.Str.{bytes_eq};
 ghost use Rattle.authenticators.specs.Tags.{is_right};
 ghost use Rattle.messages.specs.Grammar.{body_spelling};
 ghost use Rattle.messages.specs.declared.body.Body.TheVariants as bodies;

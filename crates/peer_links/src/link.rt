@@ -107,7 +107,8 @@ pub trait Links {
 /// how often, the caller decides.
 pub trait Dialer {
     /// Dials the address of the validator with this number, and waits for it: at most a second, once its host's name is
-    /// looked up. Whom it reached the source gives as a peer, with `Way::Dialed` of this number.
+    /// looked up, and a second before that where it was reached at an address that it has left. Whom it reached the source
+    /// gives as a peer, with `Way::Dialed` of this number.
     fn dial<R: Wait + time::Clock>(&mut self, rt: &R, validator: u16) -> Dialed;
 }
 
@@ -116,6 +117,6 @@ pub trait Dialer {
 pub enum Dialed {
     /// It did, and the source gives the peer.
     Reached,
-    /// It did not: nobody answered within a second, no address has this number, or the number is the node's own.
+    /// It did not: nobody answered in that time, no address has this number, or the number is the node's own.
     Unreached,
 }

@@ -1,14 +1,16 @@
 //! The keys of a world's parties, and tags under them.
 
-ghost use Rattle.std.specs.Prelude.{◌≡◌, ◌<◌, ◌≤◌, ◌++◌, ◌==◌, ℕ, List, length, IfOk, OnOk};
+ghost use Rattle.std.specs.Prelude.{◌≡◌, ◌<◌, ◌≤◌, ◌++◌, ◌==◌, ℕ, List, None, true, length, map, IfOk, OnOk};
 ghost use Rattle.std.specs.List.{list_any};
 ghost use Rattle.std.specs.String.{string_bytes};
 ghost use Rattle.protocol.specs.Rings.{IsRingOf};
+ghost use Rattle.protocol.specs.Messages.{below};
+ghost use Rattle.protocol.specs.Tags.{Validator, hmac as hmac_of};
 ghost use Rattle.world_parties.specs.Keys.{key_between, setting, tag_for, tags_for};
 ghost use Rattle.world_parties.specs.Sets.{is_right_for};
 ghost use Rattle.world_parties.specs.KeyFile.{key_line, with_feed, lines_with, key_file};
 
-use authenticators::{KeyRing, KeysFault, Party, hmac};
+use authenticators::{Key, KeyRing, KeysFault, Party, hmac};
 use sha2::{Digest, Sha256};
 use std::alloc::{AllocError, Global};
 use std::fmt::Write;
@@ -58,6 +60,62 @@ fn tag_for(
     }
     let key = key_between(alloc, from, to)?;
     Ok(hmac(&key, body))
+}
+
+/// The keys of what a validator sends to each of the first so many, made ready for tags.
+#[derive(Drop)]
+pub(crate) struct SenderKeys {
+    sender: u16,
+    keys: Vec<Key>,
+    ghost right: { keys.items ≡ map (key_between (Validator sender)) (below (length keys.items)) },
+}
+
+impl SenderKeys {
+    pub(crate) fn new(alloc: Global, sender: u16, validators: u16) -> Result<SenderKeys, AllocError>
+        ensures { IfOk result (λ made. (made.sender ≡ sender) × (length made.keys.items ≡ validators)) }
+    {
+        let keys = keys_from(alloc, sender, validators)?;
+        Ok(SenderKeys { sender, keys })
+    }
+
+    /// Returns whether they are of what this validator sends to so many.
+    pub(crate) fn are_of(&self, sender: u16, validators: u16) -> bool
+        ensures { result ≡ true → (self.now.sender ≡ sender) × (length self.now.keys.items ≡ validators) }
+    {
+        self.sender == sender && self.keys.len() == usize::from(validators)
+    }
+
+    /// The right tags of a body's bytes, in turn.
+    #[tactic(auto, using(crate::proofs::Tags::tags_by_keys))]
+    pub(crate) fn tags(&self, alloc: Global, body: &[u8]) -> Result<Vec<[u8; 32]>, AllocError>
+        ensures { IfOk result (λ tags. tags.items ≡ tags_for None (Validator self.now.sender) (length self.now.keys.items) body.now) }
+    {
+        tags_under(alloc, &self.keys, body)
+    }
+}
+
+/// The keys of what a validator sends to each of the first so many.
+#[tactic(auto, using(crate::proofs::Tags::no_keys, crate::proofs::Tags::more_keys))]
+fn keys_from(alloc: Global, sender: u16, validators: u16) -> Result<Vec<Key>, AllocError>
+    ensures { IfOk result (λ keys. (keys.items ≡ map (key_between (Validator sender)) (below validators)) × (length keys.items ≡ validators)) }
+{
+    let mut keys = Vec::with_capacity(alloc, usize::from(validators))?;
+    for to in 0..validators {
+        let key = key_between(alloc, Party::Validator(sender), to)?;
+        keys.push(Key::new(key))?;
+    }
+    Ok(keys)
+}
+
+/// The tags of a text under each of these keys.
+fn tags_under(alloc: Global, keys: &[Key], text: &[u8]) -> Result<Vec<[u8; 32]>, AllocError>
+    ensures { IfOk result (λ tags. tags.items ≡ map (λ (key : List ℕ). hmac_of key text.now) keys.now) }
+{
+    let mut tags = Vec::with_capacity(alloc, keys.len())?;
+    for key in keys {
+        tags.push(key.tag(text))?;
+    }
+    Ok(tags)
 }
 
 /// The keys of a validator: those of what each validator and each client sends to it, and of what it

@@ -1,13 +1,14 @@
 //! Who takes part in a world.
 
-ghost use Rattle.std.specs.Prelude.{◌≡◌, ◌≤◌, ◌==◌, ℕ, true, false, length, nat_lt, slice_index_or, IfOk, OnOk, IfErr, MatchOption};
+ghost use Rattle.std.specs.Prelude.{◌≡◌, ◌≤◌, ◌==◌, ℕ, true, false, length, nat_lt, slice_index_or, IfOk, OnOk, IfErr, IfSome, MatchOption};
 ghost use Rattle.std.specs.List.{list_all, list_any};
 ghost use Rattle.protocol.specs.Rings.{IsRingOf};
+ghost use Rattle.protocol.specs.Tags.{Validator};
 ghost use Rattle.world_parties.specs.Cast.{setting_of, is_validator, is_correct, is_liar, is_client, are_parties, LiesIn};
 
 use crate::fault::FaultNumber;
-use crate::keys::ring_of;
-use authenticators::KeyRing;
+use crate::keys::{SenderKeys, ring_of};
+use authenticators::{KeyRing, Party};
 use powers::{MOST_VALIDATORS, Powers};
 use protocol::MOST_CLIENTS;
 use std::alloc::{AllocError, Global};
@@ -19,6 +20,8 @@ pub struct Parties {
     powers: Powers,
     lies: [bool; MOST_VALIDATORS],
     clients: u16,
+    /// The keys of each liar, by its number, once they are kept.
+    kept: Option<Vec<SenderKeys>>,
 }
 
 impl Model for Parties {
@@ -52,8 +55,38 @@ impl Parties {
                 powers,
                 lies,
                 clients,
+                kept: None,
             }),
             None => Err(FaultNumber::NoSuchParty),
+        }
+    }
+
+    /// Keeps the keys of each liar, so that they aren't made anew for each of its frames.
+    pub fn keep_keys(&mut self, alloc: Global) -> Result<(), AllocError>
+        ensures { self.new ≡ self.old }
+    {
+        let count = self.count();
+        let mut kept = Vec::with_capacity(alloc, usize::from(count))?;
+        for sender in 0..count {
+            let most = if self.is_flagged(sender) { count } else { 0 };
+            kept.push(SenderKeys::new(alloc, sender, most)?)?;
+        }
+        self.kept = Some(kept);
+        Ok(())
+    }
+
+    /// The keys of what a party sends, where they are kept.
+    pub(crate) fn kept_of(&self, from: Party) -> Option<&SenderKeys>
+        ensures { IfSome result (λ keys. (from ≡ Validator keys.now.sender) × (length keys.now.keys.items ≡ length self.now.powers)) }
+    {
+        let Party::Validator(sender) = from else {
+            return None;
+        };
+        let keys = self.kept.as_ref()?.get(usize::from(sender))?;
+        if keys.are_of(sender, self.count()) {
+            Some(keys)
+        } else {
+            None
         }
     }
 

@@ -122,7 +122,10 @@ impl Parties {
         ensures err { IfErr result (IsUnencoded (IsBody body.now)) }
     {
         let spelled = spelled(alloc, body)?;
-        let tags = tags_of(alloc, from, self.count(), &None, &spelled)?;
+        let tags = match self.kept_of(from) {
+            Some(keys) => keys.tags(alloc, &spelled)?,
+            None => tags_of(alloc, from, self.count(), &None, &spelled)?,
+        };
         Ok(Seq::from_vec(tags))
     }
 

@@ -66,7 +66,8 @@ impl World {
         ensures fit { OnOk result (are_parties powers clients liars.now ≡ true) }
         ensures err { IfErr result (IsUnopened (are_parties powers clients liars.now)) }
     {
-        let parties = Parties::new(powers, clients, liars)?;
+        let mut parties = Parties::new(powers, clients, liars)?;
+        parties.keep_keys(alloc)?;
         Ok(World::of(alloc, parties, clients)?)
     }
 

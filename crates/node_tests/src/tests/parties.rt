@@ -98,6 +98,22 @@ fn vote_of_a_liar(rt: HostRuntime) {
     votes_for_a_liar(&rt, rt.alloc(), &parties);
 }
 
+#[test]
+fn kept_keys_give_the_same_frame(rt: HostRuntime) {
+    let alloc = rt.alloc();
+    let mut parties = parties_of(&rt, alloc);
+    let line = precommit_line(&rt, alloc);
+    let before = parties
+        .frame_of_vote(alloc, &line)
+        .expect(&rt, "the vote has a frame");
+    parties.keep_keys(alloc).expect(&rt, "there is memory");
+    let after = parties
+        .frame_of_vote(alloc, &line)
+        .expect(&rt, "the vote has a frame");
+    assert_same(&rt, &after, &before);
+    votes_for_a_liar(&rt, alloc, &parties);
+}
+
 /// Whether it is liar 0's proposal of height 5 with the valid round 0.
 fn is_proposal(body: &Body) -> bool {
     match body {

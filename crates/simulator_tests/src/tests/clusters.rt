@@ -1,10 +1,13 @@
 //! That a run is repeated by its seed, that a cluster without faults delivers all, and that a disk which breaks its promise is found.
 
 use super::assert_same;
-use cluster_checks::{Asked, Costs, Failed, Kind, Settings, Trouble, Troubles};
+use cluster_checks::{
+    Asked, Costs, EarlyWatch, Failed, Heading, Kind, Settings, Trouble, Troubles,
+};
 use cluster_parts::{Chance, Drift};
 use cluster_world::World;
 use peer_core::Keeping;
+use protocol::Refusal;
 use std::alloc::Global;
 use std::test::Fail;
 
@@ -88,6 +91,29 @@ fn lost_bytes_are_found(rt: HostRuntime) -> Result<(), Fail> {
         world.plant_forgetful_disk(validator);
     }
     assert!(rt; run(&mut world).failed.is_some());
+    Ok(())
+}
+
+#[test]
+fn early_frames_are_awaited(rt: HostRuntime) -> Result<(), Fail> {
+    let mut watch = EarlyWatch::new(rt.alloc());
+    let early = Heading {
+        kind: Kind::Prevote,
+        height: 8,
+        round: 0,
+        sender: 2,
+    };
+    let later = Heading { height: 9, ..early };
+    watch.answered(5, early, Err(Refusal::OtherHeight), 7)?;
+    watch.answered(5, later, Err(Refusal::OtherHeight), 7)?;
+    assert!(rt; watch.lost(7).is_none());
+    assert!(rt; watch.lost(8) == Some((5, early)));
+    watch.answered(5, early, Ok(()), 8)?;
+    assert!(rt; watch.lost(8).is_none());
+    watch.answered(5, later, Err(Refusal::OtherHeight), 8)?;
+    assert!(rt; watch.lost(9) == Some((5, later)));
+    watch.ended(5);
+    assert!(rt; watch.lost(9).is_none());
     Ok(())
 }
 

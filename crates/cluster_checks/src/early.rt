@@ -1,0 +1,66 @@
+//! Whether frames that came before their height are handed in once it has come.
+
+ghost use Rattle.std.specs.Prelude.{◌≡◌, IfSome};
+
+use crate::kinds::{Heading, Kind};
+use protocol::Refusal;
+use std::alloc::{AllocError, Global};
+use std::collections::BTreeMap;
+
+/// Of each link the first frame of the next height that came too early. A validator's edge has room for it whatever else the link
+/// brings, so it has to be handed in when its height has come.
+#[derive(Drop)]
+pub struct EarlyWatch {
+    first: BTreeMap<u32, Heading>,
+}
+
+impl EarlyWatch {
+    /// No frame yet. It takes no memory.
+    pub fn new(alloc: Global) -> EarlyWatch {
+        EarlyWatch {
+            first: BTreeMap::new(alloc),
+        }
+    }
+
+    /// Notes how a link's frame was answered by a node that is then at this height.
+    pub fn answered(
+        &mut self,
+        link: u32,
+        heading: Heading,
+        answer: Result<(), Refusal>,
+        height: u64,
+    ) -> Result<(), AllocError> {
+        let is_next = heading.height == height.saturating_add(1) && heading.kind != Kind::Ask;
+        match self.first.get(&link) {
+            Some(noted) if *noted == heading => {
+                if heading.height <= height {
+                    self.first.remove(&link);
+                }
+            }
+            Some(noted) if noted.height > height => {}
+            _ => {
+                if is_next && answer == Err(Refusal::OtherHeight) {
+                    self.first.insert(link, heading)?;
+                }
+            }
+        }
+        Ok(())
+    }
+
+    /// Forgets a link that is closed, or has ended.
+    pub fn ended(&mut self, link: u32) {
+        self.first.remove(&link);
+    }
+
+    /// Returns a frame that had to be handed in at this height and was not, after all that was due is done, and its link.
+    pub fn lost(&self, height: u64) -> Option<(u32, Heading)>
+        ensures { IfSome result (λ lost. lost.1.height ≡ height) }
+    {
+        for (link, heading) in self.first.iter() {
+            if heading.height == height {
+                return Some((*link, *heading));
+            }
+        }
+        None
+    }
+}
