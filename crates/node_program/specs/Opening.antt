@@ -1,5 +1,5 @@
 -- What a validator is opened over.
-use Rattle.std.specs.Prelude.{ℕ, List, reverse}
+use Rattle.std.specs.Prelude.{◌≡◌, ℕ, List, reverse}
 use Rattle.protocol.specs.Messages.{Record}
 use Rattle.protocol.specs.Restart.{opened}
 use Rattle.vote_journal.specs.Store.{Just}
@@ -21,8 +21,9 @@ pub record IsOpenedAsRead {S : Type 0} (seen : S → List ℕ) (may_leave : S �
   pub was : WasRead seen may_leave powers me store read
   pub opened : IsOpenedOver powers me (may_leave read) core
 
--- It is so over the store of a file as it was read, of which a stop leaves just what was there.
+-- It is so over the store of a file as it was read, of which a stop leaves just what was there, and no call of the file has failed.
 pub record IsOpenedInFile (powers : List ℕ) (me : ℕ) (core : Core) : Type 0 where
   pub store : FileStore
   pub stands : Just (kept store.is_read store.asked.events) (may_be_left store.is_read store.asked.events)
   pub opened : IsOpenedOver powers me (may_be_left store.is_read store.asked.events) core
+  pub unfailed : core.journal.failures ≡ 0

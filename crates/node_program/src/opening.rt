@@ -37,6 +37,7 @@ pub(crate) fn open_core<S: Store + Drop>(
     requires count { ring.count ≡ length config.powers }
     requires me { config.me < length config.powers }
     ensures opened { IfOk result (λ core. IsOpenedAsRead S.seen S.may_leave config.powers config.me store core) }
+    ensures counted { IfOk result (λ core. core.journal.failures ≡ S.failures store) }
     ensures same { IfOk result (λ core. (core.machine.powers ≡ config.powers) × (core.machine.me ≡ config.me) × (core.ring ≡ ring)) }
 {
     match Journal::open(alloc, store, config.me, &config.powers) {
@@ -58,6 +59,7 @@ fn core_over<S: Store + Drop>(
     requires journal { (opened.journal.me ≡ config.me) × (opened.journal.failed ≡ false) }
     requires read { IsRead config.powers config.me (S.seen opened.journal.store) opened.decisions.items opened.own.items }
     ensures stands { IfOk result (λ core. (rs : List AnyRecord) → IsWhole config.powers config.me (S.seen opened.journal.store) rs → Stands (opened_over config.me (reverse rs)) core) }
+    ensures counted { IfOk result (λ core. core.journal.failures ≡ S.failures opened.journal.store) }
     ensures same { IfOk result (λ core. (core.machine.powers ≡ config.powers) × (core.machine.me ≡ config.me) × (core.ring ≡ ring)) }
 {
     match NodeCore::open(alloc, config, ring, opened) {

@@ -145,6 +145,7 @@ fn open_metered<'a, R: Clock>(
     requires owner { ring.me ≡ Validator config.me }
     requires count { ring.count ≡ length config.powers }
     requires me { config.me < length config.powers }
+    requires unfailed { store.store.failures ≡ 0 }
     ensures opened { IfOk result (λ core. IsOpenedInFile config.powers config.me core) }
 {
     open_core(alloc, config, ring, store)

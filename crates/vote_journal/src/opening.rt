@@ -4,7 +4,7 @@ ghost use Rattle.std.specs.Prelude.{◌≡◌, ◌<◌, ◌≤◌, ◌+◌, ◌+
 ghost use Rattle.protocol.specs.Messages.{Record as AnyRecord};
 ghost use Rattle.vote_journal.specs.Grammar.{header, mark};
 ghost use Rattle.vote_journal.specs.Layout.{IsWhole};
-ghost use Rattle.vote_journal.specs.Store.{Just, Only, NoMore, Adds, Begun, Shortened, Grew, Counts, FailsBy};
+ghost use Rattle.vote_journal.specs.Store.{Just, Only, NoMore, Adds, Begun, Shortened, Grew, Counts};
 ghost use Rattle.vote_journal.specs.Saving.{added, if_wanted, BegunOpening, HasNoJournal, KeepsEach};
 ghost use Rattle.vote_journal.specs.Kept.{Keeps, IsOpened};
 ghost use Rattle.vote_journal.specs.Planning.{Comes, IsPlan};
@@ -137,7 +137,7 @@ fn settle<S: Store>(
     requires { keep + torn ≡ length (S.seen store.old) }
     ensures done { OnOk result ((S.seen store.new ≡ take keep (S.seen store.old) ++ added fresh marked) × Only (S.seen store.new) (S.may_leave store.new)) }
     ensures stop { Adds (BegunOpening keep fresh marked (S.seen store.old)) (S.may_leave store.old) (S.may_leave store.new) }
-    ensures failed { FailsBy result (Grew (S.failures store.old) (S.failures store.new)) (Unit {0}) }
+    ensures counted { Counts result (S.failures store.old) (S.failures store.new) }
 {
     if torn > 0 {
         shorten(store, keep)?;
@@ -208,6 +208,7 @@ fn prepare<S: Store>(
     ensures opened { IfOk result (λ kept. (rs : List AnyRecord) × AsRead S.seen S.may_leave powers.now me (HasOpened rs) store.old store.new × Keeps rs kept.decisions.items kept.own.items) }
     ensures refused { IfErr result (λ fault. RefusesAsRead S.seen S.may_leave powers.now me fault store.old store.new) }
     ensures failed { IsErrOf result JournalFault.Failed → Grew (S.failures store.old) (S.failures store.new) }
+    ensures counted { OnOk result (S.failures store.new ≡ S.failures store.old) }
 {
     let stage = match read_all(alloc, store, me, powers) {
         Ok(stage) => stage,
@@ -247,6 +248,7 @@ impl<S: Store + Drop> Journal<S> {
         ensures stop { IfErr result (λ e. KeepsEach powers.now me (S.may_leave store) (S.may_leave e.store)) }
         ensures bad { IfErr result (λ e. e.fault ≡ JournalFault.BadRecord → HasNoJournal powers.now me (S.may_leave store)) }
         ensures failed { IfErr result (λ e. e.fault ≡ JournalFault.Failed → Grew (S.failures store) (S.failures e.store)) }
+        ensures counted { IfOk result (λ o. S.failures o.journal.store ≡ S.failures store) }
         // Of these the laws on journals speak. They are of the store as it was read, of which more may be known than before.
         ensures does { IfOk result (λ o. (rs : List AnyRecord) × AsRead S.seen S.may_leave powers.now me (HasOpened rs) store o.journal.store × Keeps rs o.decisions.items o.own.items) }
         ensures refused { IfErr result (λ e. RefusesAsRead S.seen S.may_leave powers.now me e.fault store e.store) }
