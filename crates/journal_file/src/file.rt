@@ -21,7 +21,7 @@ const PIECE: usize = 1 << 18;
 /// Why a file was not opened.
 #[derive(Clone, Copy, Debug, Error)]
 pub enum FileFault {
-    /// 1: the file or its directory can't be opened, made, synced or read, or is no regular file.
+    /// 1: the file or its directory can't be opened, made or synced, or is no regular file.
     #[error("the file cannot be opened: {0}")]
     Unusable(io::Error),
     /// 2: another store, of this process or another, has the file open.
