@@ -275,7 +275,7 @@ impl Client {
 }
 
 /// What a transaction asks for.
-fn op_of(alloc: Global, chance: &mut Chance, is_close: bool) -> Result<Op, AllocError> {
+pub(crate) fn op_of(alloc: Global, chance: &mut Chance, is_close: bool) -> Result<Op, AllocError> {
     if is_close {
         return Ok(Op::Close);
     }

@@ -4,7 +4,7 @@ ghost use Rattle.std.specs.Prelude.{IfOk, IfSome};
 ghost use Rattle.messages.specs.Replies.{IsReply};
 
 use bytes::Bytes;
-use cluster_checks::{EarlyWatch, Heading};
+use cluster_checks::{EarlyWatch, Heading, SpeechWatch};
 use cluster_parts::DiskStore;
 use edge_frames::LinkId;
 use messages::{Reply, spell_reply};
@@ -36,6 +36,8 @@ pub enum Out {
 #[derive(Drop)]
 pub struct Outbox {
     pub outs: Vec<Out>,
+    /// How many frames the node made, each with a tag for every validator.
+    pub made: u64,
     /// Whether the node has halted, so that the validator ends.
     pub has_halted: bool,
 }
@@ -45,8 +47,21 @@ impl Outbox {
     pub fn new(alloc: Global) -> Outbox {
         Outbox {
             outs: Vec::new(alloc),
+            made: 0,
             has_halted: false,
         }
+    }
+
+    /// Returns a link on which a reply goes out, and from which nothing was handed in.
+    pub fn astray(&self, heard: Option<LinkId>) -> Option<LinkId> {
+        for out in self.outs.iter() {
+            if let Out::Reply(link, _) = out
+                && heard != Some(*link)
+            {
+                return Some(*link);
+            }
+        }
+        None
     }
 }
 
@@ -65,6 +80,16 @@ pub enum Deed {
     Dialed(u16, bool),
 }
 
+impl Deed {
+    /// The link on which frames came, if any did.
+    pub fn heard(&self) -> Option<LinkId> {
+        match self {
+            Deed::Hear(link, _) => Some(*link),
+            Deed::Settle | Deed::Wake | Deed::End(_) | Deed::Dialed(..) => None,
+        }
+    }
+}
+
 /// A node and its edge.
 #[derive(Drop)]
 pub struct Engine {
@@ -74,18 +99,29 @@ pub struct Engine {
     pub core: PeerCore,
     /// What its edge has to hand in again.
     pub watch: EarlyWatch,
+    /// What its edge has to say, and what it said too late.
+    pub speech: SpeechWatch,
 }
 
 impl Engine {
     /// Does this, and then all that its edge says, and returns whether that came to an end.
     pub fn run(&mut self, deed: Deed, now: u64, out: &mut Outbox) -> Result<bool, AllocError> {
+        self.speech.begins(self.node.height());
         self.act(deed, now, out)?;
         self.do_duties(now, out)
     }
 
     /// Takes a link that has opened, or says why not.
     pub fn open(&mut self, link: LinkId, way: Way, now: u64) -> Result<(), OpenFault> {
-        self.core.opened(link, way, now)
+        let is_dialed = self.core.dials_again() && way != Way::Accepted;
+        if is_dialed && self.speech.dialed(link.0).is_err() {
+            return Err(OpenFault::OutOfMemory);
+        }
+        let opened = self.core.opened(link, way, now);
+        if opened.is_err() {
+            self.speech.forget(link.0);
+        }
+        opened
     }
 
     fn act(&mut self, deed: Deed, now: u64, out: &mut Outbox) -> Result<(), AllocError> {
@@ -96,6 +132,7 @@ impl Engine {
             Deed::End(link) => {
                 self.core.ended(link);
                 self.watch.ended(link.0);
+                self.speech.forget(link.0);
                 Ok(())
             }
             Deed::Dialed(validator, is_reached) => {
@@ -189,12 +226,22 @@ impl Engine {
     /// Has the edge say to whom each frame goes that the node released.
     fn release(&mut self, now: u64, out: &mut Outbox) -> Result<(), AllocError> {
         for frame in self.node.outgoing() {
+            out.made = out.made.saturating_add(1);
             let frame = Bytes::from_vec(frame)?;
             if let Some(sending) = self.core.released(frame, now)? {
-                out.outs.push(Out::Send(sending))?;
+                self.send(sending, out)?;
             }
         }
         Ok(())
+    }
+
+    /// Lets a frame out.
+    fn send(&mut self, sending: Sending, out: &mut Outbox) -> Result<(), AllocError> {
+        self.speech.sent(Heading::of_frame(&sending.frame));
+        for link in sending.links.iter() {
+            self.speech.forget(link.0);
+        }
+        Ok(out.outs.push(Out::Send(sending))?)
     }
 
     /// Has the edge plan each timeout that the node scheduled.
@@ -228,10 +275,7 @@ impl Engine {
                 let answer = self.node.ask();
                 self.after(answer, now, out)
             }
-            Duty::Settle => {
-                let answer = self.node.settle();
-                self.after(answer, now, out)
-            }
+            Duty::Settle => self.settle(now, out),
             Duty::Resend => {
                 let answer = self.node.resend();
                 self.after(answer, now, out)
@@ -243,9 +287,10 @@ impl Engine {
                 }
                 self.after(answer, now, out)
             }
-            Duty::Send(sending) => Ok(out.outs.push(Out::Send(sending))?),
+            Duty::Send(sending) => self.send(sending, out),
             Duty::Close(link, closing) => {
                 self.watch.ended(link.0);
+                self.speech.forget(link.0);
                 Ok(out.outs.push(Out::Close(link, closing))?)
             }
             // (who is behind a link is only logged)

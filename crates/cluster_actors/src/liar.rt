@@ -1,11 +1,13 @@
 //! Byzantine validators: each follows the others as a correct one does, and lies about what it says.
 
+use crate::client::op_of;
 use bytes::Bytes;
+use cluster_checks::TxName;
 use cluster_parts::Chance;
 use messages::{Body, Message, Proposal, Step, Vote, read};
 use std::alloc::{AllocError, Global};
 use std::collections::VecDeque;
-use transactions::{Duplicate, Id, Shared, Value};
+use transactions::{Duplicate, Id, Item, Shared, Value};
 
 /// How many frames of others a liar remembers.
 const MOST_HEARD: usize = 64;
@@ -33,6 +35,10 @@ pub enum Lie {
     Garbage,
     /// An ask of a height of its choice.
     Ask,
+    /// A transaction in the name of a correct client, with tags that aren't its.
+    ForgedTx,
+    /// A vote in the name of another validator, with the own tags.
+    ForgedVote,
     /// Nothing.
     Nothing,
 }
@@ -103,6 +109,8 @@ impl Liar {
             9 => Lie::Flood,
             10 => Lie::Garbage,
             11..=12 => Lie::Ask,
+            13 => Lie::ForgedTx,
+            14 => Lie::ForgedVote,
             _ => Lie::Nothing,
         }
     }
@@ -163,6 +171,22 @@ impl Liar {
             round,
             sender: self.number,
             content: self.content(alloc),
+        })
+    }
+
+    /// Returns a number below this one, of whom it speaks for.
+    pub fn name(&mut self, count: u16) -> u16 {
+        self.chance.small(0, count.saturating_sub(1))
+    }
+
+    /// Returns an item in the name of a client, which was to send another one next.
+    pub fn forged_item(&mut self, alloc: Global, next: TxName) -> Result<Item, AllocError> {
+        let is_close = self.chance.percent(10);
+        Ok(Item {
+            client: next.client,
+            session: next.session,
+            number: next.number,
+            op: op_of(alloc, &mut self.chance, is_close)?,
         })
     }
 

@@ -1,7 +1,11 @@
 //! What a run costs.
 
 use crate::kinds::{KINDS, Kind};
+use crate::pace::Pace;
 use std::fmt;
+
+/// How many hashes a tag is: RFC 2104 has one within another.
+const HASHES: u64 = 2;
 
 /// How many frames, and how many bytes they have.
 #[derive(Clone, Copy, Debug, PartialEq, Eq)]
@@ -37,10 +41,18 @@ pub struct Costs {
     pub round: u32,
     /// The most proposals that a correct validator kept at once.
     pub kept: u64,
+    /// The most frames of a height that a correct validator's edge kept at once.
+    pub frames: u64,
+    /// How many tags validators made for the frames that they sent.
+    pub tags_made: u64,
+    /// How many frames validators took in, of each of which the own tag is checked.
+    pub tags_checked: u64,
     /// How often a validator was started, but for the first time.
     pub restarts: u64,
     /// How many transactions were accepted.
     pub accepted: u64,
+    /// How soon those were delivered that were accepted in calm.
+    pub pace: Pace,
     /// How many links there were.
     pub links: u64,
     /// How often nothing was looked at, as a validator was bound by a lock from before its restart, or a height went on round by
@@ -60,8 +72,12 @@ impl Costs {
         height: 0,
         round: 0,
         kept: 0,
+        frames: 0,
+        tags_made: 0,
+        tags_checked: 0,
         restarts: 0,
         accepted: 0,
+        pace: Pace::NONE,
         links: 0,
         bound: 0,
         events: 0,
@@ -89,8 +105,12 @@ impl fmt::Display for Costs {
             height,
             round,
             kept,
+            frames,
+            tags_made,
+            tags_checked,
             restarts,
             accepted,
+            pace,
             links,
             bound,
             events,
@@ -104,11 +124,22 @@ impl fmt::Display for Costs {
         )?;
         write!(
             f,
-            "highest round {round}, at most {kept} proposals kept, {restarts} restarts, {links} links, {dropped} frames dropped"
+            "highest round {round}, at most {kept} proposals and {frames} frames kept, {restarts} restarts, {links} links, {dropped} frames dropped"
         )?;
+        let Pace { looked_at, late } = pace;
+        write!(f, ", {late} of {looked_at} late in calm")?;
         if *bound > 0 {
             write!(f, ", {bound} looks left out")?;
         }
+        let tags = tags_made.saturating_add(*tags_checked);
+        let hashes = tags
+            .saturating_mul(HASHES)
+            .checked_div(*delivered)
+            .unwrap_or(0);
+        write!(
+            f,
+            "\n  tags: {tags_made} made, {tags_checked} checked, {hashes} hashes per delivered transaction"
+        )?;
         for kind in KINDS {
             let Load { frames, bytes } = self.sent(kind);
             let each = bytes.checked_div(*delivered).unwrap_or(0);

@@ -1,6 +1,10 @@
 //! Whether frames that came before their height are handed in once it has come.
 
-ghost use Rattle.std.specs.Prelude.{◌≡◌, IfSome};
+ghost use Rattle.std.specs.Prelude.{◌≡◌, ◌==◌, ◌+◌, ◌≤◌, Some, None, Err, OnOk};
+ghost use Rattle.std.specs.List.{find};
+ghost use Rattle.cluster_checks.specs.declared.kinds.Kind.TheVariants.{Ask};
+ghost use Rattle.protocol.specs.declared.refusal.Refusal.TheVariants.{OtherHeight};
+ghost use Rattle.cluster_checks.specs.Watching.{early_of, KeepsOtherLinks};
 
 use crate::kinds::{Heading, Kind};
 use protocol::Refusal;
@@ -29,7 +33,11 @@ impl EarlyWatch {
         heading: Heading,
         answer: Result<(), Refusal>,
         height: u64,
-    ) -> Result<(), AllocError> {
+    ) -> Result<(), AllocError>
+        ensures noted { early_of self.old.first link ≡ None → answer ≡ Err OtherHeight → heading.height ≡ height + 1 → ¬ (heading.kind ≡ Ask) → OnOk result (early_of self.new.first link ≡ Some heading) }
+        ensures handed { early_of self.old.first link ≡ Some heading → heading.height ≤ height → early_of self.new.first link ≡ None }
+        ensures others { KeepsOtherLinks link self.old.first self.new.first }
+    {
         let is_next = heading.height == height.saturating_add(1) && heading.kind != Kind::Ask;
         match self.first.get(&link) {
             Some(noted) if *noted == heading => {
@@ -48,13 +56,16 @@ impl EarlyWatch {
     }
 
     /// Forgets a link that is closed, or has ended.
-    pub fn ended(&mut self, link: u32) {
+    pub fn ended(&mut self, link: u32)
+        ensures ended { early_of self.new.first link ≡ None }
+        ensures others { KeepsOtherLinks link self.old.first self.new.first }
+    {
         self.first.remove(&link);
     }
 
     /// Returns a frame that had to be handed in at this height and was not, after all that was due is done, and its link.
     pub fn lost(&self, height: u64) -> Option<(u32, Heading)>
-        ensures { IfSome result (λ lost. lost.1.height ≡ height) }
+        ensures { result ≡ find (λ noted. noted.1.height == height) self.now.first.entries }
     {
         for (link, heading) in self.first.iter() {
             if heading.height == height {

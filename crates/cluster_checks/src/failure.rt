@@ -91,6 +91,48 @@ pub enum Failure {
         height: u64,
         kind: &'static str,
     },
+    /// A validator dialed a link and said nothing on it, though it has said something at its height.
+    #[error("validator {validator} dials link {link} and doesn't say on it what it said (height {height})")]
+    NotGreeted {
+        validator: u16,
+        link: u32,
+        height: u64,
+    },
+    /// A validator replied on another link than the one on which it was asked.
+    #[error("validator {validator} replies on link {link}, on which nothing came")]
+    ReplyAstray {
+        validator: u16,
+        link: u32,
+    },
+    /// A validator's edge wants to be woken later than at its next tick.
+    #[error("validator {validator} wants to sleep for {pause} ms")]
+    SleepsLong {
+        validator: u16,
+        pause: u64,
+    },
+    /// A validator proposed at a height that was over, and the next one too.
+    #[error("validator {validator} proposes at height {over}, round {round}, and is at height {height}")]
+    ProposalOutdated {
+        validator: u16,
+        over: u64,
+        round: u32,
+        height: u64,
+    },
+    /// A validator stays in a round though more than a third of the power is in a later one.
+    #[error("validator {validator} stays in round {round}, and more than a third are in round {later} (height {height})")]
+    RoundNotSkipped {
+        validator: u16,
+        height: u64,
+        round: u32,
+        later: u32,
+    },
+    /// More than half of what was accepted in calm took long to be delivered everywhere.
+    #[error("of {looked_at} transactions that were accepted in calm {late} took more than {most} ms to be delivered everywhere")]
+    Slow {
+        looked_at: u64,
+        late: u64,
+        most: u64,
+    },
     /// A correct validator doesn't run, long after faults ceased.
     #[error("validator {validator} doesn't run")]
     NotRunning {

@@ -2,6 +2,7 @@
 
 ghost use Rattle.std.specs.Prelude.{◌≡◌};
 ghost use Rattle.cluster_checks.specs.Judging.{name_of};
+ghost use Rattle.cluster_checks.specs.Watching.{is_of_round};
 
 use std::fmt;
 use transactions::fields::{u8_at, u16_at, u32_at, u64_at};
@@ -63,7 +64,9 @@ impl Kind {
     }
 
     /// Returns whether it is a proposal or a vote.
-    pub fn is_of_round(self) -> bool {
+    pub fn is_of_round(self) -> bool
+        ensures { result ≡ is_of_round self }
+    {
         matches!(self, Kind::Proposal | Kind::Prevote | Kind::Precommit)
     }
 }

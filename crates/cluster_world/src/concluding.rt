@@ -1,8 +1,8 @@
 //! What comes of what a validator did.
 
-use crate::world::{Accepted, World};
+use crate::world::{Accepted, BOUND_MS, World};
 use bytes::Bytes;
-use cluster_actors::{Out, Outbox, Seat};
+use cluster_actors::{Engine, Out, Outbox, Seat};
 use cluster_checks::{Costs, Event, Failure, Heading, Note, Progress, TxName};
 use cluster_parts::DiskStore;
 use edge_frames::LinkId;
@@ -13,12 +13,61 @@ use protocol::Refusal;
 /// How many addresses a validator dials at one moment at most.
 const MOST_DIALS: u16 = 256;
 
-/// Notes what a correct validator's node has come to.
-fn note_reached(costs: &mut Costs, node: &NodeCore<DiskStore>) {
+/// How long a validator's edge sleeps at most, in milliseconds: it ticks each second.
+const LONGEST_SLEEP_MS: u64 = 1_000;
+
+/// Notes what a correct validator has come to.
+fn note_reached(costs: &mut Costs, engine: &Engine) {
+    let node = &engine.node;
     let kept = node.state().kept().len() as u64;
+    let frames = engine.core.kept() as u64;
     costs.height = costs.height.max(node.height());
     costs.round = costs.round.max(node.round());
     costs.kept = costs.kept.max(kept);
+    costs.frames = costs.frames.max(frames);
+}
+
+/// Looks whether a validator's edge hands in and says all that it has to, and whether its node is in the round that it has to be in.
+fn look_at_edge(validator: u16, engine: &Engine) -> Result<(), Failure> {
+    let height = engine.node.height();
+    if let Some((link, heading)) = engine.watch.lost(height) {
+        return Err(Failure::EarlyFrameLost {
+            validator,
+            link,
+            height,
+            kind: heading.kind.name(),
+        });
+    }
+    if let Some(link) = engine.speech.owed(height) {
+        return Err(Failure::NotGreeted {
+            validator,
+            link,
+            height,
+        });
+    }
+    if let Some(heading) = engine.speech.outdated() {
+        return Err(Failure::ProposalOutdated {
+            validator,
+            over: heading.height,
+            round: heading.round,
+            height,
+        });
+    }
+    look_at_round(validator, &engine.node)
+}
+
+/// A node that has nothing to do is at least in the highest round in which more than a third of the power said something.
+fn look_at_round(validator: u16, node: &NodeCore<DiskStore>) -> Result<(), Failure> {
+    let round = node.round();
+    match node.state().tally().highest_weak() {
+        Some(later) if later > round && node.is_settled() => Err(Failure::RoundNotSkipped {
+            validator,
+            height: node.height(),
+            round,
+            later,
+        }),
+        _ => Ok(()),
+    }
 }
 
 impl World {
@@ -31,7 +80,13 @@ impl World {
             return self.stop(validator, true);
         }
         post.witness.read_synced(&post.drive)?;
-        let Outbox { outs, has_halted } = out;
+        let Outbox {
+            outs,
+            made,
+            has_halted,
+        } = out;
+        let tags = made.saturating_mul(u64::from(self.parties.count()));
+        self.costs.tags_made = self.costs.tags_made.saturating_add(tags);
         for one in outs {
             self.dispatch(validator, one)?;
         }
@@ -139,11 +194,15 @@ impl World {
             return Ok(());
         }
         self.costs.accepted = self.costs.accepted.saturating_add(1);
-        self.accepted.push_back(Accepted {
+        let accepted = Accepted {
             at: self.now,
             by: validator,
             name,
-        })?;
+        };
+        self.accepted.push_back(accepted)?;
+        if self.now >= self.settings.calm.saturating_add(BOUND_MS) {
+            self.fresh.push_back(accepted)?;
+        }
         Ok(())
     }
 
@@ -154,6 +213,7 @@ impl World {
         heading: Heading,
         answer: Result<(), Refusal>,
     ) -> Result<(), Failure> {
+        self.costs.tags_checked = self.costs.tags_checked.saturating_add(1);
         self.notes.add(Note::TookIn {
             validator,
             link: link.0,
@@ -174,16 +234,9 @@ impl World {
         if post.is_liar {
             return Ok(());
         }
-        note_reached(&mut self.costs, &engine.node);
+        note_reached(&mut self.costs, engine);
+        look_at_edge(validator, engine)?;
         let height = engine.node.height();
-        if let Some((link, heading)) = engine.watch.lost(height) {
-            return Err(Failure::EarlyFrameLost {
-                validator,
-                link,
-                height,
-                kind: heading.kind.name(),
-            });
-        }
         let mut progress = post.progress;
         if height <= progress.heights {
             return Ok(());
@@ -250,9 +303,12 @@ impl World {
         let Some(engine) = post.engine() else {
             return Ok(());
         };
-        let at = drift
-            .shows_from(engine.core.wake_at(shown))
-            .max(now.saturating_add(1));
+        let wake = engine.core.wake_at(shown);
+        let pause = wake.saturating_sub(shown);
+        if pause > LONGEST_SLEEP_MS {
+            return Err(Failure::SleepsLong { validator, pause });
+        }
+        let at = drift.shows_from(wake).max(now.saturating_add(1));
         if post.wake.is_some_and(|wake| wake <= at) {
             return Ok(());
         }

@@ -6,10 +6,10 @@ use bytes::Bytes;
 use cluster_actors::{Liar, Lie, Seat, Treatment, no_value};
 use cluster_checks::{Event, Failure};
 use edge_frames::LinkId;
-use messages::{Ask, Body, Message, Proposal, Vote, read};
+use messages::{Ask, Body, Message, Proposal, Vote, read, spell};
 use peer_core::{Rank, Sending};
 use transactions::Seq;
-use world_parties::Bundling;
+use world_parties::{Bundling, Tagged};
 
 impl World {
     /// The liar of this number.
@@ -196,9 +196,52 @@ impl World {
                 Ok(Some(self.sealed_ask(validator, other)?))
             }
             Lie::Bundle => Ok(Some(self.false_bundle(validator, height, round)?)),
+            Lie::ForgedTx => self.forged_tx(validator),
+            Lie::ForgedVote => {
+                let vote = liar.vote(alloc, height, round)?;
+                Ok(Some(self.forged_vote(validator, vote)?))
+            }
             Lie::Garbage => Ok(Some(liar.garbage(alloc)?)),
             Lie::Flood | Lie::Nothing => Ok(None),
         }
+    }
+
+    /// The next transaction of a correct client, as a liar has it, with a right tag for nobody.
+    fn forged_tx(&mut self, validator: u16) -> Result<Option<Bytes>, Failure> {
+        let alloc = self.alloc;
+        let clients = self.settings.clients;
+        let Some(liar) = self.liar(validator) else {
+            return Ok(None);
+        };
+        if clients == 0 {
+            return Ok(None);
+        }
+        let client = liar.name(clients);
+        let next = self.judge.next_of(client);
+        let Some(liar) = self.liar(validator) else {
+            return Ok(None);
+        };
+        let item = liar.forged_item(alloc, next)?;
+        let right = Some(Seq::new(alloc));
+        let frame = self.parties.frame_of_tx(alloc, &Tagged { item, right })?;
+        Ok(Some(Bytes::from_vec(frame)?))
+    }
+
+    /// A vote in the name of another validator, with the tags of the liar's own.
+    fn forged_vote(&mut self, validator: u16, vote: Vote) -> Result<Bytes, Failure> {
+        let alloc = self.alloc;
+        let count = self.parties.count();
+        let sender = match self.liar(validator) {
+            Some(liar) => liar.name(count),
+            None => validator,
+        };
+        let own = self.sealed_vote(validator, Vote { ..vote })?;
+        let Ok(Message { body: _, tags }) = read(alloc, &own) else {
+            return Ok(own);
+        };
+        let body = Body::Vote(Vote { sender, ..vote });
+        let frame = spell(alloc, &Message { body, tags })?;
+        Ok(Bytes::from_vec(frame)?)
     }
 
     /// A bundle whose precommits are the liar's alone.

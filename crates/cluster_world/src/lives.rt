@@ -5,7 +5,7 @@ ghost use Rattle.world_parties.specs.Cast.{is_validator};
 
 use crate::world::World;
 use cluster_actors::{Deed, Engine, Post, Seat};
-use cluster_checks::{EarlyWatch, Event, Failure, Note, Progress};
+use cluster_checks::{EarlyWatch, Event, Failure, Note, Progress, SpeechWatch};
 use cluster_parts::{DiskStore, End};
 use node_core::{Config, NodeCore};
 use peer_core::{Manner, PeerCore};
@@ -77,6 +77,7 @@ fn take_node(post: &mut Post) -> Option<NodeCore<DiskStore>> {
                 node,
                 core: _,
                 watch: _,
+                speech: _,
             } = Box::into_inner(engine);
             Some(node)
         }
@@ -196,6 +197,7 @@ impl World {
             node,
             core,
             watch: EarlyWatch::new(self.alloc),
+            speech: SpeechWatch::new(self.alloc, validator),
         };
         Ok(Box::new(self.alloc, engine)?)
     }

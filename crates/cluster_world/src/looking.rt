@@ -1,8 +1,8 @@
 //! Whether all goes on once faults have ceased.
 
-use crate::world::{Accepted, BOUND_MS, World};
+use crate::world::{Accepted, BOUND_MS, LATE_MS, World};
 use cluster_actors::{Post, Seat};
-use cluster_checks::{Event, Failure};
+use cluster_checks::{Event, Failure, TxName};
 
 /// How often it is looked, in milliseconds.
 const LOOK_MS: u64 = 10_000;
@@ -36,10 +36,12 @@ impl World {
     /// by a lock from before its restart, or a height goes on round by round.
     pub(crate) fn look(&mut self) -> Result<(), Failure> {
         let is_in_turn = self.is_in_turn();
+        let is_held_up = is_in_turn || self.posts.iter().any(is_bound);
         if self.now < self.settings.calm.saturating_add(BOUND_MS) {
             return self.look_again();
         }
-        if is_in_turn || self.posts.iter().any(is_bound) {
+        self.look_at_pace(is_held_up)?;
+        if is_held_up {
             self.costs.bound = self.costs.bound.saturating_add(1);
             self.bound_at = self.now;
         } else {
@@ -105,24 +107,53 @@ impl World {
         Ok(())
     }
 
+    /// The first correct validator in whose list a transaction isn't.
+    fn lacking(&self, name: TxName) -> Option<u16> {
+        let count = self.judge.count_with(name);
+        let lacking = self.posts.iter().find(|post| {
+            let items = post.progress.items;
+            !post.is_liar && !self.judge.has_within(name.client, count, items)
+        });
+        lacking.map(|post| post.number)
+    }
+
     /// An accepted transaction is in the list of each correct validator.
     fn look_at(&self, accepted: Accepted) -> Result<(), Failure> {
         let Accepted { at, by, name } = accepted;
-        let count = self.judge.count_with(name);
-        for post in self.posts.iter() {
-            let has = self
-                .judge
-                .has_within(name.client, count, post.progress.items);
-            if !post.is_liar && !has {
-                return Err(Failure::NotDelivered {
-                    validator: post.number,
-                    client: name.client,
-                    session: name.session,
-                    number: name.number,
-                    by,
-                    waited: self.now.saturating_sub(at),
-                });
+        match self.lacking(name) {
+            Some(validator) => Err(Failure::NotDelivered {
+                validator,
+                client: name.client,
+                session: name.session,
+                number: name.number,
+                by,
+                waited: self.now.saturating_sub(at),
+            }),
+            None => Ok(()),
+        }
+    }
+
+    /// Not more than half of what was accepted in calm is late; what is looked at while a height is held up isn't counted.
+    fn look_at_pace(&mut self, is_held_up: bool) -> Result<(), Failure> {
+        for _ in 0..self.fresh.len() {
+            let Some(first) = self.fresh.front().copied() else {
+                break;
+            };
+            if first.at.saturating_add(LATE_MS) > self.now {
+                break;
             }
+            if !is_held_up {
+                let is_late = self.lacking(first.name).is_some();
+                self.costs.pace.note(is_late);
+            }
+            self.fresh.pop_front();
+        }
+        if self.costs.pace.is_slow() {
+            return Err(Failure::Slow {
+                looked_at: self.costs.pace.looked_at,
+                late: self.costs.pace.late,
+                most: LATE_MS,
+            });
         }
         Ok(())
     }

@@ -16,6 +16,9 @@ use world_parties::Parties;
 /// How long after faults cease each accepted transaction may take to be delivered everywhere, in milliseconds.
 pub const BOUND_MS: u64 = 120_000;
 
+/// How long a transaction that is accepted in calm may take to be delivered everywhere without being late, in milliseconds.
+pub(crate) const LATE_MS: u64 = 10_000;
+
 /// A transaction that a correct validator accepted.
 #[derive(Clone, Copy)]
 pub(crate) struct Accepted {
@@ -42,6 +45,8 @@ pub struct World {
     pub(crate) partitions: Vec<Partition>,
     pub(crate) judge: Judge,
     pub(crate) accepted: VecDeque<Accepted>,
+    /// What was accepted in calm, and wasn't looked at whether it is late.
+    pub(crate) fresh: VecDeque<Accepted>,
     /// The highest height at the last look.
     pub(crate) highest: u64,
     /// When a validator was last seen to be bound by a lock from before its restart, or a height to go on round by round.
@@ -82,6 +87,7 @@ impl World {
             partitions: Vec::new(alloc),
             judge,
             accepted: VecDeque::new(alloc),
+            fresh: VecDeque::new(alloc),
             highest: 0,
             bound_at: 0,
             last_place: (0, 0),
@@ -217,6 +223,7 @@ impl World {
     /// Lets a validator that runs do something, and then all that its edge says.
     pub(crate) fn run(&mut self, validator: u16, deed: Deed) -> Result<(), Failure> {
         let now = self.now;
+        let heard = deed.heard();
         let mut out = Outbox::new(self.alloc);
         let Some(post) = self.post(validator) else {
             return Ok(());
@@ -227,6 +234,12 @@ impl World {
         };
         if !engine.run(deed, shown, &mut out)? {
             return Err(Failure::EndlessDuties { validator });
+        }
+        if let Some(link) = out.astray(heard) {
+            return Err(Failure::ReplyAstray {
+                validator,
+                link: link.0,
+            });
         }
         self.conclude(validator, out)
     }

@@ -2,7 +2,7 @@
 
 use super::assert_same;
 use cluster_checks::{
-    Asked, Costs, EarlyWatch, Failed, Heading, Kind, Settings, Trouble, Troubles,
+    Asked, Costs, EarlyWatch, Failed, Heading, Kind, Pace, Settings, SpeechWatch, Trouble, Troubles,
 };
 use cluster_parts::{Chance, Drift};
 use cluster_world::World;
@@ -97,12 +97,7 @@ fn lost_bytes_are_found(rt: HostRuntime) -> Result<(), Fail> {
 #[test]
 fn early_frames_are_awaited(rt: HostRuntime) -> Result<(), Fail> {
     let mut watch = EarlyWatch::new(rt.alloc());
-    let early = Heading {
-        kind: Kind::Prevote,
-        height: 8,
-        round: 0,
-        sender: 2,
-    };
+    let early = prevote_of(2, 8);
     let later = Heading { height: 9, ..early };
     watch.answered(5, early, Err(Refusal::OtherHeight), 7)?;
     watch.answered(5, later, Err(Refusal::OtherHeight), 7)?;
@@ -115,6 +110,69 @@ fn early_frames_are_awaited(rt: HostRuntime) -> Result<(), Fail> {
     watch.ended(5);
     assert!(rt; watch.lost(9).is_none());
     Ok(())
+}
+
+#[test]
+fn dialed_links_are_greeted(rt: HostRuntime) -> Result<(), Fail> {
+    let mut watch = SpeechWatch::new(rt.alloc(), 2);
+    watch.begins(8);
+    watch.dialed(5)?;
+    watch.dialed(7)?;
+    assert!(rt; watch.owed(8).is_none());
+    watch.sent(prevote_of(3, 8));
+    assert!(rt; watch.owed(8).is_none());
+    watch.sent(prevote_of(2, 8));
+    assert_same(&rt, &watch.owed(8), &Some(5));
+    watch.forget(5);
+    assert_same(&rt, &watch.owed(8), &Some(7));
+    assert!(rt; watch.owed(9).is_none());
+    watch.forget(7);
+    assert!(rt; watch.owed(8).is_none());
+    Ok(())
+}
+
+#[test]
+fn proposals_of_heights_that_are_over(rt: HostRuntime) {
+    let mut watch = SpeechWatch::new(rt.alloc(), 2);
+    watch.begins(8);
+    watch.sent(prevote_of(2, 7));
+    let proposal = Heading {
+        kind: Kind::Proposal,
+        ..prevote_of(2, 8)
+    };
+    watch.sent(proposal);
+    watch.begins(9);
+    watch.sent(proposal);
+    assert!(rt; watch.outdated().is_none());
+    watch.begins(10);
+    watch.sent(prevote_of(2, 8));
+    assert!(rt; watch.outdated().is_none());
+    watch.sent(proposal);
+    assert!(rt; watch.outdated() == Some(proposal));
+}
+
+/// A prevote of a validator in round 0 of a height.
+fn prevote_of(sender: u16, height: u64) -> Heading {
+    Heading {
+        kind: Kind::Prevote,
+        height,
+        round: 0,
+        sender,
+    }
+}
+
+#[test]
+fn pace_of_transactions(rt: HostRuntime) {
+    let mut pace = Pace::NONE;
+    for _ in 0..32 {
+        pace.note(true);
+        pace.note(false);
+    }
+    let Pace { looked_at, late } = pace;
+    assert_same(&rt, &(looked_at, late), &(64, 32));
+    assert!(rt; !pace.is_slow());
+    pace.note(true);
+    assert!(rt; pace.is_slow());
 }
 
 #[test]
