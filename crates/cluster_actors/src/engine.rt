@@ -1,7 +1,9 @@
 //! A validator that runs: its node, and its edge.
 
-ghost use Rattle.std.specs.Prelude.{IfOk, IfSome};
+ghost use Rattle.std.specs.Prelude.{◌≡◌, IfOk, IfSome, slice_get};
+ghost use Rattle.std.specs.List.{flat_map};
 ghost use Rattle.messages.specs.Replies.{IsReply};
+ghost use Rattle.cluster_actors.specs.Replying.{heard_on, astray_of};
 
 use bytes::Bytes;
 use cluster_checks::{EarlyWatch, Heading, SpeechWatch};
@@ -53,7 +55,9 @@ impl Outbox {
     }
 
     /// Returns a link on which a reply goes out, and from which nothing was handed in.
-    pub fn astray(&self, heard: Option<LinkId>) -> Option<LinkId> {
+    pub fn astray(&self, heard: Option<LinkId>) -> Option<LinkId>
+        ensures { result ≡ slice_get (flat_map (astray_of heard) self.now.outs.items) 0 }
+    {
         for out in self.outs.iter() {
             if let Out::Reply(link, _) = out
                 && heard != Some(*link)
@@ -82,7 +86,9 @@ pub enum Deed {
 
 impl Deed {
     /// The link on which frames came, if any did.
-    pub fn heard(&self) -> Option<LinkId> {
+    pub fn heard(&self) -> Option<LinkId>
+        ensures { result ≡ heard_on self.now }
+    {
         match self {
             Deed::Hear(link, _) => Some(*link),
             Deed::Settle | Deed::Wake | Deed::End(_) | Deed::Dialed(..) => None,

@@ -1,7 +1,8 @@
 //! Whether frames that came before their height are handed in once it has come.
 
-ghost use Rattle.std.specs.Prelude.{◌≡◌, ◌==◌, ◌+◌, ◌≤◌, Some, None, Err, OnOk};
+ghost use Rattle.std.specs.Prelude.{◌≡◌, ◌==◌, ◌+◌, ◌<◌, ◌≤◌, Some, None, Err, OnOk};
 ghost use Rattle.std.specs.List.{find};
+ghost use Rattle.cluster_checks.specs.declared.kinds.Heading.{Heading};
 ghost use Rattle.cluster_checks.specs.declared.kinds.Kind.TheVariants.{Ask};
 ghost use Rattle.protocol.specs.declared.refusal.Refusal.TheVariants.{OtherHeight};
 ghost use Rattle.cluster_checks.specs.Watching.{early_of, KeepsOtherLinks};
@@ -35,6 +36,7 @@ impl EarlyWatch {
         height: u64,
     ) -> Result<(), AllocError>
         ensures noted { early_of self.old.first link ≡ None → answer ≡ Err OtherHeight → heading.height ≡ height + 1 → ¬ (heading.kind ≡ Ask) → OnOk result (early_of self.new.first link ≡ Some heading) }
+        ensures kept { (noted : Heading) → early_of self.old.first link ≡ Some noted → height < noted.height → early_of self.new.first link ≡ Some noted }
         ensures handed { early_of self.old.first link ≡ Some heading → heading.height ≤ height → early_of self.new.first link ≡ None }
         ensures others { KeepsOtherLinks link self.old.first self.new.first }
     {

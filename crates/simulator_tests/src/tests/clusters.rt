@@ -1,11 +1,14 @@
 //! That a run is repeated by its seed, that a cluster without faults delivers all, and that a disk which breaks its promise is found.
 
 use super::assert_same;
+use bytes::Bytes;
+use cluster_actors::{Deed, Out, Outbox};
 use cluster_checks::{
     Asked, Costs, EarlyWatch, Failed, Heading, Kind, Pace, Settings, SpeechWatch, Trouble, Troubles,
 };
 use cluster_parts::{Chance, Drift};
 use cluster_world::World;
+use edge_frames::LinkId;
 use peer_core::Keeping;
 use protocol::Refusal;
 use std::alloc::Global;
@@ -128,6 +131,19 @@ fn dialed_links_are_greeted(rt: HostRuntime) -> Result<(), Fail> {
     assert!(rt; watch.owed(9).is_none());
     watch.forget(7);
     assert!(rt; watch.owed(8).is_none());
+    Ok(())
+}
+
+#[test]
+fn replies_where_nothing_was_heard(rt: HostRuntime) -> Result<(), Fail> {
+    let alloc = rt.alloc();
+    let mut out = Outbox::new(alloc);
+    let reply = Bytes::copy_from_slice(alloc, &[0])?;
+    out.outs.push(Out::Reply(LinkId(3), reply))?;
+    let heard = Deed::Hear(LinkId(3), Vec::new(alloc)).heard();
+    assert!(rt; out.astray(heard).is_none());
+    assert_same(&rt, &out.astray(Some(LinkId(4))), &Some(LinkId(3)));
+    assert_same(&rt, &out.astray(Deed::Wake.heard()), &Some(LinkId(3)));
     Ok(())
 }
 
