@@ -45,7 +45,7 @@ STAGES = {
     "random schedules": ["schedules/random_runs.py", "--count", "200", "--with", "crates/tmsim/out/tmsim"],
     "growths refused": ["schedules/each_refusal.py", "--runs", "1000", "--with", "crates/tmsim/out/tmsim"],
     "clusters in a simulator": ["test/clusters.py", "--seeds", "1..100", "--minutes", "10", "--with", "crates/tmcluster/out/tmcluster"],
-    "clusters that failed once": ["test/clusters.py", "--seeds", "422,524,3282", "--validators", "4", "--hours", "1", "--with", "crates/tmcluster/out/tmcluster"],
+    "clusters that failed once": ["test/clusters.py", "--seeds", "422,524,3282,4899,8893", "--validators", "4", "--hours", "1", "--with", "crates/tmcluster/out/tmcluster"],
     "the program as processes": ["test/processes.py", "--with", "crates/tmnode/out/tmnode"],
 }
 # What is said where a stage fails behind which nothing is tried.

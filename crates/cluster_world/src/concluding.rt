@@ -186,17 +186,17 @@ impl World {
             session: name.session,
             number: name.number,
         })?;
-        let is_liar = self
-            .posts
-            .get(usize::from(validator))
-            .is_some_and(|post| post.is_liar);
-        if is_liar || name.client >= self.settings.clients {
+        let Some(post) = self.posts.get(usize::from(validator)) else {
+            return Ok(());
+        };
+        if post.is_liar || name.client >= self.settings.clients {
             return Ok(());
         }
         self.costs.accepted = self.costs.accepted.saturating_add(1);
         let accepted = Accepted {
             at: self.now,
             by: validator,
+            life: post.life,
             name,
         };
         self.accepted.push_back(accepted)?;

@@ -37,13 +37,15 @@ impl World {
     pub(crate) fn look(&mut self) -> Result<(), Failure> {
         let is_in_turn = self.is_in_turn();
         let is_held_up = is_in_turn || self.posts.iter().any(is_bound);
+        if is_held_up {
+            self.bound_at = self.now;
+        }
         if self.now < self.settings.calm.saturating_add(BOUND_MS) {
             return self.look_again();
         }
         self.look_at_pace(is_held_up)?;
         if is_held_up {
             self.costs.bound = self.costs.bound.saturating_add(1);
-            self.bound_at = self.now;
         } else {
             self.look_at_heights()?;
             self.look_at_accepted()?;
@@ -119,7 +121,12 @@ impl World {
 
     /// An accepted transaction is in the list of each correct validator.
     fn look_at(&self, accepted: Accepted) -> Result<(), Failure> {
-        let Accepted { at, by, name } = accepted;
+        let Accepted {
+            at,
+            by,
+            life: _,
+            name,
+        } = accepted;
         match self.lacking(name) {
             Some(validator) => Err(Failure::NotDelivered {
                 validator,
@@ -158,7 +165,8 @@ impl World {
         Ok(())
     }
 
-    /// Looks whether each accepted transaction that is due is delivered everywhere.
+    /// Looks whether each accepted transaction that is due is delivered everywhere, unless who accepted it was stopped since: its client
+    /// sends it again.
     fn look_at_accepted(&mut self) -> Result<(), Failure> {
         let calm = self.settings.calm.max(self.bound_at);
         for _ in 0..self.accepted.len() {
@@ -169,7 +177,9 @@ impl World {
             if due > self.now {
                 break;
             }
-            self.look_at(first)?;
+            if self.lives(first.by, first.life) {
+                self.look_at(first)?;
+            }
             self.accepted.pop_front();
         }
         Ok(())

@@ -24,6 +24,8 @@ pub(crate) const LATE_MS: u64 = 10_000;
 pub(crate) struct Accepted {
     pub(crate) at: u64,
     pub(crate) by: u16,
+    /// In which of its lives it did: it keeps no transaction over a stop.
+    pub(crate) life: u32,
     pub(crate) name: TxName,
 }
 
