@@ -55,6 +55,8 @@ def copy_of_sources(folder):
         shutil.copytree(TOP / name, folder / name, ignore=shutil.ignore_patterns("out", "__pycache__"))
     for name in ("crates.txt", "HANDLES"):
         shutil.copy(TOP / name, folder / name)
+    # (what it prints may be another thing with a bug)
+    (folder / "crates/tmcluster/stdout").unlink()
 
 
 def build(top):

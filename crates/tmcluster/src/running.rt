@@ -108,10 +108,21 @@ fn run<W: Write>(
 ) -> Result<Option<Failed>, Trouble> {
     let settings = Settings::drawn(alloc, asked.copy(alloc)?)?;
     let mut world = World::new(alloc, settings)?;
+    run_world(alloc, wanted, &mut world, out, tells)
+}
+
+/// Runs a cluster that stands. (It is borrowed, since each way out of a function proves anew that what it owns is dropped.)
+fn run_world<W: Write>(
+    alloc: Global,
+    wanted: &Wanted,
+    world: &mut World,
+    out: &mut W,
+    tells: bool,
+) -> Result<Option<Failed>, Trouble> {
     let traces = tells && wanted.traces;
-    let failed = steps(alloc, &mut world, wanted.until, traces, out)?;
+    let failed = steps(alloc, world, wanted.until, traces, out)?;
     if tells {
-        tell(alloc, &world, failed, traces, out)?;
+        tell(alloc, world, failed, traces, out)?;
     }
     match failed {
         Some(
