@@ -58,7 +58,7 @@ BESIDE = ("what must not compile", "wrong bodies")
 # The stages that keep what they did: `rt ci` does where the kit can.
 KEEP = ("proofs, tests and programs", "wrong bodies") if KEEPS else ("wrong bodies",)
 # About what a whole run takes where nothing is kept, in processor seconds; its table says what it took.
-USUAL = 15_900
+USUAL = 16_200
 # The part of a crate's time that a check belongs to.
 PARTS = ("proof", "tests", "edits")
 TICKS = os.sysconf("SC_CLK_TCK")
